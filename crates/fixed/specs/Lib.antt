@@ -1,0 +1,4 @@
+-- The definitions that contracts cite.
+pub mod Floor
+pub mod Little
+pub mod Floats
