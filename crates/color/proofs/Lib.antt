@@ -1,0 +1,3 @@
+-- Laws of channels and bytes.
+pub mod Cut
+pub mod Alpha
