@@ -1,4 +1,8 @@
 // Whole numbers: floor division, little-endian reads, and the exact whole number that a float becomes.
+pub mod floor;
+
+pub use crate::floor::floor_div;
+pub use crate::floor::floor_mod;
 
 // What four bytes are as an f32.
 pub enum Real {
@@ -8,7 +12,7 @@ pub enum Real {
 
 // What a float becomes under a limit on its size.
 pub enum Fixed {
-    Value(i32),
+    Value(i64),
     TooLarge,
     Infinite,
     NotANumber,
