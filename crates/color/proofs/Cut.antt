@@ -9,6 +9,7 @@ use borrow.Author.Tests.{ltb-false, eqb-false}
 use lib.IntN.{pos}
 use lib.Ieee.{Float, nan, inf, fin, up, down, lt, le, eq, toUnsigned}
 use lib.Ieee.Fits.{down-pos}
+use Rattle.fixed.proofs.Tests.{both-left}
 use Rattle.color.specs.Channels.{zero}
 
 -- 256.0
@@ -21,10 +22,6 @@ pub record Small (y : Float) : Type 0 where
   pub same : toUnsigned 64 y ≡ toUnsigned 8 y
   pub low : T (lt (fin true 1 (pos 0)) y)
   pub high : T (lt y (fin false 1 (pos 64)))
-
-and-left : (a b : Bool) → T (a && b) → T a
-and-left true b t = tt
-and-left false b t = absurd t
 
 or-left : (a b : Bool) → (a || b) ≡ false → a ≡ false
 or-left true b h = h
@@ -44,7 +41,7 @@ small nan h k = absurd k
 small (inf true) h k = absurd h
 small (inf false) h k = absurd k
 small (fin true m e) h k =
-    let z = eqb→eq (0 * 1 * down e) (m * up e * 1) (and-left (eqb (0 * 1 * down e) (m * up e * 1)) (eqb (0 * 1 * down e) 0) h) in
+    let z = eqb→eq (0 * 1 * down e) (m * up e * 1) (both-left (eqb (0 * 1 * down e) (m * up e * 1)) (eqb (0 * 1 * down e) 0) h) in
     record {
       below = lit< tt;
       same = refl;

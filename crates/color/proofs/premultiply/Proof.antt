@@ -1,7 +1,7 @@
 -- `color::premultiply` meets its contract: the product of two bytes is small. Assumes nothing.
 use native.Mathlib.Omega.{arith}
 use borrow.Author.Needs.{needs}
-use Rattle.color.proofs.Alpha.{product-small, premultiply-byte}
+use Rattle.color.proofs.Alpha.{product-small}
 use Rattle.color.proofs.premultiply.Statement.{statement}
 use Rattle.color.proofs.premultiply.Tie as tie
 
