@@ -1,0 +1,63 @@
+-- Blending: document 001, Table 15, in 255ths, and the byte stored under a coverage of 0 to 16 samples ("Coverage and blending").
+use Prim.Native.Nat.{ℕ, min, _+_, _-_, _*_, _/_}
+use mathlib.Core.Bool.{Bool, cond, _&&_}
+use lib.Dec.{leb, eqb}
+use Rattle.color.specs.declared.Pixel.{Pixel}
+use Rattle.blend.specs.declared.Composited.{Composited}
+
+-- the blend modes, by their numbers in the scene file
+abbrev pub modeSrc : ℕ
+modeSrc = 0x2000
+
+abbrev pub modeSrcOver : ℕ
+modeSrcOver = 0x2001
+
+abbrev pub modeDstOver : ℕ
+modeDstOver = 0x2002
+
+abbrev pub modeSrcIn : ℕ
+modeSrcIn = 0x2003
+
+abbrev pub modeDstIn : ℕ
+modeDstIn = 0x2004
+
+abbrev pub isMode : ℕ → Bool
+isMode mode = leb modeSrc mode && leb mode modeDstIn
+
+-- Fs and Fd of Table 15, from the alphas of source and destination
+unfoldable pub sourceFactor : ℕ → ℕ → ℕ → ℕ
+sourceFactor mode sa da =
+    cond (eqb mode modeDstOver) (255 - da)
+    (cond (eqb mode modeSrcIn) da
+    (cond (eqb mode modeDstIn) 0 255))
+
+unfoldable pub destinationFactor : ℕ → ℕ → ℕ → ℕ
+destinationFactor mode sa da =
+    cond (eqb mode modeSrcOver) (255 - sa)
+    (cond (eqb mode modeDstOver) 255
+    (cond (eqb mode modeDstIn) sa 0))
+
+-- B, of a source byte s and a destination byte d
+abbrev pub blended : ℕ → ℕ → ℕ → ℕ → ℕ
+blended s fs d fd = min 255 ((s * fs + d * fd + 127) / 255)
+
+-- the stored byte, where k of 16 samples are covered
+abbrev pub stored : ℕ → ℕ → ℕ → ℕ
+stored k blend d = (blend * k + d * (16 - k) + 8) / 16
+
+-- one channel of the step on one pixel
+unfoldable pub compositeByte : ℕ → ℕ → ℕ → ℕ → ℕ → ℕ → ℕ
+compositeByte mode k sa da s d = stored k (blended s (sourceFactor mode sa da) d (destinationFactor mode sa da)) d
+
+-- the step on one pixel: mode, k, the paint's premultiplied bytes, the bytes that stand there
+abbrev pub composite : ℕ → ℕ → Pixel → Pixel → Pixel
+composite mode k s d = record {
+  r = compositeByte mode k (s .a) (d .a) (s .r) (d .r);
+  g = compositeByte mode k (s .a) (d .a) (s .g) (d .g);
+  b = compositeByte mode k (s .a) (d .a) (s .b) (d .b);
+  a = compositeByte mode k (s .a) (d .a) (s .a) (d .a);
+}
+
+-- the step called alone: any other mode or k is refused, and the pixel stays
+abbrev pub compositeAnswer : ℕ → ℕ → Pixel → Pixel → Composited
+compositeAnswer mode k s d = cond (isMode mode && leb k 16) (record { code = 0; pixel = composite mode k s d }) (record { code = 0x1001; pixel = d })

@@ -1,0 +1,8 @@
+// Porter-Duff blending of premultiplied bytes under a coverage of 0 to 16 samples.
+use color::Pixel;
+
+// What the step on one pixel answers: 0 and the new pixel, or a refusal and the old one.
+pub struct Composited {
+    pub code: u16,
+    pub pixel: Pixel,
+}
