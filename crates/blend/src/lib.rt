@@ -1,5 +1,10 @@
 // Porter-Duff blending of premultiplied bytes under a coverage of 0 to 16 samples.
+pub mod factor;
+pub mod step;
+
 use color::Pixel;
+
+pub use crate::step::composite;
 
 // What the step on one pixel answers: 0 and the new pixel, or a refusal and the old one.
 pub struct Composited {
