@@ -1,13 +1,27 @@
 // The blend modes and their factors, in 255ths (document 001, Table 15).
 ghost use mathlib.Core.Path.{_≡_};
-ghost use Rattle.blend.specs.PorterDuff.{sourceFactor, destinationFactor};
+ghost use Rattle.blend.specs.PorterDuff.{isMode, sourceFactor, destinationFactor};
 
 // OpenVG's numbers.
 pub const SRC: u16 = 0x2000;
+
 pub const SRC_OVER: u16 = 0x2001;
+
 pub const DST_OVER: u16 = 0x2002;
+
 pub const SRC_IN: u16 = 0x2003;
+
 pub const DST_IN: u16 = 0x2004;
+
+// Whether a number names one of the five.
+pub fn is_mode(mode: u16) -> bool
+    ensures { λ r. ⌜ r ≡ isMode mode ⌝ }
+{
+    if mode < SRC {
+        return false;
+    }
+    mode <= DST_IN
+}
 
 // How much of the source is taken, under the destination's alpha.
 pub fn source_factor(mode: u16, da: u8) -> u8

@@ -2,9 +2,8 @@
 pub mod factor;
 pub mod step;
 
-use color::Pixel;
-
 pub use crate::step::composite;
+use color::Pixel;
 
 // What the step on one pixel answers: 0 and the new pixel, or a refusal and the old one.
 pub struct Composited {

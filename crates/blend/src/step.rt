@@ -1,13 +1,14 @@
 // The step on one pixel: the paint blended with what stands there, then stored by its coverage.
-use color::Pixel;
 use crate::Composited;
-use crate::factor::SRC;
-use crate::factor::DST_IN;
-use crate::factor::source_factor;
 use crate::factor::destination_factor;
+use crate::factor::is_mode;
+use crate::factor::source_factor;
+use color::Pixel;
 ghost use mathlib.Core.Path.{_≡_};
+ghost use mathlib.Core.Bool.{_&&_};
 ghost use Prim.Native.Nat.{_≤_};
-ghost use Rattle.blend.specs.PorterDuff.{blended, stored, composite, compositeAnswer};
+ghost use lib.Dec.{leb};
+ghost use Rattle.blend.specs.PorterDuff.{isMode, blended, stored, composite, compositeAnswer};
 
 // 0x1001.
 const ILLEGAL_ARGUMENT: u16 = 0x1001;
@@ -16,15 +17,16 @@ const ILLEGAL_ARGUMENT: u16 = 0x1001;
 pub fn composite(mode: u16, coverage: u8, src: Pixel, dst: Pixel) -> Composited
     ensures { λ r. ⌜ r ≡ compositeAnswer mode coverage src dst ⌝ }
 {
-    if mode < SRC || DST_IN < mode || 16 < coverage {
-        return Composited {
+    if accepts(mode, coverage) {
+        Composited {
+            code: 0,
+            pixel: composite_pixel(mode, coverage, src, dst),
+        }
+    } else {
+        Composited {
             code: ILLEGAL_ARGUMENT,
             pixel: dst,
-        };
-    }
-    Composited {
-        code: 0,
-        pixel: composite_pixel(mode, coverage, src, dst),
+        }
     }
 }
 
@@ -59,6 +61,16 @@ pub fn blend_pixel(mode: u16, coverage: u8, src: Pixel, dst: Pixel) -> Pixel
         b: stored_byte(coverage, blended_byte(src.b, fs, dst.b, fd), dst.b),
         a: stored_byte(coverage, blended_byte(src.a, fs, dst.a, fd), dst.a),
     }
+}
+
+// What the step called alone takes.
+fn accepts(mode: u16, coverage: u8) -> bool
+    ensures { λ r. ⌜ r ≡ (isMode mode && leb coverage 16) ⌝ }
+{
+    if is_mode(mode) {
+        return coverage <= 16;
+    }
+    false
 }
 
 // B: a sum of two products in 255ths, to the nearest, divided by shifts: (n + n / 256) / 256 is n / 255, up to what is cut to 255.
