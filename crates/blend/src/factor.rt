@@ -1,6 +1,7 @@
 // The blend modes and their factors, in 255ths (document 001, Table 15).
 ghost use mathlib.Core.Path.{_≡_};
 ghost use Rattle.blend.specs.PorterDuff.{isMode, sourceFactor, destinationFactor};
+ghost use Rattle.blend.specs.Spans.{hides};
 
 // OpenVG's numbers.
 pub const SRC: u16 = 0x2000;
@@ -53,4 +54,17 @@ pub fn destination_factor(mode: u16, sa: u8) -> u8
         return sa;
     }
     0
+}
+
+// Whether the source is taken whole and nothing of the destination is kept.
+pub fn hides(mode: u16, sa: u8) -> bool
+    ensures { λ r. ⌜ r ≡ hides mode sa ⌝ }
+{
+    if mode == SRC {
+        return true;
+    }
+    if mode == SRC_OVER {
+        return sa == 255;
+    }
+    false
 }

@@ -1,6 +1,7 @@
 // The step on one pixel: the paint blended with what stands there, then stored by its coverage.
 use crate::Composited;
 use crate::factor::destination_factor;
+use crate::factor::hides;
 use crate::factor::is_mode;
 use crate::factor::source_factor;
 use color::Pixel;
@@ -39,9 +40,7 @@ pub fn composite_pixel(mode: u16, coverage: u8, src: Pixel, dst: Pixel) -> Pixel
         return dst;
     }
     if coverage == 16 {
-        let fs = source_factor(mode, dst.a);
-        let fd = destination_factor(mode, src.a);
-        if fs == 255 && fd == 0 {
+        if hides(mode, src.a) {
             return src;
         }
     }
