@@ -1,20 +1,20 @@
 -- One channel of the step: its arithmetic is small, no sample covered keeps the byte, and the whole of the paint replaces it.
 use mathlib.Core.Path.{_≡_, refl, sym, subst}
-use mathlib.Core.Bool.{Bool, true, false, cond}
+use mathlib.Core.Bool.{Bool, true, false, cond, not}
 use Prim.Native.Nat.{ℕ, min, _+_, _-_, _*_, _/_, _≤_, _<_}
 use native.Mathlib.Nat.{mul-le-mul-right}
 use native.Mathlib.Omega.{arith}
 use lib.Dec.{T, eqb}
 use borrow.Author.Tests.{eqb-true}
 use Rattle.color.specs.declared.Pixel.{Pixel}
-use Rattle.color.proofs.Alpha.{product-small}
-use Rattle.blend.specs.PorterDuff.{modeSrc, modeSrcOver, sourceFactor, destinationFactor, blended, stored, compositeByte, composite}
-use Rattle.blend.specs.Spans.{hides}
+use Rattle.blend.specs.PorterDuff.{modeSrc, modeSrcOver, modeDstOver, modeSrcIn, sourceFactor, destinationFactor, blended, stored, compositeByte, composite}
+use Rattle.blend.specs.Spans.{hides, fixedSource, blendedPixel}
 
--- what is divided by 255, and by 16
-pub blended-small : (s fs d fd : ℕ) → s < 256 → fs < 256 → d < 256 → fd < 256 → s * fs + d * fd ≤ 130050
-blended-small s fs d fd h1 h2 h3 h4 = omega (arith, product-small s fs h1 h2, product-small d fd h3 h4)
+-- up to 65,280 the quotient by 255 is had by sums and shifts, and what is cut there is 255
+pub by-shifts : (p q m : ℕ) → p ≤ 65025 → m ≡ min q (65280 - (p + 128)) → (p + 128 + m + (p + 128 + m) / 256) / 256 ≡ min 255 ((p + q + 127) / 255)
+by-shifts p q m h e = omega arith
 
+-- what is divided by 16
 pub stored-small : (k b d : ℕ) → k ≤ 16 → b < 256 → d < 256 → b * k + d * (16 - k) ≤ 4080
 stored-small k b d h1 h2 h3 =
     let hb : b ≤ 255 = omega arith in
@@ -65,3 +65,22 @@ hiding-replaces mode s d r g b a h =
       replaced-byte (s .b) (d .b) b,
       replaced-byte (s .a) (d .a) a,
     )
+
+-- under a full coverage B is stored
+covered-byte : (b d : ℕ) → stored 16 b d ≡ b
+covered-byte b d = omega arith
+
+-- where Fs is the same at every alpha it is what it is at 0
+by-neither : {C : Type 0} (a b : Bool) → cond a false (not b) ≡ true → (a ≡ false → b ≡ false → C) → C
+by-neither true b h f = absurd (subst T (sym h) tt)
+by-neither false true h f = absurd (subst T (sym h) tt)
+by-neither false false h f = f refl refl
+
+fixed-source : (mode da : ℕ) → fixedSource mode ≡ true → sourceFactor mode da ≡ sourceFactor mode 0
+unfolding sourceFactor
+fixed-source mode da h = by-neither (eqb mode modeDstOver) (eqb mode modeSrcIn) h (λ e q. rw (e, q))
+
+pub covered-stores : (mode : ℕ) (s d : Pixel) → fixedSource mode ≡ true → blendedPixel s (sourceFactor mode 0) d (destinationFactor mode (s .a)) ≡ composite mode 16 s d
+unfolding compositeByte
+covered-stores mode s d h =
+    rw (← fixed-source mode (d .a) h, covered-byte _ (d .r), covered-byte _ (d .g), covered-byte _ (d .b), covered-byte _ (d .a))

@@ -1,6 +1,10 @@
 // The step along a part of a row, by its coverage bytes.
+use crate::factor::destination_factor;
+use crate::factor::fixed_source;
 use crate::factor::hides;
+use crate::factor::source_factor;
 use crate::step::blend_pixel;
+use crate::step::blended_pixel;
 use crate::step::composite_pixel;
 use color::Pixel;
 ghost use mathlib.Core.Path.{_≡_};
@@ -9,7 +13,7 @@ ghost use lib.ListN.{length, getD};
 ghost use Rattle.raster.specs.Surface.{run, pixelIn};
 ghost use Rattle.blend.specs.PorterDuff.{composite};
 ghost use Rattle.blend.specs.Rows.{Coverage, compositeRow};
-ghost use Rattle.blend.specs.Spans.{Span};
+ghost use Rattle.blend.specs.Spans.{Span, blendedPixel};
 
 // A paint of one pixel for each pixel of the row.
 pub fn composite_row(mode: u16, coverage: &[u8], src: &[u8], row: &mut [u8])
@@ -66,7 +70,7 @@ fn span_end(coverage: &[u8], i: usize) -> usize
     e
 }
 
-// n pixels under one coverage: left as they are, filled, or blended.
+// n pixels under one coverage: left as they are, filled, or blended, most often under a full coverage with the same factors.
 fn composite_span(mode: u16, coverage: u8, src: Pixel, row: &mut [u8], n: usize)
     requires { ⌜ (coverage ≤ 16) × (length (now row) ≡ n * 4) ⌝ }
     ensures { λ _. ⌜ now (row .exit) ≡ run n (λ i. composite mode coverage src (pixelIn (now (row .entry)) i)) ⌝ }
@@ -79,8 +83,31 @@ fn composite_span(mode: u16, coverage: u8, src: Pixel, row: &mut [u8], n: usize)
             raster::fill_row(row, n, src);
             return;
         }
+        if fixed_source(mode) {
+            let fs = source_factor(mode, 0);
+            let fd = destination_factor(mode, src.a);
+            blend_covered(src, fs, row, fd, n);
+            return;
+        }
     }
     blend_span(mode, coverage, src, row, n);
+}
+
+// n pixels that are covered in full, by the same factors: no test and no division is left in the loop.
+fn blend_covered(src: Pixel, fs: u8, row: &mut [u8], fd: u8, n: usize)
+    requires { ⌜ length (now row) ≡ n * 4 ⌝ }
+    ensures { λ _. ⌜ now (row .exit) ≡ run n (λ i. blendedPixel src fs (pixelIn (now (row .entry)) i) fd) ⌝ }
+{
+    let mut i = 0;
+    while i < n {
+        let p = blended_pixel(src, fs, raster::pixel(row, i), fd);
+        let at = i * 4;
+        row[at] = p.r;
+        row[at + 1] = p.g;
+        row[at + 2] = p.b;
+        row[at + 3] = p.a;
+        i += 1;
+    }
 }
 
 // n pixels under one coverage, each blended.
