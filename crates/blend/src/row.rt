@@ -9,11 +9,11 @@ use crate::step::composite_pixel;
 use color::Pixel;
 ghost use mathlib.Core.Path.{_≡_};
 ghost use Prim.Native.Nat.{_+_, _*_, _≤_, _<_};
-ghost use lib.ListN.{length, getD};
+ghost use lib.ListN.{length};
 ghost use Rattle.raster.specs.Surface.{run, pixelIn};
 ghost use Rattle.blend.specs.PorterDuff.{composite};
 ghost use Rattle.blend.specs.Rows.{Coverage, compositeRow};
-ghost use Rattle.blend.specs.Spans.{Span, blendedPixel};
+ghost use Rattle.blend.specs.Spans.{Span, blendedPixel, putPixel};
 
 // A paint of one pixel for each pixel of the row.
 pub fn composite_row(mode: u16, coverage: &[u8], src: &[u8], row: &mut [u8])
@@ -29,11 +29,7 @@ pub fn composite_row(mode: u16, coverage: &[u8], src: &[u8], row: &mut [u8])
             raster::pixel(src, i),
             raster::pixel(row, i),
         );
-        let at = i * 4;
-        row[at] = p.r;
-        row[at + 1] = p.g;
-        row[at + 2] = p.b;
-        row[at + 3] = p.a;
+        put_pixel(row, i, p);
         i += 1;
     }
 }
@@ -70,7 +66,7 @@ fn span_end(coverage: &[u8], i: usize) -> usize
     e
 }
 
-// n pixels under one coverage: left as they are, filled, or blended, most often under a full coverage with the same factors.
+// n pixels under one coverage: left as they are, filled, or blended.
 fn composite_span(mode: u16, coverage: u8, src: Pixel, row: &mut [u8], n: usize)
     requires { ⌜ (coverage ≤ 16) × (length (now row) ≡ n * 4) ⌝ }
     ensures { λ _. ⌜ now (row .exit) ≡ run n (λ i. composite mode coverage src (pixelIn (now (row .entry)) i)) ⌝ }
@@ -101,11 +97,7 @@ fn blend_covered(src: Pixel, fs: u8, row: &mut [u8], fd: u8, n: usize)
     let mut i = 0;
     while i < n {
         let p = blended_pixel(src, fs, raster::pixel(row, i), fd);
-        let at = i * 4;
-        row[at] = p.r;
-        row[at + 1] = p.g;
-        row[at + 2] = p.b;
-        row[at + 3] = p.a;
+        put_pixel(row, i, p);
         i += 1;
     }
 }
@@ -118,11 +110,19 @@ fn blend_span(mode: u16, coverage: u8, src: Pixel, row: &mut [u8], n: usize)
     let mut i = 0;
     while i < n {
         let p = blend_pixel(mode, coverage, src, raster::pixel(row, i));
-        let at = i * 4;
-        row[at] = p.r;
-        row[at + 1] = p.g;
-        row[at + 2] = p.b;
-        row[at + 3] = p.a;
+        put_pixel(row, i, p);
         i += 1;
     }
+}
+
+// The ith pixel of a row is p.
+fn put_pixel(row: &mut [u8], i: usize, p: Pixel)
+    requires { ⌜ i * 4 + 3 < length (now row) ⌝ }
+    ensures { λ _. ⌜ now (row .exit) ≡ putPixel (now (row .entry)) i p ⌝ }
+{
+    let at = i * 4;
+    row[at] = p.r;
+    row[at + 1] = p.g;
+    row[at + 2] = p.b;
+    row[at + 3] = p.a;
 }

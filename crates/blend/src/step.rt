@@ -12,7 +12,7 @@ ghost use lib.Dec.{leb};
 ghost use Rattle.blend.specs.PorterDuff.{isMode, blended, stored, composite, compositeAnswer};
 ghost use Rattle.blend.specs.Spans.{blendedPixel};
 
-// 0x1001.
+// OpenVG's code for a mode or a coverage that is none.
 const ILLEGAL_ARGUMENT: u16 = 0x1001;
 
 // The step called alone, on any bytes.

@@ -2,10 +2,10 @@
 use mathlib.Core.Path.{sym, _∙_}
 use native.Mathlib.Omega.{arith}
 use borrow.Author.Needs.{needs}
-use Rattle.raster.specs.Surface.{run, pixelIn}
+use Rattle.raster.specs.Surface.{pixelIn}
 use Rattle.blend.specs.PorterDuff.{sourceFactor, destinationFactor, composite}
 use Rattle.blend.specs.Spans.{blendedPixel}
-use Rattle.blend.proofs.Channel.{uncovered-keeps, hiding-replaces, covered-stores}
+use Rattle.blend.proofs.Shortcuts.{uncovered-keeps, hiding-replaces, covered-stores}
 use Rattle.blend.proofs.Runs.{run-is, run-same}
 use Rattle.blend.proofs.row.composite_span.Statement.{statement}
 use Rattle.blend.proofs.row.composite_span.Tie as tie
