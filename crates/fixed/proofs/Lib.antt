@@ -5,6 +5,7 @@
 --     Sign     what a test of a sign tells
 --     Round    floor division
 --     Signed   tests of numbers that signed locals hold
+--     Twos     numbers in two's complement
 --     Tests    a test that computes, and the order that it decides
 --     Upto     a rule of the numbers below n, by one computed test
 pub mod Within
@@ -13,5 +14,6 @@ pub mod Poly
 pub mod Sign
 pub mod Round
 pub mod Signed
+pub mod Twos
 pub mod Tests
 pub mod Upto

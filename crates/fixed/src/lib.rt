@@ -1,8 +1,13 @@
 // Whole numbers: floor division, little-endian reads, and the exact whole number that a float becomes.
 pub mod floor;
+pub mod little;
 
 pub use crate::floor::floor_div;
 pub use crate::floor::floor_mod;
+pub use crate::little::i16_at;
+pub use crate::little::i32_at;
+pub use crate::little::u16_at;
+pub use crate::little::u32_at;
 
 // What four bytes are as an f32.
 pub enum Real {
