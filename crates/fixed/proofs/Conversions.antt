@@ -2,7 +2,7 @@
 use mathlib.Core.Path.{_≡_, refl, sym, ap, _∙_, subst}
 use mathlib.Core.Bool.{Bool, true, false, not}
 use mathlib.Core.List.{[], _∷_}
-use Prim.Native.Nat.{ℕ, _+_, _*_, _≤_, _<_}
+use Prim.Native.Nat.{ℕ, _*_, _≤_, _<_}
 use native.Mathlib.Nat.{le-of-eq, le-trans, mul-le-mul-left, mul-assoc, one-mul, mul-one}
 use native.Mathlib.Omega.{arith}
 use borrow.Author.Tests.{le-leb}
@@ -15,7 +15,6 @@ use lib.Ieee.Fits.{down-pos}
 use Rattle.fixed.specs.Floats.{scaled, atMost, inUnit, fixedIn, pickFixed, offsetIn, pickOffset, nearestOf}
 use Rattle.fixed.specs.declared.Fixed.{Fixed}
 use Rattle.fixed.specs.declared.Fixed.the-variants.{Value, TooLarge, Infinite, NotANumber}
-use Rattle.fixed.specs.declared.Offset.{Offset}
 use Rattle.fixed.specs.declared.Offset.the-variants as offset
 use Rattle.fixed.proofs.Fixed.{the-type}
 use Rattle.fixed.proofs.Nearest.{nearest-zero, nearest-size}

@@ -12,6 +12,7 @@ pub mod Within
 pub mod Means
 pub mod Poly
 pub mod Sign
+pub mod Divide
 pub mod Round
 pub mod Nearest
 pub mod Patterns

@@ -3,13 +3,12 @@ use mathlib.Core.Path.{_≡_, sym, ap, _∙_, subst}
 use mathlib.Core.Bool.{true}
 use Prim.Native.Nat.{_≤_}
 use native.Mathlib.Nat.{lt-of-le-of-lt}
-use borrow.Author.Needs.{needs, sfits-of}
-use lib.Dec.{T, lit<}
+use borrow.Author.Needs.{needs}
+use lib.Dec.{lit<}
 use lib.IntN.{ℤ, pos, natAbs}
-use lib.Ieee.{Float, ofBits, le}
-use mir.Syntax.{w32, w64}
+use lib.Ieee.{Float, ofBits}
+use mir.Syntax.{w64}
 use mir.Val.{toZ, ofZ}
-use mir.Facts.{toZ-ofZ}
 use Rattle.fixed.specs.Floats.{scaled, inUnit, offsetIn}
 use Rattle.fixed.specs.declared.Offset.the-variants.{At}
 use Rattle.fixed.proofs.Signed.{clean}
@@ -18,9 +17,6 @@ use Rattle.fixed.proofs.Conversions.{isValue, value-told, no-value-told
 use Rattle.fixed.proofs.Offsets.{zero-number, unit-limit, below-zero}
 use Rattle.fixed.proofs.convert.stop_offset.Statement.{statement}
 use Rattle.fixed.proofs.convert.stop_offset.Tie as tie
-use Rattle.fixed.proofs.convert.stop_offset.Reads as reads
-use Rattle.fixed.proofs.convert.stop_offset.Lts as lts
-use Rattle.fixed.proofs.convert.convert.Reads as convert-reads
 
 abbrev v : tie.After-known-told → Float
 v c = c .before .before .before .before .before .args .v
