@@ -1,0 +1,5 @@
+-- The definitions that contracts cite.
+pub mod Matrices
+pub mod Segments
+pub mod Curves
+pub mod Boxes
