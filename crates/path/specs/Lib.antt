@@ -5,3 +5,4 @@ pub mod Curves
 pub mod Boxes
 pub mod Stored
 pub mod Closed
+pub mod Limits

@@ -1,4 +1,6 @@
 // Paths: the matrix, the pen's walk over segments, and the edges that a path becomes.
+pub mod moves;
+pub mod transform;
 
 // The matrix before conversion.
 pub struct Matrix {

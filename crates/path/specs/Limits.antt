@@ -1,0 +1,25 @@
+-- What the functions of this crate ask of their arguments, so that no step overflows. A reviewer of the paper need not read it.
+use Prim.Native.Nat.{_≤_}
+use lib.IntN.{natAbs}
+use Rattle.path.specs.declared.FixedMatrix.{FixedMatrix}
+use Rattle.path.specs.declared.Point.{Point}
+use Rattle.path.specs.declared.Pen.{Pen}
+
+-- 256 and 32,768, in 1/65,536
+pub record Limited (m : FixedMatrix) : Type 0 where
+  pub sx : natAbs (m .sx) ≤ 16777216
+  pub shy : natAbs (m .shy) ≤ 16777216
+  pub shx : natAbs (m .shx) ≤ 16777216
+  pub sy : natAbs (m .sy) ≤ 16777216
+  pub tx : natAbs (m .tx) ≤ 2147483648
+  pub ty : natAbs (m .ty) ≤ 2147483648
+
+-- a point of a path that was accepted, and a pen with such points
+pub record Near (p : Point) : Type 0 where
+  pub x : natAbs (p .x) ≤ 32768
+  pub y : natAbs (p .y) ≤ 32768
+
+pub record Held (pen : Pen) : Type 0 where
+  pub start : Near (pen .start)
+  pub current : Near (pen .current)
+  pub control : Near (pen .control)
