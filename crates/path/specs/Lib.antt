@@ -6,3 +6,4 @@ pub mod Boxes
 pub mod Stored
 pub mod Closed
 pub mod Limits
+pub mod Answers

@@ -1,9 +1,13 @@
 -- What the functions of this crate ask of their arguments, so that no step overflows. A reviewer of the paper need not read it.
-use Prim.Native.Nat.{_≤_}
+use Prim.Native.Nat.{ℕ, _+_, _*_, _≤_, _<_}
+use mathlib.Core.List.{List}
+use lib.ListN.{length}
 use lib.IntN.{natAbs}
 use Rattle.path.specs.declared.FixedMatrix.{FixedMatrix}
 use Rattle.path.specs.declared.Point.{Point}
 use Rattle.path.specs.declared.Pen.{Pen}
+use Rattle.path.specs.declared.Walk.{Walk}
+use Rattle.path.specs.Segments.{coordinatesTaken}
 
 -- 256 and 32,768, in 1/65,536
 pub record Limited (m : FixedMatrix) : Type 0 where
@@ -23,3 +27,9 @@ pub record Held (pen : Pen) : Type 0 where
   pub start : Near (pen .start)
   pub current : Near (pen .current)
   pub control : Near (pen .control)
+
+-- a walk that can take a segment: its number is one of the nine, and its coordinates are there
+pub record Supplied (coordinates : List ℕ) (walk : Walk) (byte : ℕ) : Type 0 where
+  pub held : Held (walk .pen)
+  pub segment : byte < 18
+  pub enough : 2 * (walk .used + coordinatesTaken byte) ≤ length coordinates

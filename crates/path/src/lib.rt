@@ -1,5 +1,7 @@
 // Paths: the matrix, the pen's walk over segments, and the edges that a path becomes.
+pub mod curves;
 pub mod moves;
+pub mod tracing;
 pub mod transform;
 
 // The matrix before conversion.
@@ -57,8 +59,26 @@ pub struct Walk {
     pub used: usize,
 }
 
+// The walk after a segment, and the segment's points.
+pub struct Traced {
+    pub walk: Walk,
+    pub curve: Curve,
+}
+
+// The same, or the code of the segment's refusal.
+pub enum Step {
+    Drawn(Traced),
+    Refused(u16),
+}
+
 // A path's first refused segment and its code; code 0 where every segment is accepted.
 pub struct PathFault {
     pub code: u16,
     pub segment: usize,
+}
+
+// A path's fault, and the number of coordinates used where there is none.
+pub struct Checked {
+    pub fault: PathFault,
+    pub used: usize,
 }
