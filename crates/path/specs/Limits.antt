@@ -6,6 +6,7 @@ use lib.IntN.{natAbs}
 use Rattle.path.specs.declared.FixedMatrix.{FixedMatrix}
 use Rattle.path.specs.declared.Point.{Point}
 use Rattle.path.specs.declared.Pen.{Pen}
+use Rattle.path.specs.declared.Curve.{Curve}
 use Rattle.path.specs.declared.Walk.{Walk}
 use Rattle.path.specs.Segments.{coordinatesTaken}
 
@@ -27,6 +28,16 @@ pub record Held (pen : Pen) : Type 0 where
   pub start : Near (pen .start)
   pub current : Near (pen .current)
   pub control : Near (pen .control)
+
+pub record NearCurve (c : Curve) : Type 0 where
+  pub p1 : Near (c .p1)
+  pub p2 : Near (c .p2)
+  pub p3 : Near (c .p3)
+
+-- a walk over segments that were accepted
+pub record Ready (coordinates : List ℕ) (walk : Walk) : Type 0 where
+  pub held : Held (walk .pen)
+  pub there : 2 * walk .used ≤ length coordinates
 
 -- a walk that can take a segment: its number is one of the nine, and its coordinates are there
 pub record Supplied (coordinates : List ℕ) (walk : Walk) (byte : ℕ) : Type 0 where

@@ -1,6 +1,7 @@
 // Paths: the matrix, the pen's walk over segments, and the edges that a path becomes.
 pub mod curves;
 pub mod moves;
+pub mod rules;
 pub mod tracing;
 pub mod transform;
 
