@@ -1,0 +1,4 @@
+-- The definitions that contracts cite.
+pub mod Gradient
+pub mod Ramps
+pub mod Paints

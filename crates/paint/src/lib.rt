@@ -1,0 +1,31 @@
+// Paint: the colour of a pixel, from a plain colour or a linear gradient.
+use color::Color;
+use color::Pixel;
+
+// The linear gradient's points in pixels, before conversion.
+pub struct LinearPoints {
+    pub x0: f32,
+    pub y0: f32,
+    pub x1: f32,
+    pub y1: f32,
+}
+
+// The same in 1/256 pixel.
+pub struct FixedPoints {
+    pub x0: i64,
+    pub y0: i64,
+    pub x1: i64,
+    pub y1: i64,
+}
+
+// What a draw paints with.
+pub enum Paint {
+    Solid(Color),
+    Linear(LinearPoints),
+}
+
+// A stop of a ramp: its offset in 1/65,536, and its colour.
+pub struct Stop {
+    pub offset: u32,
+    pub color: Pixel,
+}

@@ -1,0 +1,6 @@
+-- The definitions that contracts cite.
+pub mod Layout
+pub mod Blocks
+pub mod Header
+pub mod Fields
+pub mod Rules

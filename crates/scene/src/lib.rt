@@ -1,0 +1,20 @@
+// The scene file: its blocks, its rules in their order, and its fields.
+
+// The two sums of a block's check.
+pub struct Checksum {
+    pub plain: u16,
+    pub weighted: u16,
+}
+
+// A draw's first fault: its code, 0 for none, and the place in the draw's bytes that the rules met.
+pub struct DrawFault {
+    pub code: u16,
+    pub place: usize,
+}
+
+// A scene's first fault: its code, 0 for none, the draw number, and the offset in the file.
+pub struct Fault {
+    pub code: u16,
+    pub draw: usize,
+    pub offset: usize,
+}
