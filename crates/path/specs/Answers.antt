@@ -1,9 +1,12 @@
--- What the functions of the walk answer, by the definitions of Segments. A reviewer of the paper need not read it.
+-- What the functions of this crate answer, by the definitions of Matrices and Segments. A reviewer of the paper need not read it.
 use Prim.Native.Nat.{ℕ, zero}
 use mathlib.Core.List.{List}
 use mathlib.Core.Bool.{Bool, true, false, cond}
 use lib.Dec.{eqb}
+use Rattle.path.specs.declared.Matrix.{Matrix}
 use Rattle.path.specs.declared.FixedMatrix.{FixedMatrix}
+use Rattle.path.specs.declared.Converted.{Converted}
+use Rattle.path.specs.declared.Converted.the-variants.{Within, OutOfLimits}
 use Rattle.path.specs.declared.Pen.{Pen}
 use Rattle.path.specs.declared.Curve.{Curve}
 use Rattle.path.specs.declared.Walk.{Walk}
@@ -11,7 +14,16 @@ use Rattle.path.specs.declared.Traced.{Traced}
 use Rattle.path.specs.declared.Step.{Step}
 use Rattle.path.specs.declared.Step.the-variants.{Drawn, Refused}
 use Rattle.path.specs.declared.Checked.{Checked}
+use Rattle.path.specs.Matrices.{matrixInLimits, fixedMatrix}
 use Rattle.path.specs.Segments.{walkOn, curveAt, segmentCode, walkTo, faultTo}
+
+-- a matrix in whole numbers, if it is within its limits
+abbrev pub pickConverted : Bool → Converted → Converted → Converted
+pickConverted true a b = a
+pickConverted false a b = b
+
+unfoldable pub converted : Matrix → Converted
+converted m = pickConverted (matrixInLimits m) (Within (fixedMatrix m)) OutOfLimits
 
 -- the walk after a segment, and the segment's points
 abbrev pub tracedAs : ℕ → Pen → Curve → Traced

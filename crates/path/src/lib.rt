@@ -25,6 +25,12 @@ pub struct FixedMatrix {
     pub ty: i64,
 }
 
+// What a matrix of floats becomes.
+pub enum Converted {
+    Within(FixedMatrix),
+    OutOfLimits,
+}
+
 // A point: of a path in its own units, or on the surface in 1/256 pixel.
 pub struct Point {
     pub x: i32,

@@ -1,6 +1,11 @@
-// The matrix in whole numbers: where it takes a point of a path on the surface.
+// The matrix in whole numbers: how it comes from floats, and where it takes a point of a path on the surface.
+use crate::Converted;
 use crate::FixedMatrix;
+use crate::Matrix;
 use crate::Point;
+use fixed::Fixed;
+use fixed::linear_entry;
+use fixed::translation;
 ghost use mathlib.Core.Path.{_≡_};
 ghost use mathlib.Core.Bool.{true};
 ghost use Prim.Native.Nat.{_≤_};
@@ -8,11 +13,44 @@ ghost use lib.IntN.{natAbs};
 ghost use lib.Dec.{leb};
 ghost use Rattle.path.specs.Matrices.{transformAxis, transform, surfaceLimit, onSurfaceGrid};
 ghost use Rattle.path.specs.Segments.{point};
+ghost use Rattle.path.specs.Answers.{converted};
 ghost use Rattle.path.specs.Limits.{Limited, Near};
 
 impl FixedMatrix {
     // The largest size of a point on the surface, in 1/256 pixel.
     pub const SURFACE_LIMIT: i64 = 8388608;
+
+    // The floats in 1/65,536, if they are within their limits.
+    pub fn from_floats(m: Matrix) -> Converted
+        ensures { λ r. ⌜ r ≡ converted m ⌝ }
+    {
+        let Fixed::Value(sx) = linear_entry(m.sx) else {
+            return Converted::OutOfLimits;
+        };
+        let Fixed::Value(shy) = linear_entry(m.shy) else {
+            return Converted::OutOfLimits;
+        };
+        let Fixed::Value(shx) = linear_entry(m.shx) else {
+            return Converted::OutOfLimits;
+        };
+        let Fixed::Value(sy) = linear_entry(m.sy) else {
+            return Converted::OutOfLimits;
+        };
+        let Fixed::Value(tx) = translation(m.tx) else {
+            return Converted::OutOfLimits;
+        };
+        let Fixed::Value(ty) = translation(m.ty) else {
+            return Converted::OutOfLimits;
+        };
+        Converted::Within(FixedMatrix {
+            sx,
+            shy,
+            shx,
+            sy,
+            tx,
+            ty,
+        })
+    }
 
     // Whether a point is taken to one that is not too far out.
     pub fn reaches(self, p: Point) -> bool
