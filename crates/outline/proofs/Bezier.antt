@@ -3,7 +3,7 @@
 use mathlib.Core.Path.{_≡_, refl, sym, ap, subst, _∙_}
 use mathlib.Core.Bool.{Bool, true, _&&_}
 use Prim.Native.Nat.{ℕ, _+_, _-_, _*_, _/_, _^_, _≤_, _<_}
-use native.Mathlib.Nat.{le-trans, lt-of-mul-lt-mul-right, pow-le-pow-right}
+use native.Mathlib.Nat.{le-trans, le-refl, lt-of-mul-lt-mul-right, mul-le-mul, pow-le-pow-right}
 use native.Mathlib.Omega.{arith}
 use lib.Dec.{T, eqb, eqb→eq, lit<}
 use lib.IntN.{ℤ, pos, natAbs, _+ℤ_, _*ℤ_}
@@ -64,6 +64,17 @@ pub cubic-weights : (k : ℕ) → k ≤ 16 → cubicWeights (16 - k) k ≡ weigh
 unfolding agree
 cubic-weights k h = agreed 3 (cubicWeights (16 - k) k) k (upto (λ j. agree 3 (cubicWeights (16 - j) j) j) 17 tt k (omega arith))
 
+pub weights-told : {degree n : ℕ} {w : Weights} (k : ℕ) → k ≤ 16 → Curved n → degree ≡ n → w ≡ weightsOf n k → (w ≡ weightsOf degree k) × Full degree w
+weights-told {degree} {n} {w} k h c e f =
+    subst (λ (m : ℕ). (w ≡ weightsOf m k) × Full m w) (sym e) (f, subst (λ (v : Weights). Full n v) (sym f) (weights-full c k h))
+
+-- they fit
+pub square : (a b : ℕ) → a ≤ 16 → b ≤ 16 → a * b ≤ 256
+square a b h k = mul-le-mul {n₁ = a} {m₁ = b} {n₂ = 16} {m₂ = 16} h k
+
+pub cube : (a b c : ℕ) → a ≤ 16 → b ≤ 16 → c ≤ 16 → a * b * c ≤ 4096
+cube a b c h k l = mul-le-mul {n₁ = a * b} {m₁ = c} {n₂ = 256} {m₂ = 16} (square a b h k) l
+
 -- ---- the size of a cut point
 -- (z + m) / d rounded down, with m below d, is at most b in size if z is at most d b
 rounded : (d m b : ℕ) (z : ℤ) → m < d → Within (d * b) z → Within b (floorDiv (z +ℤ pos m) d)
@@ -85,7 +96,7 @@ exact d m z l =
     eq (var q) (var z) (omega (arith, lt-of-mul-lt-mul-right d above, lt-of-mul-lt-mul-right d below))
 
 module _ {b : ℕ} {p q r s : ℤ} (hp : Within b p) (hq : Within b q) (hr : Within b r) (hs : Within b s) where
-  pub summed-size : (w : Weights) (d : ℕ) → w .w0 + w .w1 + w .w2 + w .w3 ≡ d → Within (d * b) (summed w p q r s)
+  summed-size : (w : Weights) (d : ℕ) → w .w0 + w .w1 + w .w2 + w .w3 ≡ d → Within (d * b) (summed w p q r s)
   summed-size w d e =
       record {
         size =
@@ -95,6 +106,10 @@ module _ {b : ℕ} {p q r s : ℤ} (hp : Within b p) (hq : Within b q) (hr : Wit
             (within-mul hs (within-pos (w .w3))) .size)
             (omega (arith, ap (λ (y : ℕ). b * y) e));
       }
+
+  pub summed-most : {degree : ℕ} {w : Weights} → Full degree w → Within (4096 * b) (summed w p q r s)
+  summed-most {degree} {w} f =
+      record { size = le-trans (summed-size w (16 ^ degree) (f .total) .size) (mul-le-mul (pow-le-pow-right {n = 16} (omega arith) {i = degree} {j = 3} (f .most)) (le-refl b)) }
 
   -- a cut point is no larger than the control points
   pub blended-size : {degree : ℕ} {w : Weights} → Full degree w → Within b (blended degree w p q r s)

@@ -1,14 +1,15 @@
 -- The outer end of a list of edges, and the box that it makes.
-use mathlib.Core.Path.{_≡_, refl, ap, _∙_}
-use mathlib.Core.Bool.{Bool, true, false}
+use mathlib.Core.Path.{_≡_, refl, sym, ap, _∙_}
+use mathlib.Core.Bool.{Bool, true, false, true≢false}
 use mathlib.Core.List.{List, [], _∷_, _++_, foldl-append}
-use Prim.Native.Nat.{ℕ, _+_, _≤_, _<_}
+use Prim.Native.Nat.{ℕ, min, _+_, _<_}
 use native.Mathlib.Nat.{not-suc-le-zero}
 use native.Mathlib.Numerals.{add-one}
 use native.Mathlib.Omega.{arith}
-use lib.Dec.{lit<}
+use lib.Dec.{T, lit<}
 use lib.ListN.{length}
-use lib.IntN.{ℤ, pos, _+ℤ_}
+use lib.IntN.{ℤ, pos, negsuc, natAbs, _+ℤ_}
+use lib.Signed.{leZ, nonNeg}
 use mir.Syntax.{w32}
 use mir.Val.{SFits}
 use Rattle.lists.proofs.Laws.{tab-length}
@@ -39,6 +40,17 @@ pixel-size z f =
     let h = from-floor (var z) 256 (lit< tt) in
     let k = from-within (var z) (of-fits f) in
     P.within 8388608 (var (floorDiv z 256)) (omega arith) (omega arith)
+
+-- a number cut to 0..n
+pub above-zero : (z : ℤ) → leZ z (pos 0) ≡ false → T (nonNeg z)
+above-zero (pos n) e = tt
+above-zero (negsuc n) e = absurd (true≢false e)
+
+pub within-none : (n : ℕ) (z : ℤ) → leZ z (pos 0) ≡ true → 0 ≡ within n z
+within-none n z e = rw e
+
+pub within-some : (n : ℕ) (z : ℤ) (m : ℕ) → leZ z (pos 0) ≡ false → min n (natAbs z) ≡ m → m ≡ within n z
+within-some n z m e h = rw e (sym h)
 
 -- the box where there are edges
 abbrev boxFrom : ℕ → ℕ → List Edge → Rect

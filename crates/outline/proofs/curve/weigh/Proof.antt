@@ -1,90 +1,57 @@
+-- `outline::curve::weigh` meets its contract: no step overflows.
+use Prim.Native.Nat.{ℕ, _≤_}
+use lib.IntN.{ℤ}
+use mir.Syntax.{w32, w64}
+use mir.Val.{SFits}
 use borrow.Author.Needs.{needs}
+use Rattle.fixed.proofs.Means.{Num, need, keep, param, of-nat, add, mul}
 use Rattle.outline.proofs.curve.weigh.Statement.{statement}
 use Rattle.outline.proofs.curve.weigh.Tie as tie
-use Rattle.outline.proofs.curve.weigh.Reads as reads
-use Rattle.outline.proofs.curve.weigh.Lts as lts
 
--- src/curve.rt:45:14
-cast-w0 : tie.Need-cast-w0
-cast-w0 c = ?
+abbrev product : (z : ℤ) → SFits w32 z → (n : ℕ) → n ≤ 4096 → Num
+product z f n h = mul (keep w64 (param w32 z f) tt) (of-nat w64 n 4096 h tt)
 
--- src/curve.rt:46:14
-cast-w1 : tie.Need-cast-w1
-cast-w1 c = ?
+abbrev first : tie.Start → Num
+first s = product (s .args .a) (s .fits .a) (s .args .w .w0) (s .pre .0)
 
--- src/curve.rt:47:14
-cast-w2 : tie.Need-cast-w2
-cast-w2 c = ?
+abbrev second : tie.Start → Num
+second s = product (s .args .b) (s .fits .b) (s .args .w .w1) (s .pre .1)
 
--- src/curve.rt:48:14
-cast-w3 : tie.Need-cast-w3
-cast-w3 c = ?
+abbrev third : tie.Start → Num
+third s = product (s .args .c) (s .fits .c) (s .args .w .w2) (s .pre .2)
 
--- src/curve.rt:49:6
-cast-result : tie.Need-cast-result
-cast-result c = ?
+abbrev fourth : tie.Start → Num
+fourth s = product (s .args .d) (s .fits .d) (s .args .w .w3) (s .pre .3)
 
--- src/curve.rt:49:5
-mul-result : tie.Need-mul-result
-mul-result c = ?
+abbrev two : tie.Start → Num
+two s = add (keep w64 (first s) tt) (keep w64 (second s) tt)
 
--- src/curve.rt:49:24
-cast-result-2 : tie.Need-cast-result-2
-cast-result-2 c = ?
+abbrev three : tie.Start → Num
+three s = add (keep w64 (two s) tt) (keep w64 (third s) tt)
 
--- src/curve.rt:49:23
-mul-result-2 : tie.Need-mul-result-2
-mul-result-2 c = ?
+abbrev four : tie.Start → Num
+four s = add (keep w64 (three s) tt) (keep w64 (fourth s) tt)
 
--- src/curve.rt:49:5
-add-result : tie.Need-add-result
-add-result c = ?
-
--- src/curve.rt:49:42
-cast-result-3 : tie.Need-cast-result-3
-cast-result-3 c = ?
-
--- src/curve.rt:49:41
-mul-result-3 : tie.Need-mul-result-3
-mul-result-3 c = ?
-
--- src/curve.rt:49:5
-add-result-2 : tie.Need-add-result-2
-add-result-2 c = ?
-
--- src/curve.rt:49:60
-cast-result-4 : tie.Need-cast-result-4
-cast-result-4 c = ?
-
--- src/curve.rt:49:59
-mul-result-4 : tie.Need-mul-result-4
-mul-result-4 c = ?
-
--- src/curve.rt:49:5
-add-result-3 : tie.Need-add-result-3
-add-result-3 c = ?
-
--- src/curve.rt:41:1
-returns : tie.Need-returns
-returns c = ?
+abbrev start : tie.After-struct-known4 → tie.Start
+start c = c .before .before .before .before
 
 pub weigh-spec : {M : Type 1} → statement M
 weigh-spec =
     tie.close
     (tie.spec
-    cast-w0
-    cast-w1
-    cast-w2
-    cast-w3
-    cast-result
-    mul-result
-    cast-result-2
-    mul-result-2
-    add-result
-    cast-result-3
-    mul-result-3
-    add-result-2
-    cast-result-4
-    mul-result-4
-    add-result-3
-    returns)
+    (λ c. search needs)
+    (λ c. search needs)
+    (λ c. search needs)
+    (λ c. search needs)
+    (λ c. need (param w32 (start c .args .a) (start c .fits .a)) tt)
+    (λ c. need (first (start c)) tt)
+    (λ c. need (param w32 (start c .args .b) (start c .fits .b)) tt)
+    (λ c. need (second (start c)) tt)
+    (λ c. need (two (start c)) tt)
+    (λ c. need (param w32 (start c .args .c) (start c .fits .c)) tt)
+    (λ c. need (third (start c)) tt)
+    (λ c. need (three (start c)) tt)
+    (λ c. need (param w32 (start c .args .d) (start c .fits .d)) tt)
+    (λ c. need (fourth (start c)) tt)
+    (λ c. need (four (start c)) tt)
+    (λ c. keep w64 (four (start c)) tt .same))

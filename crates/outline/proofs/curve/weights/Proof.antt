@@ -1,31 +1,20 @@
+-- `outline::curve::weights` meets its contract.
+use mathlib.Core.Path.{_∙_}
+use native.Mathlib.Omega.{arith}
 use borrow.Author.Needs.{needs}
+use Rattle.outline.proofs.Bezier.{quad, cubic, quad-weights, cubic-weights, weights-told}
 use Rattle.outline.proofs.curve.weights.Statement.{statement}
 use Rattle.outline.proofs.curve.weights.Tie as tie
-use Rattle.outline.proofs.curve.weights.Reads as reads
-use Rattle.outline.proofs.curve.weights.Lts as lts
-use Rattle.outline.proofs.curve.cubic_weights.Reads as cubic-weights-reads
-use Rattle.outline.proofs.curve.quad_weights.Reads as quad-weights-reads
 
--- src/curve.rt:57:13
-sub-s : tie.Need-sub-s
-sub-s c = ?
-
--- src/curve.rt:59:9
-quad-weights-requires : tie.Need-quad-weights-requires
-quad-weights-requires c κs = ?
-
--- src/curve.rt:61:9
-cubic-weights-requires : tie.Need-cubic-weights-requires
-cubic-weights-requires c κs = ?
-
--- src/curve.rt:53:1
 returns : tie.Need-returns
-returns c = ?
+returns c =
+    let s = c .before .before in
+    weights-told (s .args .k) (s .pre .1) quad (c .before .if1 .taken) (c .quad-weights .ensures ∙ quad-weights (s .args .k) (s .pre .1))
 
--- src/curve.rt:53:1
 returns-2 : tie.Need-returns-2
-returns-2 c = ?
+returns-2 c =
+    let s = c .before .before in
+    weights-told (s .args .k) (s .pre .1) cubic (omega arith) (c .cubic-weights .ensures ∙ cubic-weights (s .args .k) (s .pre .1))
 
 pub weights-spec : {M : Type 1} → statement M
-weights-spec =
-    tie.close (tie.spec sub-s quad-weights-requires cubic-weights-requires returns returns-2)
+weights-spec = tie.close (tie.spec (λ c. search needs) (λ c κs. search needs) (λ c κs. search needs) returns returns-2)

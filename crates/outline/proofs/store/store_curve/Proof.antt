@@ -1,26 +1,18 @@
-use mathlib.Core.Path.{_≡_}
-use Prim.Native.Nat.{ℕ, suc, _+_, _-_, _≤_}
+-- `outline::store::store_curve` meets its contract.
+use mathlib.Core.Path.{_≡_, sym, ap, _∙_}
+use mathlib.Core.List.{List}
+use Prim.Native.Nat.{_+_, _-_, _≤_}
+use native.Mathlib.Nat.{add-zero}
 use native.Mathlib.Omega.{arith}
 use lib.ListN.{length}
-use Rattle.lists.specs.Lists.{upto}
-use Rattle.path.specs.Curves.{cutPoint, edgeBetween, curveEdges}
-use Rattle.path.specs.Stored.{putEdges}
-use Rattle.path.specs.declared.Point.{Point}
-use Rattle.path.specs.declared.Curve.{Curve}
-use Rattle.path.specs.declared.Edge.{Edge}
-use mathlib.Core.List.{List}
-use Rattle.outline.specs.Asked.{OnGrid}
 use borrow.Author.Needs.{needs}
+use Rattle.path.specs.declared.Edge.{Edge}
+use Rattle.path.specs.Curves.{cutPoint, edgeBetween}
+use Rattle.path.specs.Stored.{putEdges}
+use Rattle.outline.proofs.Counts.{pieces, pieces-count, pieces-more, curve-line, curve-pieces}
+use Rattle.outline.proofs.Stores.{puts-more}
 use Rattle.outline.proofs.store.store_curve.Statement.{statement}
 use Rattle.outline.proofs.store.store_curve.Tie as tie
-use Rattle.outline.proofs.store.store_curve.Reads as reads
-use Rattle.outline.proofs.store.store_curve.Lts as lts
-use Rattle.outline.proofs.curve.cut_point.Reads as cut-point-reads
-use Rattle.outline.proofs.store.store_edge.Reads as store-edge-reads
-
--- the pieces up to the point at k
-abbrev pieces : Point → Curve → ℕ → List Edge
-pieces o c k = upto k (λ j. edgeBetween (cutPoint o c j) (cutPoint o c (suc j)))
 
 abbrev Inv-loop : tie.InvT-loop
 Inv-loop edges₀ n o c count₀ from₀ k₀ edges count from k =
@@ -29,57 +21,54 @@ Inv-loop edges₀ n o c count₀ from₀ k₀ edges count from k =
 abbrev μ-loop : tie.MeasureT-loop
 μ-loop edges₀ n o c count₀ from₀ k₀ edges count from k = 16 - k
 
--- src/store.rt:73:9
-store-edge-requires : tie.Need-store-edge-requires Inv-loop μ-loop
-store-edge-requires c κs = ?
-
--- src/store.rt:73:9
-same-length : tie.Need-same-length Inv-loop μ-loop
-same-length c = search needs
-
--- src/store.rt:73:9
 returns : tie.Need-returns Inv-loop μ-loop
-returns c = ?
+returns c =
+    let a = c .before .before .before .before .before .args in
+    let e = curve-line (a .o) (a .c) (c .before .before .before .if1 .taken) in
+    let f = c .before .store-edge .ensures in
+    (f .0 ∙ ap (putEdges (a .edges .now) (a .n)) (sym e), f .1 ∙ ap (λ (es : List Edge). a .n + length es) (sym e))
 
--- src/store.rt:76:9
 cut-point-requires : tie.Need-cut-point-requires Inv-loop μ-loop
-cut-point-requires c κs = ?
+cut-point-requires c κs =
+    let s = c .before .before in
+    (s .pre .1, (omega (arith, s .pre .1 .1 .some, c .if1 .left), omega arith))
 
--- src/store.rt:78:5
 loop-holds : tie.Need-loop-holds Inv-loop μ-loop
-loop-holds c = ?
+loop-holds c = (search needs, search needs, c .cut-point .ensures .0, search needs, sym (add-zero (c .before .before .before .args .n)))
 
--- src/store.rt:79:34
-add-cut-point : tie.Need-add-cut-point Inv-loop μ-loop
-add-cut-point c = search needs
-
--- src/store.rt:79:13
 cut-point-requires-2 : tie.Need-cut-point-requires-2 Inv-loop μ-loop
-cut-point-requires-2 c κs = ?
+cut-point-requires-2 c κs =
+    let s = c .before .before .before .before .before in
+    (s .pre .1, (omega (arith, s .pre .1 .1 .some, c .before .before .before .if1 .left), omega arith))
 
--- src/store.rt:80:9
 store-edge-requires-2 : tie.Need-store-edge-requires-2 Inv-loop μ-loop
-store-edge-requires-2 c κs = ?
+store-edge-requires-2 c κs =
+    let l = c .before .before .before .loop in
+    let a = c .before .before .before .before .before .before .before .args in
+    omega (arith, pieces-count (a .o) (a .c) (l .k))
 
--- src/store.rt:82:9
-add-k : tie.Need-add-k Inv-loop μ-loop
-add-k c = search needs
-
--- src/store.rt:78:5
-loop-less : tie.Need-loop-less Inv-loop μ-loop
-loop-less c = search needs
-
--- src/store.rt:78:5
 loop-again : tie.Need-loop-again Inv-loop μ-loop
-loop-again c = ?
+loop-again c =
+    let a = c .before .before .before .before .before .before .before .before .before .args in
+    let l = c .before .before .before .before .before .loop in
+    let e = c .before .store-edge2 in
+    let to = c .before .before .before .cut-point2 in
+    let more = pieces-more (a .o) (a .c) (l .k) (l .from) (to .result) (l .inv .2) (to .ensures .0) in
+    let m = puts-more (pieces (a .o) (a .c) (l .k)) (edgeBetween (l .from) (to .result)) (a .edges .now) (l .edges) (e .last .0) (a .n) (l .count) (e .result) (l .inv .3) (l .inv .4) (e .ensures .0) (e .ensures .1) in (
+      search needs,
+      e .kept .0 ∙ l .inv .1,
+      to .ensures .0,
+      m .0 ∙ ap (putEdges (a .edges .now) (a .n)) (sym more),
+      m .1 ∙ ap (λ (es : List Edge). a .n + length es) (sym more),
+    )
 
--- src/store.rt:66:1
-same-length-2 : tie.Need-same-length-2 Inv-loop μ-loop
-same-length-2 c = search needs
-
--- src/store.rt:66:1
 returns-2 : tie.Need-returns-2 Inv-loop μ-loop
-returns-2 c = ?
+returns-2 c =
+    let a = c .before .before .before .before .before .args in
+    let l = c .before .loop in
+    let last : l .k ≡ 16 = omega arith in
+    let e = ap (pieces (a .o) (a .c)) last ∙ sym (curve-pieces (a .o) (a .c) (c .before .before .before .if1 .left)) in
+    (l .inv .3 ∙ ap (putEdges (a .edges .now) (a .n)) e, l .inv .4 ∙ ap (λ (es : List Edge). a .n + length es) e)
 
 pub store-curve-spec : {M : Type 1} → statement M
 store-curve-spec =
@@ -87,16 +76,16 @@ store-curve-spec =
     (tie.spec
     Inv-loop
     μ-loop
-    store-edge-requires
-    same-length
+    (λ c κs. search needs)
+    (λ c. search needs)
     returns
     cut-point-requires
     loop-holds
-    add-cut-point
+    (λ c. search needs)
     cut-point-requires-2
     store-edge-requires-2
-    add-k
-    loop-less
+    (λ c. search needs)
+    (λ c. search needs)
     loop-again
-    same-length-2
+    (λ c. search needs)
     returns-2)
