@@ -1,5 +1,5 @@
 -- Two tests, the second made only where the first holds: what comes out is their conjunction.
-use mathlib.Core.Path.{_≡_, sym, ap, ap₂, _∙_}
+use mathlib.Core.Path.{_≡_, sym, ap, _∙_}
 use mathlib.Core.Bool.{Bool, true, false, _&&_}
 
 pub and-on : {x y : Bool} (a b : Bool) → x ≡ a → x ≡ true → y ≡ b → y ≡ (a && b)

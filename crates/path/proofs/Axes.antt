@@ -1,5 +1,5 @@
 -- One axis of a transformed point, of numbers that locals hold: what is asked of them, and what comes back.
-use mathlib.Core.Path.{_≡_, _∙_, ap, sym, subst}
+use mathlib.Core.Path.{_≡_, _∙_, sym, subst}
 use Prim.Native.Nat.{_≤_, _<_, _^_}
 use lib.Dec.{T, leb, leb→le, lit<}
 use lib.IntN.{ℤ, natAbs}

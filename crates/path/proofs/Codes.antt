@@ -2,12 +2,11 @@
 use mathlib.Core.Path.{_≡_, refl, sym, subst, _∙_}
 use mathlib.Core.List.{List}
 use mathlib.Core.Bool.{Bool, true, false, cond, _&&_}
-use Prim.Native.Nat.{ℕ, zero, suc, _+_, _*_, _≤_, _<_}
+use Prim.Native.Nat.{ℕ, _+_, _*_, _≤_, _<_}
 use native.Mathlib.Omega.{arith}
 use lib.Dec.{T, leb, ltb, eqb, leb→le}
 use lib.ListN.{length}
 use lib.IntN.{ℤ, pos, negsuc, natAbs}
-use lib.Signed.{leZ}
 use borrow.Author.Tests.{le-leb, lt-leb, lt-ltb, le-ltb, ne-eqb, leb-true, leb-false, ltb-false, eqb-true, eqb-false}
 use Rattle.fixed.proofs.Tests.{both-left, both-right}
 use Rattle.path.specs.declared.FixedMatrix.{FixedMatrix}
@@ -16,7 +15,6 @@ use Rattle.path.specs.declared.Pen.{Pen}
 use Rattle.path.specs.declared.Curve.{Curve}
 use Rattle.path.specs.declared.Walk.{Walk}
 use Rattle.path.specs.declared.Traced.{Traced}
-use Rattle.path.specs.declared.Step.{Step}
 use Rattle.path.specs.declared.Step.the-variants.{Drawn, Refused}
 use Rattle.path.specs.Segments.{coordinatesTaken, number, numberMove, inSixteenBits, inRange, curveAt, penAfter, walkOn, curveInRange, curveOnGrid, segmentCode}
 use Rattle.path.specs.Answers.{pickStep, tracedBy, stepOf}

@@ -1,14 +1,12 @@
 -- The entries of a matrix: what a converted float tells, and the sizes of the whole numbers.
-use mathlib.Core.Path.{_≡_, refl, sym, ap, subst, _∙_}
-use mathlib.Core.List.{[], _∷_}
+use mathlib.Core.Path.{_≡_, sym, ap, subst, _∙_}
 use mathlib.Core.Bool.{Bool, true, false, _&&_}
-use Prim.Native.Nat.{ℕ, _*_, _^_, _≤_}
+use Prim.Native.Nat.{ℕ, _*_, _^_}
 use lib.Dec.{T, ltb}
 use lib.Ieee.{Float}
-use lib.IntN.{ℤ, natAbs}
+use lib.IntN.{ℤ}
 use mir.Syntax.{w64}
 use mir.Val.{toZ, ofZ}
-use denote.Enum.Declared.{tagOf}
 use Rattle.fixed.specs.declared.Fixed.{Fixed}
 use Rattle.fixed.specs.declared.Fixed.the-variants.{Value}
 use Rattle.fixed.specs.Floats.{scaled, atMost, fixedIn}

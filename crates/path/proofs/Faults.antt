@@ -11,7 +11,6 @@ use borrow.Author.Tests.{ne-eqb, eqb-true, eqb-false}
 use Rattle.path.specs.declared.FixedMatrix.{FixedMatrix}
 use Rattle.path.specs.declared.PathFault.{PathFault}
 use Rattle.path.specs.declared.Walk.{Walk}
-use Rattle.path.specs.declared.Checked.{Checked}
 use Rattle.path.specs.Segments.{walkTo, faultAt, faultTo, segmentCode}
 use Rattle.path.specs.Answers.{checkedTo}
 use Rattle.path.specs.Limits.{Ready}

@@ -1,5 +1,5 @@
 -- The points of a segment and the pen after it, by the kind of the segment: half its byte, rounded down.
-use mathlib.Core.Path.{_≡_, refl, sym, ap, subst, _∙_}
+use mathlib.Core.Path.{_≡_, refl, subst}
 use mathlib.Core.List.{List, [], _∷_}
 use mathlib.Core.Bool.{Bool, true, false, cond, _||_}
 use Prim.Native.Nat.{ℕ, zero, suc, _+_, _*_, _/_, _≤_, _<_}
@@ -11,7 +11,6 @@ use lib.IntN.{ℤ, pos, _+ℤ_}
 use Rattle.fixed.proofs.Upto.{upto}
 use Rattle.path.specs.declared.Point.{Point}
 use Rattle.path.specs.declared.Pen.{Pen}
-use Rattle.path.specs.declared.Curve.{Curve}
 use Rattle.path.specs.declared.Walk.{Walk}
 use Rattle.path.specs.Segments.{coordinatesTaken, relative, point, penAt, reflected, base, lineTo, quadTo, cubicTo, pairAt, pointsOf, penAfter}
 use Rattle.path.specs.Answers.{tracedAs}

@@ -1,5 +1,5 @@
 -- What the functions of this crate answer, by the definitions of Matrices and Segments. A reviewer of the paper need not read it.
-use Prim.Native.Nat.{ℕ, zero}
+use Prim.Native.Nat.{ℕ}
 use mathlib.Core.List.{List}
 use mathlib.Core.Bool.{Bool, true, false, cond}
 use lib.Dec.{eqb}

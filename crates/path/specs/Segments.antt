@@ -133,8 +133,11 @@ walkOn coordinates walk byte = record {
   used = walk .used + coordinatesTaken byte;
 }
 
+abbrev pub firstWalk : Walk
+firstWalk = record { pen = firstPen; used = 0 }
+
 abbrev pub walkTo : List ℕ → List ℕ → ℕ → Walk
-walkTo segments coordinates zero = record { pen = firstPen; used = 0 }
+walkTo segments coordinates zero = firstWalk
 walkTo segments coordinates (suc n) = walkOn coordinates (walkTo segments coordinates n) (getD segments n 0)
 
 -- ---- the rules of a segment: 0, or the code of its refusal

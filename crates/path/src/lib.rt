@@ -1,4 +1,4 @@
-// Paths: the matrix, the pen's walk over segments, and the edges that a path becomes.
+// Paths: the matrix, the pen's walk over segments, and their rules.
 pub mod curves;
 pub mod moves;
 pub mod rules;

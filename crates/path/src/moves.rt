@@ -65,7 +65,7 @@ impl Pen {
     {
         let start = self.start;
         Pen {
-            start: start,
+            start,
             current: end,
             control: end,
         }
@@ -75,14 +75,14 @@ impl Pen {
         ensures { λ r. ⌜ r ≡ penAt (self .start) (point x (self .current .y)) (point x (self .current .y)) ⌝ }
     {
         let o = self.current;
-        self.line_to(Point { x: x, y: o.y })
+        self.line_to(Point { x, y: o.y })
     }
 
     pub fn vertical_to(self, y: i32) -> Pen
         ensures { λ r. ⌜ r ≡ penAt (self .start) (point (self .current .x) y) (point (self .current .x) y) ⌝ }
     {
         let o = self.current;
-        self.line_to(Point { x: o.x, y: y })
+        self.line_to(Point { x: o.x, y })
     }
 
     pub fn quad_to(self, control: Point, end: Point) -> Pen
@@ -90,9 +90,9 @@ impl Pen {
     {
         let start = self.start;
         Pen {
-            start: start,
+            start,
             current: end,
-            control: control,
+            control,
         }
     }
 

@@ -3,35 +3,23 @@ use crate::Checked;
 use crate::Curve;
 use crate::FixedMatrix;
 use crate::PathFault;
-use crate::Pen;
 use crate::Point;
 use crate::Step;
 use crate::Walk;
 use crate::tracing::taken;
 use crate::tracing::trace;
 ghost use mathlib.Core.Path.{_≡_};
-ghost use mathlib.Core.List.{[]};
 ghost use mathlib.Core.Bool.{_&&_};
 ghost use Prim.Native.Nat.{_≤_};
 ghost use lib.ListN.{length};
-ghost use Rattle.path.specs.Segments.{walkTo, inSixteenBits, inRange, curveInRange, curveOnGrid};
+ghost use Rattle.path.specs.Segments.{inSixteenBits, inRange, curveInRange, curveOnGrid};
 ghost use Rattle.path.specs.Answers.{stepOf, checkedTo};
 ghost use Rattle.path.specs.Limits.{Limited, NearCurve, Ready};
 
+// OpenVG's codes: a segment that breaks a rule, and an arc.
 pub const ILLEGAL_ARGUMENT: u16 = 0x1001;
 
 pub const UNSUPPORTED_PATH_FORMAT: u16 = 0x1005;
-
-impl Walk {
-    pub fn new() -> Walk
-        ensures { λ r. ⌜ r ≡ walkTo [] [] 0 ⌝ }
-    {
-        Walk {
-            pen: Pen::new(),
-            used: 0,
-        }
-    }
-}
 
 // The first fault among the first n segments.
 pub fn check(m: FixedMatrix, segments: &[u8], coordinates: &[u8], n: usize) -> Checked

@@ -8,13 +8,26 @@ ghost use mathlib.Core.Path.{_≡_};
 ghost use Prim.Native.Nat.{_+_, _*_, _<_, _≤_};
 ghost use lib.ListN.{length};
 ghost use lib.IntN.{natAbs, _+ℤ_};
-ghost use Rattle.path.specs.Segments.{coordinatesTaken, coordinateFrom, pairAt, penAfter, curveAt};
+ghost use Rattle.path.specs.Segments.{coordinatesTaken, coordinateFrom, pairAt, penAfter, curveAt, firstWalk};
 ghost use Rattle.path.specs.Answers.{tracedAs, tracedBy};
 ghost use Rattle.path.specs.Limits.{Near, Supplied};
 
-// How many coordinates each kind of segment takes.
+impl Walk {
+    // Before the first segment.
+    pub fn new() -> Walk
+        ensures { λ r. ⌜ r ≡ firstWalk ⌝ }
+    {
+        Walk {
+            pen: Pen::new(),
+            used: 0,
+        }
+    }
+}
+
+// By the kind of the segment: half its number.
 const TAKEN: [usize; 9] = [0, 2, 2, 1, 1, 4, 6, 2, 4];
 
+// How many coordinates a segment takes.
 pub fn taken(byte: u8) -> usize
     requires { ⌜ byte < 18 ⌝ }
     ensures { λ r. ⌜ (r ≡ coordinatesTaken byte) × (r ≤ 6) ⌝ }
@@ -35,6 +48,7 @@ pub fn trace(coordinates: &[u8], walk: Walk, byte: u8) -> Traced
     }
 }
 
+// A segment that draws a line: close, move, line, horizontal, vertical.
 fn trace_line(coordinates: &[u8], walk: Walk, byte: u8) -> Traced
     requires { ⌜ Supplied (now coordinates) walk byte × (byte < 10) ⌝ }
     ensures { λ r. ⌜ r ≡ tracedBy (now (coordinates .entry)) walk byte ⌝ }
@@ -45,7 +59,7 @@ fn trace_line(coordinates: &[u8], walk: Walk, byte: u8) -> Traced
     traced(next, pen, Curve::line(end))
 }
 
-// The pen after a close, a move, a line, a horizontal or a vertical one.
+// The pen after it.
 fn line_pen(coordinates: &[u8], walk: Walk, byte: u8) -> Pen
     requires { ⌜ Supplied (now coordinates) walk byte × (byte < 10) ⌝ }
     ensures { λ r. ⌜ r ≡ penAfter (walk .pen) byte (curveAt (now (coordinates .entry)) walk byte) ⌝ }
@@ -62,6 +76,7 @@ fn line_pen(coordinates: &[u8], walk: Walk, byte: u8) -> Pen
     }
 }
 
+// A segment that draws a curve: quad, cubic, and the smooth ones.
 fn trace_curve(coordinates: &[u8], walk: Walk, byte: u8) -> Traced
     requires { ⌜ Supplied (now coordinates) walk byte × (10 ≤ byte) ⌝ }
     ensures { λ r. ⌜ r ≡ tracedBy (now (coordinates .entry)) walk byte ⌝ }
@@ -98,7 +113,7 @@ fn traced(used: usize, pen: Pen, curve: Curve) -> Traced
 {
     Traced {
         walk: Walk { pen, used },
-        curve: curve,
+        curve,
     }
 }
 

@@ -17,6 +17,11 @@ ghost use Rattle.path.specs.Answers.{converted};
 ghost use Rattle.path.specs.Limits.{Limited, Near};
 
 impl FixedMatrix {
+    // The largest size of sx, shy, shx, sy and of tx, ty, judged on the floats as given.
+    pub const LINEAR_LIMIT: u32 = 256;
+
+    pub const TRANSLATION_LIMIT: u32 = 32768;
+
     // The largest size of a point on the surface, in 1/256 pixel.
     pub const SURFACE_LIMIT: i64 = 8388608;
 

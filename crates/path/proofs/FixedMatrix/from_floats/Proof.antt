@@ -1,8 +1,6 @@
 -- `path::FixedMatrix::from_floats` meets its contract: entry by entry. Assumes nothing.
-use mathlib.Core.Path.{ap}
 use borrow.Author.Needs.{needs}
 use Rattle.fixed.proofs.Answers.{no-value-arm}
-use Rattle.path.specs.declared.FixedMatrix.{FixedMatrix}
 use Rattle.path.specs.declared.Converted.the-variants.{Within}
 use Rattle.path.specs.Answers.{converted}
 use Rattle.path.proofs.Entries.{Told, told, refused}

@@ -1,8 +1,5 @@
 -- `path::Walk::new` meets its contract. Assumes nothing.
-use mathlib.Core.Path.{ap}
 use borrow.Author.Needs.{needs}
-use Rattle.path.specs.declared.Pen.{Pen}
-use Rattle.path.specs.declared.Walk.{Walk}
 use Rattle.path.proofs.Walk.new.Statement.{statement}
 use Rattle.path.proofs.Walk.new.Tie as tie
 

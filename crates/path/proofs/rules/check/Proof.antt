@@ -1,13 +1,12 @@
 -- `path::rules::check` meets its contract. The invariant: the walk is that over the segments passed, which are accepted. Assumes nothing.
 use mathlib.Core.Path.{_≡_, refl, sym, ap, subst, _∙_}
-use Prim.Native.Nat.{ℕ, _+_, _≤_, _-_}
+use Prim.Native.Nat.{ℕ, _≤_, _-_}
 use native.Mathlib.Numerals.{add-one}
 use native.Mathlib.Omega.{arith}
 use lib.ListN.{getD}
 use borrow.Author.Needs.{needs}
 use Rattle.path.specs.declared.Walk.{Walk}
 use Rattle.path.specs.declared.Traced.{Traced}
-use Rattle.path.specs.declared.Step.{Step}
 use Rattle.path.specs.Segments.{walkTo, faultTo}
 use Rattle.path.specs.Answers.{tracedBy, stepOf}
 use Rattle.path.specs.Limits.{Ready}

@@ -4,7 +4,7 @@ use Prim.Native.Nat.{ℕ, _+_, _/_}
 use native.Mathlib.Omega.{arith}
 use borrow.Author.Needs.{needs}
 use Rattle.path.specs.declared.Point.{Point}
-use Rattle.path.specs.Segments.{pairAt, penAt, base, quadTo, cubicTo, coordinateFrom, coordinatesTaken}
+use Rattle.path.specs.Segments.{pairAt, base, quadTo, cubicTo, coordinateFrom, coordinatesTaken}
 use Rattle.path.specs.Answers.{tracedAs, tracedBy}
 use Rattle.path.specs.Limits.{Near}
 use Rattle.path.proofs.Traces.{enough-at, curve-takes, near-base, traced-quad, traced-cubic, traced-smooth-quad, traced-smooth-cubic}

@@ -1,5 +1,5 @@
 -- `path::transform::on_grid` meets its contract. Assumes nothing.
-use mathlib.Core.Path.{sym, _∙_}
+use mathlib.Core.Path.{_∙_}
 use borrow.Author.Needs.{needs}
 use mir.Facts.{toZ-ofZ}
 use Rattle.path.proofs.Sizes.{size-below, size-above}
