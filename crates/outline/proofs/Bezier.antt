@@ -7,6 +7,8 @@ use native.Mathlib.Nat.{le-trans, le-refl, lt-of-mul-lt-mul-right, mul-le-mul, p
 use native.Mathlib.Omega.{arith}
 use lib.Dec.{T, eqb, eqb→eq, lit<}
 use lib.IntN.{ℤ, pos, natAbs, _+ℤ_, _*ℤ_}
+use borrow.Author.Tests.{eqb-true, eqb-false}
+use Rattle.rect.proofs.Laws.{either}
 use Rattle.fixed.specs.Floor.{floorDiv}
 use Rattle.fixed.proofs.Within.{Within, within-pos, within-add, within-mul}
 use Rattle.fixed.proofs.Poly.{up, dn, var, num, _⊕_, _⊗_, eq, within, from-within}
@@ -21,6 +23,14 @@ use Rattle.outline.specs.Asked.{Full, weightsOf, quadWeights, cubicWeigh
 pub data Curved : ℕ → Type 0 where
   quad : Curved 2
   cubic : Curved 3
+
+pub curved : (n : ℕ) → 2 ≤ n → n ≤ 3 → Curved n
+curved n h k =
+    either (eqb n 2)
+    (λ e. subst Curved (sym (eqb-true n 2 e)) quad)
+    (λ e. let f = eqb-false n 2 e in
+    let three : 3 ≡ n = omega (arith, f) in
+    subst Curved three cubic)
 
 -- they add up to 16 ^ degree: by a test of each k
 addUp : ℕ → ℕ → Bool
