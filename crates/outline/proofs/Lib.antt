@@ -5,3 +5,4 @@ pub mod Every
 pub mod Sizes
 pub mod Stores
 pub mod Outermost
+pub mod Walked

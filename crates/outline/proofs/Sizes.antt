@@ -24,8 +24,8 @@ use Rattle.path.specs.Matrices.{transform, transformAxis, onSurfaceGrid}
 use Rattle.path.specs.Segments.{lineTo, number, curveOnGrid, drawnBy, penAfter, walkTo, curveAt, segmentCode, faultTo, origin}
 use Rattle.path.specs.Curves.{cutPoint, equal, edge, edgeBetween, curveEdges, transformCurve, segmentEdges, pathEdges}
 use Rattle.path.specs.Stored.{Small}
-use Rattle.path.specs.Limits.{Limited}
-use Rattle.path.proofs.Codes.{accepted, near-curve}
+use Rattle.path.specs.Limits.{Limited, Supplied}
+use Rattle.path.proofs.Codes.{accepted, supplied, near-curve}
 use Rattle.path.proofs.Faults.{accepted-before, accepted-below, accepted-ready}
 use Rattle.outline.specs.Asked.{OnGrid, Drawable, Placed, PenPlaced, CurvePlaced}
 use Rattle.outline.proofs.Bezier.{curved, cut-size}
@@ -127,6 +127,10 @@ module _ (m : FixedMatrix) (ss cs : List ℕ) (limited : Limited m) where
         p2 = record { near = near .p2; there = is-true g2 (both-left g2 g3 t) };
         p3 = record { near = near .p3; there = is-true g3 (both-right g2 g3 t) };
       }
+
+  pub segment-supplied : (i n : ℕ) → i < n → faultTo m ss cs n .code ≡ 0 → Supplied cs (walkTo ss cs i) (getD ss i 0)
+  segment-supplied i n l e =
+      supplied m cs (walkTo ss cs i) (getD ss i 0) (accepted-ready m ss cs i (accepted-to i n (omega arith) e)) (accepted-before m ss cs i (accepted-to (suc i) n l e) .1)
 
   -- the pen before it
   pub pen-placed : (i n : ℕ) → i ≤ n → faultTo m ss cs n .code ≡ 0 → PenPlaced m (walkTo ss cs i .pen)

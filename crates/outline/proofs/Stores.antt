@@ -50,6 +50,11 @@ pub puts-append : (es fs : List Edge) (l : List ℤ) (i : ℕ) → putEdges l i 
 puts-append [] fs l i = rw (add-zero i)
 puts-append (e ∷ es) fs l i = puts-append es fs (putEdge l i e) (suc i) ∙ ap (λ (n : ℕ). putEdges (putEdges (putEdge l i e) (suc i) es) n fs) (suc-add i (length es) ∙ sym (add-suc i (length es)))
 
+-- said in another way
+pub puts-same : {es fs : List Edge} {q : List ℤ} {r : ℕ} (l : List ℤ) (n : ℕ) → es ≡ fs → (q ≡ putEdges l n es) × (r ≡ n + length es)
+    → (q ≡ putEdges l n fs) × (r ≡ n + length fs)
+puts-same l n e h = (h .0 ∙ ap (putEdges l n) e, h .1 ∙ ap (λ (gs : List Edge). n + length gs) e)
+
 -- fs after es
 pub puts-more : (es fs : List Edge) (l p q : List ℤ) (n i j : ℕ) → p ≡ putEdges l n es → i ≡ n + length es → q ≡ putEdges p i fs → j ≡ i + length fs
     → (q ≡ putEdges l n (es ++ fs)) × (j ≡ n + length (es ++ fs))

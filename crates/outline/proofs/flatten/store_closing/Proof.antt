@@ -1,31 +1,23 @@
+-- `outline::flatten::store_closing` meets its contract.
 use borrow.Author.Needs.{needs}
+use Rattle.outline.proofs.Stores.{puts-same}
+use Rattle.outline.proofs.Walked.{closing-edge}
 use Rattle.outline.proofs.flatten.store_closing.Statement.{statement}
 use Rattle.outline.proofs.flatten.store_closing.Tie as tie
-use Rattle.outline.proofs.flatten.store_closing.Reads as reads
-use Rattle.outline.proofs.flatten.store_closing.Lts as lts
-use Rattle.outline.proofs.store.store_edge.Reads as store-edge-reads
-use Rattle.path.proofs.FixedMatrix.apply.Reads as apply-reads
 
--- src/flatten.rt:65:9
-apply-requires : tie.Need-apply-requires
-apply-requires c κs = ?
-
--- src/flatten.rt:66:9
-apply-requires-2 : tie.Need-apply-requires-2
-apply-requires-2 c κs = ?
-
--- src/flatten.rt:67:5
-store-edge-requires : tie.Need-store-edge-requires
-store-edge-requires c κs = ?
-
--- src/flatten.rt:59:1
-same-length : tie.Need-same-length
-same-length c = ?
-
--- src/flatten.rt:59:1
 returns : tie.Need-returns
-returns c = ?
+returns c =
+    let a = c .before .before .before .before .before .args in
+    let p = c .before .before .before .before .apply in
+    let q = c .before .before .before .apply2 in
+    puts-same (a .edges .now) (a .n) (closing-edge (a .m) (a .pen) (p .result) (q .result) (p .ensures) (q .ensures)) (c .before .store-edge .ensures)
 
 pub store-closing-spec : {M : Type 1} → statement M
 store-closing-spec =
-    tie.close (tie.spec apply-requires apply-requires-2 store-edge-requires same-length returns)
+    tie.close
+    (tie.spec
+    (λ c κs. let h = c .pre .1 in ((h .0, h .1 .current .near), h .1 .current .there))
+    (λ c κs. let h = c .before .pre .1 in ((h .0, h .1 .start .near), h .1 .start .there))
+    (λ c κs. search needs)
+    (λ c. search needs)
+    returns)

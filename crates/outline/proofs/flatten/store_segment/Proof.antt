@@ -1,54 +1,44 @@
+-- `outline::flatten::store_segment` meets its contract.
+use mathlib.Core.Path.{sym, subst}
+use native.Mathlib.Omega.{arith}
 use borrow.Author.Needs.{needs}
+use Rattle.path.specs.declared.Point.{Point}
+use Rattle.outline.specs.Asked.{OnGrid}
+use Rattle.outline.proofs.Sizes.{placed-grid}
+use Rattle.outline.proofs.Stores.{puts-same}
+use Rattle.outline.proofs.Walked.{drawn-closing, drawn-curve}
 use Rattle.outline.proofs.flatten.store_segment.Statement.{statement}
 use Rattle.outline.proofs.flatten.store_segment.Tie as tie
-use Rattle.outline.proofs.flatten.store_segment.Reads as reads
-use Rattle.outline.proofs.flatten.store_segment.Lts as lts
-use Rattle.outline.proofs.flatten.store_closing.Reads as store-closing-reads
-use Rattle.outline.proofs.flatten.transform_curve.Reads as transform-curve-reads
-use Rattle.outline.proofs.store.store_curve.Reads as store-curve-reads
-use Rattle.path.proofs.FixedMatrix.apply.Reads as apply-reads
 
--- src/flatten.rt:51:9
-store-closing-requires : tie.Need-store-closing-requires
-store-closing-requires c κs = ?
-
--- src/flatten.rt:51:9
-same-length : tie.Need-same-length
-same-length c = ?
-
--- src/flatten.rt:51:9
 returns : tie.Need-returns
-returns c = ?
+returns c =
+    let a = c .before .before .before .before .args in
+    puts-same (a .edges .now) (a .n) (drawn-closing (a .m) (a .pen) (a .byte) (a .c) (c .before .before .before .if1 .taken)) (c .before .store-closing .ensures)
 
--- src/flatten.rt:53:9
-apply-requires : tie.Need-apply-requires
-apply-requires c κs = ?
-
--- src/flatten.rt:54:9
-transform-curve-requires : tie.Need-transform-curve-requires
-transform-curve-requires c κs = ?
-
--- src/flatten.rt:55:5
 store-curve-requires : tie.Need-store-curve-requires
-store-curve-requires c κs = ?
+store-curve-requires c κs =
+    let s = c .before .before .before .before in
+    let p = c .before .before .apply in
+    (s .pre .0, (subst (λ (v : Point). OnGrid v) (sym (p .ensures)) (placed-grid (s .args .m) (s .args .pen .current) (s .pre .1 .1 .0 .current)), c .before .transform-curve .ensures .1))
 
--- src/flatten.rt:44:1
-same-length-2 : tie.Need-same-length-2
-same-length-2 c = ?
-
--- src/flatten.rt:44:1
 returns-2 : tie.Need-returns-2
-returns-2 c = ?
+returns-2 c =
+    let a = c .before .before .before .before .before .before .args in
+    let p = c .before .before .before .before .apply in
+    let d = c .before .before .before .transform-curve in
+    puts-same (a .edges .now) (a .n)
+    (drawn-curve (a .m) (a .pen) (a .byte) (a .c) (p .result) (d .result) (c .before .before .before .before .before .if1 .left) (p .ensures) (d .ensures .0))
+    (c .before .store-curve .ensures)
 
 pub store-segment-spec : {M : Type 1} → statement M
 store-segment-spec =
     tie.close
     (tie.spec
-    store-closing-requires
-    same-length
+    (λ c κs. let h = c .before .before .pre in (omega arith, (h .1 .0, h .1 .1 .0)))
+    (λ c. search needs)
     returns
-    apply-requires
-    transform-curve-requires
+    (λ c κs. let h = c .before .pre .1 in ((h .0, h .1 .0 .current .near), h .1 .0 .current .there))
+    (λ c κs. let h = c .before .before .pre .1 in (h .0, h .1 .1))
     store-curve-requires
-    same-length-2
+    (λ c. search needs)
     returns-2)
