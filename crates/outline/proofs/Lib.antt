@@ -6,3 +6,4 @@ pub mod Sizes
 pub mod Stores
 pub mod Outermost
 pub mod Walked
+pub mod Flattened

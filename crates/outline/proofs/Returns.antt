@@ -8,10 +8,10 @@ use lib.Dec.{T, eqb, leb}
 use lib.ListN.{getD}
 use lib.IntN.{ℤ, pos, _+ℤ_, _-ℤ_}
 use lib.Signed.{leZ, _≤ℤ_}
-use borrow.Author.Tests.{eqb-true, eqb-false, leb-true, leb-false, eq-eqb, ne-eqb, le-leb, lt-leb}
+use borrow.Author.Tests.{eqb-true, eqb-false, leb-true, leb-false, eq-eqb}
 use Rattle.lists.specs.Lists.{upto}
 use Rattle.fixed.proofs.Poly.{var, num, _⊕_, _⊖_, eq, from-le}
-use Rattle.rect.proofs.Laws.{both, either}
+use Rattle.rect.proofs.Laws.{both}
 use Rattle.path.specs.declared.FixedMatrix.{FixedMatrix}
 use Rattle.path.specs.declared.Point.{Point}
 use Rattle.path.specs.declared.Pen.{Pen}

@@ -4,9 +4,9 @@ use mathlib.Core.List.{List, [], _∷_}
 use mathlib.Core.Bool.{Bool, true, false, cond, _&&_}
 use Prim.Native.Nat.{ℕ, zero, suc, _+_, _-_, _≤_, _<_}
 use native.Mathlib.Omega.{arith}
-use lib.Dec.{T, eqb, leb, le→leb}
+use lib.Dec.{eqb, leb}
 use lib.ListN.{getD}
-use lib.IntN.{ℤ, pos, natAbs, _+ℤ_, _*ℤ_}
+use lib.IntN.{ℤ, pos, natAbs, _+ℤ_}
 use borrow.Author.Tests.{eqb-true, eqb-false, leb-true, le-leb}
 use Rattle.rect.proofs.Laws.{both, either}
 use Rattle.fixed.specs.Floor.{floorDiv}
@@ -16,20 +16,17 @@ use Rattle.fixed.proofs.Poly.{var, num, _⊕_, _⊗_, eq}
 use Rattle.fixed.proofs.Round.{within-round}
 use Rattle.path.specs.declared.FixedMatrix.{FixedMatrix}
 use Rattle.path.specs.declared.Point.{Point}
-use Rattle.path.specs.declared.Pen.{Pen}
 use Rattle.path.specs.declared.Curve.{Curve}
-use Rattle.path.specs.declared.Edge.{Edge}
-use Rattle.path.specs.declared.Walk.{Walk}
 use Rattle.path.specs.Matrices.{transform, transformAxis, onSurfaceGrid}
-use Rattle.path.specs.Segments.{lineTo, number, curveOnGrid, drawnBy, penAfter, walkTo, curveAt, segmentCode, faultTo, origin}
-use Rattle.path.specs.Curves.{cutPoint, equal, edge, edgeBetween, curveEdges, transformCurve, segmentEdges, pathEdges}
+use Rattle.path.specs.Segments.{lineTo, number, drawnBy, penAfter, walkTo, curveAt, faultTo, origin}
+use Rattle.path.specs.Curves.{cutPoint, equal, edge, edgeBetween, curveEdges, transformCurve, pathEdges}
 use Rattle.path.specs.Stored.{Small}
 use Rattle.path.specs.Limits.{Limited, Supplied}
 use Rattle.path.proofs.Codes.{accepted, supplied, near-curve}
 use Rattle.path.proofs.Faults.{accepted-before, accepted-below, accepted-ready}
 use Rattle.outline.specs.Asked.{OnGrid, Drawable, Placed, PenPlaced, CurvePlaced}
 use Rattle.outline.proofs.Bezier.{curved, cut-size}
-use Rattle.outline.proofs.Counts.{pieces, curve-line, curve-pieces}
+use Rattle.outline.proofs.Counts.{curve-line, curve-pieces}
 use Rattle.outline.proofs.Returns.{Shaped, straight, bent, twisted, points-shaped}
 use Rattle.outline.proofs.Every.{Every, none, more, every-append, every-upto}
 
@@ -48,8 +45,10 @@ axis-near a b t h =
 
 pub origin-there : (m : FixedMatrix) → Limited m → onSurfaceGrid (transform m origin) ≡ true
 origin-there m h =
-    rw (le-leb (natAbs (transform m origin .x)) 8388608 (axis-near (m .sx) (m .shx) (m .tx) (h .tx)),
-    le-leb (natAbs (transform m origin .y)) 8388608 (axis-near (m .shy) (m .sy) (m .ty) (h .ty)))
+    rw (
+      le-leb (natAbs (transform m origin .x)) 8388608 (axis-near (m .sx) (m .shx) (m .tx) (h .tx)),
+      le-leb (natAbs (transform m origin .y)) 8388608 (axis-near (m .shy) (m .sy) (m .ty) (h .ty)),
+    )
 
 -- ---- edges between such points
 edge-small : (a b : Point) → OnGrid a → OnGrid b → Every Small (edgeBetween a b)

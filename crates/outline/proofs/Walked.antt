@@ -11,7 +11,6 @@ use Rattle.path.specs.declared.FixedMatrix.{FixedMatrix}
 use Rattle.path.specs.declared.Point.{Point}
 use Rattle.path.specs.declared.Pen.{Pen}
 use Rattle.path.specs.declared.Curve.{Curve}
-use Rattle.path.specs.declared.Edge.{Edge}
 use Rattle.path.specs.declared.Walk.{Walk}
 use Rattle.path.specs.declared.Traced.{Traced}
 use Rattle.path.specs.Matrices.{transform}

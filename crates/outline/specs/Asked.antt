@@ -1,6 +1,6 @@
 -- What the functions of this crate ask of their arguments, so that no step overflows, and the parts of a cut point. A reviewer of the
 -- paper need not read it.
-use Prim.Native.Nat.{ℕ, _+_, _-_, _*_, _/_, _^_, _≤_}
+use Prim.Native.Nat.{ℕ, _+_, _*_, _/_, _^_, _≤_}
 use mathlib.Core.Path.{_≡_}
 use mathlib.Core.Bool.{true}
 use lib.IntN.{ℤ, pos, natAbs, _+ℤ_, _*ℤ_}

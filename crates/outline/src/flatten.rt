@@ -16,7 +16,13 @@ ghost use Rattle.path.specs.Stored.{putEdges};
 ghost use Rattle.outline.specs.Asked.{Drawable, PenPlaced, CurvePlaced};
 
 // The edges of an accepted path of n segments. How many there are.
-pub fn flatten(m: FixedMatrix, segments: &[u8], n: usize, coordinates: &[u8], edges: &mut [i32]) -> usize
+pub fn flatten(
+    m: FixedMatrix,
+    segments: &[u8],
+    n: usize,
+    coordinates: &[u8],
+    edges: &mut [i32],
+) -> usize
     requires { ⌜ (n ≤ 128) × (n ≤ length (now segments)) ⌝ }
     requires { ⌜ Limited m × (faultTo m (now segments) (now coordinates) n .code ≡ 0) ⌝ }
     requires { ⌜ 8196 ≤ length (now edges) ⌝ }
@@ -76,10 +82,5 @@ fn transform_curve(m: FixedMatrix, c: Curve) -> Curve
     let p1 = m.apply(c.p1);
     let p2 = m.apply(c.p2);
     let p3 = m.apply(c.p3);
-    Curve {
-        degree,
-        p1,
-        p2,
-        p3,
-    }
+    Curve { degree, p1, p2, p3 }
 }

@@ -9,9 +9,6 @@ use Rattle.path.specs.Boxes.{outer}
 use borrow.Author.Needs.{needs}
 use Rattle.outline.proofs.bounds.end_of.Statement.{statement}
 use Rattle.outline.proofs.bounds.end_of.Tie as tie
-use Rattle.outline.proofs.bounds.end_of.Reads as reads
-use Rattle.outline.proofs.bounds.end_of.Lts as lts
-use Rattle.outline.proofs.bounds.outer_of.Reads as outer-of-reads
 
 -- src/bounds.rt:29:15
 outer-of-requires : tie.Need-outer-of-requires

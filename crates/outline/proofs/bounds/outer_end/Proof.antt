@@ -1,25 +1,17 @@
 -- `outline::bounds::outer_end` meets its contract. Assumes nothing.
-use mathlib.Core.Path.{_≡_, refl, sym, ap, ap₂, _∙_}
-use Prim.Native.Nat.{ℕ, _+_, _*_, _-_, _≤_, _<_}
+use mathlib.Core.Path.{_≡_, sym, ap, ap₂, _∙_}
+use Prim.Native.Nat.{ℕ, _-_, _≤_, _<_}
 use native.Mathlib.Omega.{arith}
 use Rattle.outline.proofs.Outermost.{outer-next}
-use lib.ListN.{length}
-use lib.IntN.{ℤ}
 use mir.Syntax.{w32}
-use mir.Val.{toZ, ofZ}
+use mir.Val.{toZ}
 use mir.Facts.{toZ-ofZ}
 use borrow.Author.Needs.{sfits-of}
-use Rattle.path.specs.declared.Edge.{Edge}
 use Rattle.path.specs.Boxes.{outer, endOf, outerOf}
-use Rattle.path.specs.Stored.{edgeAt, edgesOf}
+use Rattle.path.specs.Stored.{edgesOf}
 use borrow.Author.Needs.{needs}
 use Rattle.outline.proofs.bounds.outer_end.Statement.{statement}
 use Rattle.outline.proofs.bounds.outer_end.Tie as tie
-use Rattle.outline.proofs.bounds.outer_end.Reads as reads
-use Rattle.outline.proofs.bounds.outer_end.Lts as lts
-use Rattle.outline.proofs.bounds.end_of.Reads as end-of-reads
-use Rattle.outline.proofs.bounds.outer_of.Reads as outer-of-reads
-use Rattle.outline.proofs.store.load.Reads as load-reads
 
 abbrev Inv-loop : tie.InvT-loop
 Inv-loop edges n greater axis m₀ i₀ m i = (0 < i) × (i ≤ n) × (toZ w32 m ≡ outerOf greater axis (edgesOf edges i))

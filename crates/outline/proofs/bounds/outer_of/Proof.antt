@@ -3,11 +3,8 @@ use mir.Syntax.{w32}
 use mir.Facts.{toZ-ofZ}
 use Rattle.path.specs.Boxes.{outer}
 use Rattle.fixed.proofs.Signed.{le-back}
-use borrow.Author.Needs.{needs}
 use Rattle.outline.proofs.bounds.outer_of.Statement.{statement}
 use Rattle.outline.proofs.bounds.outer_of.Tie as tie
-use Rattle.outline.proofs.bounds.outer_of.Reads as reads
-use Rattle.outline.proofs.bounds.outer_of.Lts as lts
 
 -- src/bounds.rt:11:1
 returns : tie.Need-returns

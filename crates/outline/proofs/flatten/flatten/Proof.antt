@@ -1,6 +1,5 @@
 -- `outline::flatten::flatten` meets its contract: the edges so far are those of the segments passed.
-use mathlib.Core.Path.{_≡_, sym, ap, subst, _∙_}
-use mathlib.Core.List.{List}
+use mathlib.Core.Path.{_≡_, sym, subst, _∙_}
 use Prim.Native.Nat.{_+_, _-_, _≤_}
 use native.Mathlib.Nat.{zero-add}
 use native.Mathlib.Omega.{arith}
@@ -15,7 +14,7 @@ use Rattle.path.specs.Limits.{Supplied}
 use Rattle.outline.specs.Asked.{PenPlaced, CurvePlaced}
 use Rattle.outline.proofs.Counts.{edges-count}
 use Rattle.outline.proofs.Sizes.{curve-placed, segment-supplied, pen-placed}
-use Rattle.outline.proofs.Stores.{puts-more, puts-same}
+use Rattle.outline.proofs.Stores.{puts-more}
 use Rattle.outline.proofs.Walked.{traced-curve, traced-walk, edges-more, edges-all}
 use Rattle.outline.proofs.flatten.flatten.Statement.{statement}
 use Rattle.outline.proofs.flatten.flatten.Tie as tie
@@ -43,12 +42,17 @@ store-segment-requires c κs =
     let l = c .before .before .before .before .before .before .loop in
     let t = c .before .before .before .trace in
     let limited = s .pre .1 .0 .0 in
-    let accepted = s .pre .1 .0 .1 in
-    (omega (arith, edges-count (a .m) (a .segments .now) (a .coordinates .now) (l .i)),
-    (limited,
-    (subst (λ (w : Walk). PenPlaced (a .m) (w .pen)) (sym (l .inv .2)) (pen-placed (a .m) (a .segments .now) (a .coordinates .now) limited (l .i) (a .n) (omega arith) accepted),
-    subst (λ (v : Curve). CurvePlaced (a .m) v) (sym (traced-curve (a .m) (a .segments .now) (a .coordinates .now) (l .i) (l .walk) (l .inv .2) (t .result) (t .ensures)))
-    (curve-placed (a .m) (a .segments .now) (a .coordinates .now) limited (l .i) (a .n) (omega arith) accepted))))
+    let accepted = s .pre .1 .0 .1 in (
+      omega (arith, edges-count (a .m) (a .segments .now) (a .coordinates .now) (l .i)),
+      (
+        limited,
+        (
+          subst (λ (w : Walk). PenPlaced (a .m) (w .pen)) (sym (l .inv .2)) (pen-placed (a .m) (a .segments .now) (a .coordinates .now) limited (l .i) (a .n) (omega arith) accepted),
+          subst (λ (v : Curve). CurvePlaced (a .m) v) (sym (traced-curve (a .m) (a .segments .now) (a .coordinates .now) (l .i) (l .walk) (l .inv .2) (t .result) (t .ensures)))
+              (curve-placed (a .m) (a .segments .now) (a .coordinates .now) limited (l .i) (a .n) (omega arith) accepted),
+        ),
+      ),
+    )
 
 loop-again : tie.Need-loop-again Inv-loop μ-loop
 loop-again c =
@@ -59,11 +63,11 @@ loop-again c =
     let ss = a .segments .now in
     let cs = a .coordinates .now in
     let drawn = drawnEdges (a .m) (l .walk .pen) (drawnBy (l .walk .pen) (getD ss (l .i) 0) (t .result .curve)) in
-    let more = puts-more (edgesTo (a .m) ss cs (l .i)) drawn (a .edges .now) (l .edges) (e .last .1 .0) 0 (l .count) (e .result) (l .inv .3 .0) (l .inv .3 .1) (e .ensures .0) (e .ensures .1) in (
+    let more = edges-more (a .m) ss cs (l .i) (l .walk) (l .inv .2) (t .result) (t .ensures) in (
       search needs,
       e .kept .1 .0 ∙ l .inv .1,
       traced-walk (a .m) ss cs (l .i) (l .walk) (l .inv .2) (t .result) (t .ensures),
-      puts-same (a .edges .now) 0 (edges-more (a .m) ss cs (l .i) (l .walk) (l .inv .2) (t .result) (t .ensures)) more,
+      puts-more (edgesTo (a .m) ss cs (l .i)) drawn (a .edges .now) 0 more (l .inv .3) (e .ensures),
     )
 
 store-closing-requires : tie.Need-store-closing-requires Inv-loop μ-loop
@@ -71,22 +75,23 @@ store-closing-requires c κs =
     let s = c .before .before .before .before .before .before .before in
     let a = s .args in
     let l = c .before .before .before .loop in
-    let limited = s .pre .1 .0 .0 in
-    (omega (arith, edges-count (a .m) (a .segments .now) (a .coordinates .now) (l .i)),
-    (limited,
-    subst (λ (w : Walk). PenPlaced (a .m) (w .pen)) (sym (l .inv .2)) (pen-placed (a .m) (a .segments .now) (a .coordinates .now) limited (l .i) (a .n) (l .inv .0) (s .pre .1 .0 .1))))
+    let limited = s .pre .1 .0 .0 in (
+      omega (arith, edges-count (a .m) (a .segments .now) (a .coordinates .now) (l .i)),
+      (
+        limited,
+        subst (λ (w : Walk). PenPlaced (a .m) (w .pen)) (sym (l .inv .2)) (pen-placed (a .m) (a .segments .now) (a .coordinates .now) limited (l .i) (a .n) (l .inv .0) (s .pre .1 .0 .1)),
+      ),
+    )
 
 returns : tie.Need-returns Inv-loop μ-loop
 returns c =
     let a = c .before .before .before .before .before .before .before .before .before .args in
     let l = c .before .before .before .before .before .loop in
-    let e = c .before .store-closing in
     let ss = a .segments .now in
     let cs = a .coordinates .now in
     let last : l .i ≡ a .n = omega arith in
     let drawn = drawnEdges (a .m) (l .walk .pen) (lineTo (l .walk .pen .start)) in
-    let more = puts-more (edgesTo (a .m) ss cs (l .i)) drawn (a .edges .now) (l .edges) (e .last .1 .0) 0 (l .count) (e .result) (l .inv .3 .0) (l .inv .3 .1) (e .ensures .0) (e .ensures .1) in
-    let all = puts-same (a .edges .now) 0 (edges-all (a .m) ss cs (l .i) (l .walk) (l .inv .2) (a .n) last) more in
+    let all = puts-more (edgesTo (a .m) ss cs (l .i)) drawn (a .edges .now) 0 (edges-all (a .m) ss cs (l .i) (l .walk) (l .inv .2) (a .n) last) (l .inv .3) (c .before .store-closing .ensures) in
     (all .0, all .1 ∙ zero-add (length (pathEdges (a .m) ss cs (a .n))))
 
 pub flatten-spec : {M : Type 1} → statement M

@@ -2,11 +2,8 @@
 use mir.Syntax.{w32}
 use mir.Facts.{toZ-ofZ}
 use Rattle.fixed.proofs.Signed.{le-back}
-use borrow.Author.Needs.{needs}
 use Rattle.outline.proofs.store.same.Statement.{statement}
 use Rattle.outline.proofs.store.same.Tie as tie
-use Rattle.outline.proofs.store.same.Reads as reads
-use Rattle.outline.proofs.store.same.Lts as lts
 
 -- src/store.rt:8:1
 returns : tie.Need-returns
