@@ -36,7 +36,7 @@ curved n h k =
 addUp : ℕ → ℕ → Bool
 addUp degree k = eqb (weight degree k 0 + weight degree k 1 + weight degree k 2 + weight degree k 3) (16 ^ degree)
 
-pub weights-full : {degree : ℕ} → Curved degree → (k : ℕ) → k ≤ 16 → Full degree (weightsOf degree k)
+weights-full : {degree : ℕ} → Curved degree → (k : ℕ) → k ≤ 16 → Full degree (weightsOf degree k)
 unfolding addUp
 weights-full quad k h = record { some = omega arith; most = omega arith; total = eqb→eq _ 256 (upto (addUp 2) 17 tt k (omega arith)) }
 weights-full cubic k h = record { some = omega arith; most = omega arith; total = eqb→eq _ 4096 (upto (addUp 3) 17 tt k (omega arith)) }

@@ -15,11 +15,11 @@ module _ {A : Type 0} {P : A → Type 0} where
   every-append none k = k
   every-append (more p h) k = more p (every-append h k)
 
-  pub every-left : (xs ys : List A) → Every P (xs ++ ys) → Every P xs
+  every-left : (xs ys : List A) → Every P (xs ++ ys) → Every P xs
   every-left [] ys h = none
   every-left (x ∷ xs) ys (more p h) = more p (every-left xs ys h)
 
-  pub every-right : (xs ys : List A) → Every P (xs ++ ys) → Every P ys
+  every-right : (xs ys : List A) → Every P (xs ++ ys) → Every P ys
   every-right [] ys h = h
   every-right (x ∷ xs) ys (more p h) = every-right xs ys h
 

@@ -47,7 +47,7 @@ points-shaped pen byte c =
     let n = number byte in
     shape (eqb n 0) (eqb n 6) (eqb n 8) (eqb n 10) (eqb n 12) (eqb n 14) (eqb n 16) _ _ _ _ _ _ _ _ _ _ _ _ _ _
 
-pub drawn-shaped : (pen : Pen) (byte : ℕ) (c : Curve) → Shaped c → Shaped (drawnBy pen byte c)
+drawn-shaped : (pen : Pen) (byte : ℕ) (c : Curve) → Shaped c → Shaped (drawnBy pen byte c)
 drawn-shaped pen byte c h = by (leb (number byte) 2)
   where
     by : (t : Bool) → Shaped (cond t (lineTo (pen .start)) c)

@@ -31,7 +31,7 @@ use Rattle.outline.proofs.Returns.{Shaped, straight, bent, twisted, poi
 use Rattle.outline.proofs.Every.{Every, none, more, every-append, every-upto}
 
 -- ---- points on the surface's grid
-pub on-grid : (p : Point) → onSurfaceGrid p ≡ true → OnGrid p
+on-grid : (p : Point) → onSurfaceGrid p ≡ true → OnGrid p
 on-grid p h =
     let k = both (leb (natAbs (p .x)) 8388608) (leb (natAbs (p .y)) 8388608) h in
     record { x = leb-true _ _ (k .0); y = leb-true _ _ (k .1) }
@@ -43,7 +43,7 @@ axis-near a b t h =
     (eq (var t) (var a ⊗ num 0 ⊕ var b ⊗ num 0 ⊕ var t) (omega arith))
     (within-round {b = 8388608} {z = t} (record { size = h }) .size)
 
-pub origin-there : (m : FixedMatrix) → Limited m → onSurfaceGrid (transform m origin) ≡ true
+origin-there : (m : FixedMatrix) → Limited m → onSurfaceGrid (transform m origin) ≡ true
 origin-there m h =
     rw (
       le-leb (natAbs (transform m origin .x)) 8388608 (axis-near (m .sx) (m .shx) (m .tx) (h .tx)),

@@ -45,7 +45,7 @@ pub puts-length : (es : List Edge) (l : List ℤ) (i : ℕ) → length (putEdges
 puts-length [] l i = refl
 puts-length (e ∷ es) l i = puts-length es (putEdge l i e) (suc i) ∙ put-length l i e
 
-pub puts-append : (es fs : List Edge) (l : List ℤ) (i : ℕ) → putEdges l i (es ++ fs) ≡ putEdges (putEdges l i es) (i + length es) fs
+puts-append : (es fs : List Edge) (l : List ℤ) (i : ℕ) → putEdges l i (es ++ fs) ≡ putEdges (putEdges l i es) (i + length es) fs
 puts-append [] fs l i = rw (add-zero i)
 puts-append (e ∷ es) fs l i = puts-append es fs (putEdge l i e) (suc i) ∙ ap (λ (n : ℕ). putEdges (putEdges (putEdge l i e) (suc i) es) n fs) (suc-add i (length es) ∙ sym (add-suc i (length es)))
 
