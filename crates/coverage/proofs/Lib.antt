@@ -1,0 +1,8 @@
+-- The laws of coverage.
+pub mod Crossing
+pub mod Sums
+pub mod Begin
+pub mod Laid
+pub mod Turn
+pub mod Tally
+pub mod Sampled
