@@ -5,4 +5,5 @@ pub mod Begin
 pub mod Laid
 pub mod Turn
 pub mod Tally
+pub mod Zeros
 pub mod Sampled

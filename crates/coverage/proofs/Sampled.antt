@@ -16,9 +16,10 @@ use Rattle.lists.proofs.Laws.{tab-length, tab-at}
 use Rattle.path.specs.declared.Edge.{Edge}
 use Rattle.coverage.specs.Winding.{atOrLeft, weight, counts, winding, sample, one, inside, tally, coverage}
 use Rattle.path.specs.Stored.{edgeAt, edgesOf}
-use Rattle.coverage.specs.Engine.{laid, zeros, starts, running, at, Tame, Edges}
+use Rattle.coverage.specs.Engine.{laid, zeros, starts, running, at, Tame, Edges, Ready}
 use Rattle.coverage.proofs.Sums.{sum-small, running-starts}
 use Rattle.coverage.proofs.Laid.{laid-part, laid-again}
+use Rattle.coverage.proofs.Zeros.{clear-laid}
 use Rattle.coverage.proofs.Tally.{tally-le}
 use Rattle.coverage.proofs.Turn.{starts-small, weight-small, cond-small, tab-same}
 
@@ -124,9 +125,12 @@ module _ (es : List Edge) (nonZero : Bool) (x y : ℕ) where
       (λ m k. ap (λ (n : ℕ). winding es (sample n) (sample (4 * y + q))) (omega arith))))
 
 -- the scratch as it was, and counts as many as they were
-pub still : (l r : List ℤ) (w v n : ℕ) → r ≡ l → v ≡ w → Edges l n (w * 4 + 1) → l ≡ laid (n * 4) (w * 4 + 1) l (zeros (w * 4 + 1))
+pub still : (l r : List ℤ) (w v n : ℕ) → r ≡ l → v ≡ w → w ≤ 1024 → Ready l n
     → (Edges r n (v * 4 + 1)) × (r ≡ laid (n * 4) (v * 4 + 1) r (zeros (v * 4 + 1)))
-still l r w v n p q a b = (
-  subst (λ (t : List ℤ). Edges t n (v * 4 + 1)) (sym p) (subst (λ (u : ℕ). Edges l n (u * 4 + 1)) (sym q) a),
-  subst (λ (t : List ℤ). t ≡ laid (n * 4) (v * 4 + 1) t (zeros (v * 4 + 1))) (sym p) (subst (λ (u : ℕ). l ≡ laid (n * 4) (u * 4 + 1) l (zeros (u * 4 + 1))) (sym q) b),
-)
+still l r w v n p q h a =
+    let f : n * 4 + (w * 4 + 1) ≤ length l = omega (arith, a .few, a .room) in
+    let b : Edges l n (w * 4 + 1) = record { few = a .few; scratch = f; small = a .small } in
+    let c : l ≡ laid (n * 4) (w * 4 + 1) l (zeros (w * 4 + 1)) = clear-laid l n (w * 4 + 1) f (a .clear) in (
+      subst (λ (t : List ℤ). Edges t n (v * 4 + 1)) (sym p) (subst (λ (u : ℕ). Edges l n (u * 4 + 1)) (sym q) b),
+      subst (λ (t : List ℤ). t ≡ laid (n * 4) (v * 4 + 1) t (zeros (v * 4 + 1))) (sym p) (subst (λ (u : ℕ). l ≡ laid (n * 4) (u * 4 + 1) l (zeros (u * 4 + 1))) (sym q) c),
+    )

@@ -56,6 +56,17 @@ laid b m l q = take b l ++ (q ++ drop m (drop b l))
 abbrev pub zeros : ℕ → List ℤ
 zeros m = tab m (λ j. pos 0)
 
+-- what a row asks for: n edges of the size that the path rules keep, the paper's working room, and zeros after the edges
+pub record Ready (l : List ℤ) (n : ℕ) : Type 0 where
+  pub few : n ≤ 2049
+  pub room : 12300 ≤ length l
+  pub small : (i : ℕ) → i < n → Small (edgeAt l i)
+  pub clear : drop (n * 4) l ≡ zeros (length l - n * 4)
+
+-- l with zeros after its n edges
+abbrev pub cleared : List ℤ → ℕ → List ℤ
+cleared l n = take (n * 4) l ++ zeros (length l - n * 4)
+
 -- n edges of the size that the path rules keep, and room for m numbers after them
 pub record Edges (l : List ℤ) (n m : ℕ) : Type 0 where
   pub few : n ≤ 2049

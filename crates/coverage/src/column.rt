@@ -1,6 +1,6 @@
 // The column from which an edge counts.
-use path::Edge;
 use crate::Start;
+use path::Edge;
 ghost use mathlib.Core.Path.{_≡_};
 ghost use Prim.Native.Nat.{ℕ, _+_, _*_, _^_, _<_, _≤_};
 ghost use lib.IntN.{pos, natAbs};

@@ -7,7 +7,7 @@ ghost use lib.ListN.{length, getD};
 ghost use Rattle.lists.specs.Lists.{tab};
 ghost use Rattle.coverage.specs.Winding.{winding, sample, tally, coverage};
 ghost use Rattle.path.specs.Stored.{edgesOf};
-ghost use Rattle.coverage.specs.Engine.{Edges, laid, zeros};
+ghost use Rattle.coverage.specs.Engine.{Edges, Ready, cleared, laid, zeros};
 
 // All numbers 0.
 fn zero(s: &mut [i32])
@@ -50,9 +50,15 @@ fn sample_row(scratch: &mut [i32], n: usize, c: usize, row: usize, cover: &mut [
 }
 
 // k of each pixel from (x, y) on, in one row. The numbers after the n edges are zero, and are so again.
-pub fn coverage_row(scratch: &mut [i32], n: usize, x: usize, y: usize, cover: &mut [u8], nonzero: bool)
-    requires { ⌜ Edges (now scratch) n (length (now cover) * 4 + 1) ⌝ }
-    requires { ⌜ now scratch ≡ laid (n * 4) (length (now cover) * 4 + 1) (now scratch) (zeros (length (now cover) * 4 + 1)) ⌝ }
+pub fn coverage_row(
+    scratch: &mut [i32],
+    n: usize,
+    x: usize,
+    y: usize,
+    cover: &mut [u8],
+    nonzero: bool,
+)
+    requires { ⌜ Ready (now scratch) n ⌝ }
     requires { ⌜ (y < 1024) × (x + length (now cover) ≤ 1024) ⌝ }
     ensures { λ _. ⌜ now (scratch .exit) ≡ now (scratch .entry) ⌝ }
     ensures { λ _. ⌜ now (cover .exit) ≡ tab (length (now (cover .entry))) (λ i. coverage (edgesOf (now (scratch .entry)) n) nonzero (x + i) y) ⌝ }
@@ -64,4 +70,13 @@ pub fn coverage_row(scratch: &mut [i32], n: usize, x: usize, y: usize, cover: &m
         sample_row(scratch, n, c, 4 * y + r, cover, nonzero);
         r += 1;
     }
+}
+
+// Zeros after the n edges, as `coverage_row` asks for.
+pub fn clear_sums(scratch: &mut [i32], n: usize)
+    requires { ⌜ n * 4 ≤ length (now scratch) ⌝ }
+    ensures { λ _. ⌜ now (scratch .exit) ≡ cleared (now (scratch .entry)) n ⌝ }
+{
+    let at = n * 4;
+    zero(&mut scratch[at..]);
 }

@@ -1,7 +1,7 @@
 // A row of samples: what begins at each column is added up from the edges, and then the running sums are the winding numbers.
-use path::Edge;
 use crate::Start;
 use crate::column::start;
+use path::Edge;
 ghost use mathlib.Core.Path.{_≡_};
 ghost use Prim.Native.Nat.{ℕ, _+_, _*_, _^_, _<_, _≤_};
 ghost use lib.IntN.{pos, natAbs, _+ℤ_};

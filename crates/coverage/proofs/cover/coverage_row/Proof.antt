@@ -56,7 +56,7 @@ sample-row-requires c κs =
     let t = c .before .before .before .before .before .before .clear in
     let a = s .args in
     let w : length (l .cover) ≡ length (a .cover .now) = l .inv .2 ∙ t .kept .0 in
-    let k = still (a .scratch .now) (l .scratch) (length (a .cover .now)) (length (l .cover)) (a .n) (l .inv .1) w (s .pre .0) (s .pre .1 .0) in
+    let k = still (a .scratch .now) (l .scratch) (length (a .cover .now)) (length (l .cover)) (a .n) (l .inv .1) w (omega arith) (s .pre .0) in
     (k .0, (k .1, ((omega arith, omega (arith, w)), rows-small (edgesOf (a .scratch .now) (a .n)) (a .nonzero) (a .x) (a .y) (length (t .last .0)) (l .r) (l .cover) (l .inv .3) (omega arith))))
 
 -- src/cover.rt:64:9
