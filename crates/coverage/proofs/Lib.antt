@@ -7,3 +7,6 @@ pub mod Turn
 pub mod Tally
 pub mod Zeros
 pub mod Sampled
+pub mod Limits
+pub mod Telescope
+pub mod Outside
