@@ -10,3 +10,4 @@ pub mod Sampled
 pub mod Limits
 pub mod Telescope
 pub mod Outside
+pub mod Rectangles

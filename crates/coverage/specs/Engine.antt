@@ -2,17 +2,19 @@
 use Prim.Native.Nat.{ℕ, zero, suc, _+_, _*_, _-_, _≤_, _<_}
 use mathlib.Core.Path.{_≡_}
 use mathlib.Core.List.{List, [], _∷_, _++_}
-use mathlib.Core.Bool.{Bool, cond}
-use lib.Dec.{eqb}
+use mathlib.Core.Bool.{Bool, cond, _&&_}
+use lib.Dec.{eqb, leb}
 use lib.ListN.{length, getD, take, drop}
 use lib.IntN.{ℤ, pos, natAbs, _+ℤ_, _-ℤ_, _*ℤ_}
-use lib.Signed.{leZ}
+use lib.Signed.{leZ, ltZ}
 use Rattle.lists.specs.Lists.{tab}
 use Rattle.fixed.specs.Floor.{floorDiv}
+use Rattle.fixed.specs.Little.{i32At}
 use Rattle.path.specs.declared.Edge.{Edge}
 use Rattle.path.specs.Stored.{edgeAt, Small}
 use Rattle.coverage.specs.declared.Start.{Start}
 use Rattle.coverage.specs.declared.Taken.{Taken}
+use Rattle.coverage.specs.declared.Span.{Span}
 use Rattle.coverage.specs.Winding.{upward, spans, weight, sumOf, inside, one, tally}
 
 abbrev pub edge : ℤ → ℤ → ℤ → ℤ → Edge
@@ -91,3 +93,19 @@ takenAt nonZero s x = record { sum = running (at s) ((x + 1) * 4); count = tally
 pub record Tame (s : List ℤ) (n : ℕ) : Type 0 where
   pub each : (j : ℕ) → natAbs (at s j) ≤ 1000000
   pub sums : (j : ℕ) → j ≤ n → natAbs (running (at s) j) ≤ 1000000
+
+-- ---- scissors
+abbrev pub inSpan : Span → ℕ → Bool
+inSpan s x = leZ (s .start) (pos x) && ltZ (pos x) (s .end)
+
+abbrev pub noSpan : Span
+noSpan = record { start = pos 0; end = pos 0 }
+
+abbrev pub runOf : ℤ → ℤ → Span
+runOf start size = record { start = start; end = start +ℤ size }
+
+-- the columns that rectangle r of the n has in the row y
+unfoldable pub spanOf : List ℕ → ℕ → ℕ → ℕ → Span
+spanOf scissors n r y =
+    cond (leb n r) noSpan
+    (cond (inSpan (runOf (i32At scissors (16 * r + 4)) (i32At scissors (16 * r + 12))) y) (runOf (i32At scissors (16 * r)) (i32At scissors (16 * r + 8))) noSpan)

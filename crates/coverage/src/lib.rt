@@ -3,6 +3,7 @@ pub mod column;
 pub mod counts;
 pub mod cover;
 pub mod row;
+pub mod scissors;
 
 // Where an edge's count begins in a row of columns, and what it counts.
 pub struct Start {
@@ -14,4 +15,10 @@ pub struct Start {
 pub struct Taken {
     pub sum: i32,
     pub count: u8,
+}
+
+// A rectangle's columns in a row: from start up to end, which is left out.
+pub struct Span {
+    pub start: i64,
+    pub end: i64,
 }
