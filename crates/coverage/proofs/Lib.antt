@@ -6,7 +6,8 @@ pub mod Laid
 pub mod Turn
 pub mod Tally
 pub mod Zeros
-pub mod Sampled
+pub mod Cells
+pub mod Window
 pub mod Limits
 pub mod Telescope
 pub mod Outside

@@ -35,6 +35,9 @@ pub odd-no : (w : ℤ) → SFits w32 w → ofZ w32 (remZ w (pos 2)) ≡ 0 → na
 odd-no w f e = sym (abs-rem w) ∙ zero-yes w32 (remZ w (pos 2)) (omega (arith, mag-rem w (pos 2), f .sfits)) e
 
 -- ---- four columns
+pub four-counts : {p q r s e f g h : ℕ} → p ≡ e → q ≡ f → r ≡ g → s ≡ h → p + q + r + s ≡ e + f + g + h
+four-counts a b c d = rw (a, b, c, d)
+
 step : (f : ℕ → ℤ) (n m : ℕ) → m ≡ suc n → running f n +ℤ f n ≡ running f m
 step f n m e = sym (ap (running f) e)
 

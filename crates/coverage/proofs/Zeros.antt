@@ -17,7 +17,7 @@ zeros-drop k n =
     tab-ext (pos 0) (drop k (zeros n)) (n - k) (λ j. pos 0) (length-drop k (zeros n) ∙ ap (λ (z : ℕ). z - k) (tab-length n (λ j. pos 0)))
     (λ j h. getD-drop k (zeros n) j (pos 0) ∙ tab-at n (λ j. pos 0) (k + j) (pos 0) (omega arith))
 
-zeros-join : (m k : ℕ) → zeros m ++ zeros k ≡ zeros (m + k)
+pub zeros-join : (m k : ℕ) → zeros m ++ zeros k ≡ zeros (m + k)
 zeros-join m zero = append-nil (zeros m) ∙ ap zeros (sym (add-zero m))
 zeros-join m (suc k) = sym (append-assoc (zeros m) (zeros k) (pos 0 ∷ [])) ∙ ap (λ (t : List ℤ). t ++ (pos 0 ∷ [])) (zeros-join m k) ∙ ap zeros (sym (add-suc m k))
 
@@ -39,6 +39,13 @@ rest-zeroed l z b e =
     let n : length (take (length l - b) (drop b l)) ≡ length l - b = simp (length-take, length-drop) (omega arith) in
     let d : drop (length l - b) (drop b l) ≡ [] = ap (λ (k : ℕ). drop k (drop b l)) (sym (length-drop b l)) ∙ drop-length (drop b l) in
     rw (d, append-nil, e, n)
+
+-- a part of m numbers lent and given back as zeros
+pub part-zeroed : (l z : List ℤ) (b m : ℕ) → b + m ≤ length l → z ≡ zeros (length (take (b + m - b) (drop b l))) → take b l ++ (z ++ drop (b + m - b) (drop b l)) ≡ laid b m l (zeros m)
+part-zeroed l z b m h e =
+    let w : b + m - b ≡ m = omega arith in
+    let n : length (take m (drop b l)) ≡ m = simp (length-take, length-drop) (omega arith) in
+    rw (e, w, n)
 
 -- ---- a cleared scratch is ready, and its edges are what they were
 module _ (l : List ℤ) (n : ℕ) (h : n * 4 ≤ length l) where

@@ -1,8 +1,9 @@
 // Coverage: how many of a pixel's 16 samples lie inside a path.
 pub mod column;
-pub mod counts;
 pub mod cover;
-pub mod row;
+pub mod edges;
+pub mod fill;
+pub mod samples;
 pub mod scissors;
 
 // Where an edge's count begins in a row of columns, and what it counts.
@@ -14,6 +15,16 @@ pub struct Start {
 // The winding number after a pixel's four columns, and how many of the four are inside.
 pub struct Taken {
     pub sum: i32,
+    pub count: u8,
+}
+
+// A pixel: the winding numbers of its four sample rows at its right end, k of the pixels after it as long as nothing begins, and its own k.
+pub struct Cell {
+    pub a: i32,
+    pub b: i32,
+    pub c: i32,
+    pub d: i32,
+    pub full: u8,
     pub count: u8,
 }
 

@@ -6,31 +6,31 @@ use Rattle.coverage.proofs.cover.clear_sums.Statement.{statement}
 use Rattle.coverage.proofs.cover.clear_sums.Tie as tie
 use Rattle.coverage.proofs.cover.clear_sums.Reads as reads
 use Rattle.coverage.proofs.cover.clear_sums.Lts as lts
-use Rattle.coverage.proofs.cover.zero.Reads as zero-reads
+use Rattle.coverage.proofs.fill.zero_numbers.Reads as zero-numbers-reads
 
 -- src/cover.rt:73:14
 mul-at : tie.Need-mul-at
 mul-at c = search needs
 
 -- src/cover.rt:74:10
-mul-zero : tie.Need-mul-zero
-mul-zero c = search needs
+mul-zero-numbers : tie.Need-mul-zero-numbers
+mul-zero-numbers c = search needs
 
 -- src/cover.rt:74:10
-sub-zero : tie.Need-sub-zero
-sub-zero c = search needs
+sub-zero-numbers : tie.Need-sub-zero-numbers
+sub-zero-numbers c = search needs
 
 -- src/cover.rt:74:10
-part-zero-start : tie.Need-part-zero-start
-part-zero-start c = search needs
+part-zero-numbers-start : tie.Need-part-zero-numbers-start
+part-zero-numbers-start c = search needs
 
 -- src/cover.rt:74:10
-part-zero-end : tie.Need-part-zero-end
-part-zero-end c = search needs
+part-zero-numbers-end : tie.Need-part-zero-numbers-end
+part-zero-numbers-end c = search needs
 
 -- src/cover.rt:74:5
-zero-requires : tie.Need-zero-requires
-zero-requires c κs = search needs
+zero-numbers-requires : tie.Need-zero-numbers-requires
+zero-numbers-requires c κs = search needs
 
 -- src/cover.rt:69:1
 same-length : tie.Need-same-length
@@ -40,17 +40,17 @@ same-length c = search needs
 returns : tie.Need-returns
 returns c =
     let a = c .before .before .before .args in
-    rest-zeroed (a .scratch .now) (c .before .zero .last .0) (a .n * 4) (c .before .zero .ensures)
+    rest-zeroed (a .scratch .now) (c .before .zero-numbers .last .0) (a .n * 4) (c .before .zero-numbers .ensures)
 
 pub clear-sums-spec : {M : Type 1} → statement M
 clear-sums-spec =
     tie.close
     (tie.spec
     mul-at
-    mul-zero
-    sub-zero
-    part-zero-start
-    part-zero-end
-    zero-requires
+    mul-zero-numbers
+    sub-zero-numbers
+    part-zero-numbers-start
+    part-zero-numbers-end
+    zero-numbers-requires
     same-length
     returns)

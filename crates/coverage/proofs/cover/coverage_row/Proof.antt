@@ -1,106 +1,119 @@
 -- `coverage::cover::coverage_row` meets its contract. Assumes nothing.
 use mathlib.Core.Path.{_≡_, refl, sym, ap, ap₂, subst, _∙_}
 use mathlib.Core.List.{List}
-use Prim.Native.Nat.{ℕ, suc, _+_, _*_, _-_, _≤_, _<_}
+use Prim.Native.Nat.{ℕ, _+_, _*_, _-_, _≤_, _<_}
 use native.Mathlib.Omega.{arith}
-use borrow.Author.Needs.{needs}
-use lib.ListN.{length, getD}
+use lib.ListN.{length, take, drop}
 use lib.IntN.{ℤ}
-use Rattle.lists.specs.Lists.{tab}
-use Rattle.lists.proofs.Laws.{tab-length}
+use Rattle.lists.specs.Lists.{tab, over}
+use Rattle.lists.proofs.Laws.{tab-length, tab-all, over-length, part-length}
 use Rattle.path.specs.Stored.{edgesOf}
-use Rattle.coverage.specs.Engine.{laid, zeros, Edges}
-use Rattle.coverage.proofs.Sampled.{rowsOf, rows-small, rows-turn, rows-all, still}
-use Rattle.coverage.specs.Winding.{winding, sample, tally}
+use Rattle.coverage.specs.Winding.{coverage}
+use Rattle.coverage.specs.Engine.{Ready}
+use Rattle.coverage.proofs.Window.{kOf, row-turn}
+use borrow.Author.Needs.{needs}
 use Rattle.coverage.proofs.cover.coverage_row.Statement.{statement}
 use Rattle.coverage.proofs.cover.coverage_row.Tie as tie
 use Rattle.coverage.proofs.cover.coverage_row.Reads as reads
 use Rattle.coverage.proofs.cover.coverage_row.Lts as lts
-use Rattle.coverage.proofs.cover.clear.Reads as clear-reads
-use Rattle.coverage.proofs.cover.sample_row.Reads as sample-row-reads
+use Rattle.coverage.proofs.cover.coverage_run.Reads as coverage-run-reads
+use Rattle.coverage.proofs.cover.least.Reads as least-reads
+use Rattle.coverage.proofs.fill.zero_counts.Reads as zero-counts-reads
 
 abbrev Inv-loop : tie.InvT-loop
-Inv-loop scratch₀ n x y cover₀ nonZero c r₀ scratch cover r =
-    (r ≤ 4) × (scratch ≡ scratch₀) × (length cover ≡ length cover₀) × (cover ≡ tab (length cover₀) (rowsOf (edgesOf scratch₀ n) nonZero x y r))
+Inv-loop scratch₀ n x y cover₀ nonzero most i₀ scratch cover i =
+    (i ≤ length cover₀) × (scratch ≡ scratch₀) × (length cover ≡ length cover₀) × (cover ≡ over (tab i (kOf (edgesOf scratch₀ n) nonzero x y)) cover₀)
 
 abbrev μ-loop : tie.MeasureT-loop
-μ-loop scratch₀ n x y cover₀ nonZero c r₀ scratch cover r = 4 - r
+μ-loop scratch₀ n x y cover₀ nonzero most i₀ scratch cover i = length cover₀ - i
 
--- src/cover.rt:59:5
-clear-requires : tie.Need-clear-requires Inv-loop μ-loop
-clear-requires c κs = search needs
+-- src/cover.rt:44:5
+zero-counts-requires : tie.Need-zero-counts-requires Inv-loop μ-loop
+zero-counts-requires c κs = search needs
 
--- src/cover.rt:60:13
-mul-c : tie.Need-mul-c Inv-loop μ-loop
-mul-c c = search needs
+-- src/cover.rt:45:33
+mul-most : tie.Need-mul-most Inv-loop μ-loop
+mul-most c = search needs
 
--- src/cover.rt:62:5
+-- src/cover.rt:45:17
+sub-most : tie.Need-sub-most Inv-loop μ-loop
+sub-most c = search needs
+
+-- src/cover.rt:47:5
 loop-holds : tie.Need-loop-holds Inv-loop μ-loop
-loop-holds c =
-    let t = c .before .before .clear in
-    (search needs, refl, refl, t .ensures ∙ ap (λ (n : ℕ). tab n (λ j. 0)) (sym (t .kept .0)))
+loop-holds c = (search needs, refl, refl, refl)
 
--- src/cover.rt:63:32
-mul-sample-row : tie.Need-mul-sample-row Inv-loop μ-loop
-mul-sample-row c = search needs
+-- src/cover.rt:48:25
+add-least : tie.Need-add-least Inv-loop μ-loop
+add-least c = search needs
 
--- src/cover.rt:63:32
-add-sample-row : tie.Need-add-sample-row Inv-loop μ-loop
-add-sample-row c = search needs
+-- src/cover.rt:48:13
+least-requires : tie.Need-least-requires Inv-loop μ-loop
+least-requires c κs = search needs
 
--- src/cover.rt:63:9
-sample-row-requires : tie.Need-sample-row-requires Inv-loop μ-loop
-sample-row-requires c κs =
-    let s = c .before .before .before .before .before .before .before .before .before in
-    let l = c .before .before .before .loop in
-    let t = c .before .before .before .before .before .before .clear in
-    let a = s .args in
-    let w : length (l .cover) ≡ length (a .cover .now) = l .inv .2 ∙ t .kept .0 in
-    let k = still (a .scratch .now) (l .scratch) (length (a .cover .now)) (length (l .cover)) (a .n) (l .inv .1) w (omega arith) (s .pre .0) in
-    (k .0, (k .1, ((omega arith, omega (arith, w)), rows-small (edgesOf (a .scratch .now) (a .n)) (a .nonzero) (a .x) (a .y) (length (t .last .0)) (l .r) (l .cover) (l .inv .3) (omega arith))))
+-- src/cover.rt:49:34
+add-coverage-run : tie.Need-add-coverage-run Inv-loop μ-loop
+add-coverage-run c = search needs
 
--- src/cover.rt:64:9
-add-r : tie.Need-add-r Inv-loop μ-loop
-add-r c = search needs
+-- src/cover.rt:49:44
+sub-coverage-run : tie.Need-sub-coverage-run Inv-loop μ-loop
+sub-coverage-run c = search needs
 
--- src/cover.rt:62:5
+-- src/cover.rt:49:44
+part-coverage-run-start : tie.Need-part-coverage-run-start Inv-loop μ-loop
+part-coverage-run-start c = search needs
+
+-- src/cover.rt:49:44
+part-coverage-run-end : tie.Need-part-coverage-run-end Inv-loop μ-loop
+part-coverage-run-end c = search needs
+
+-- src/cover.rt:49:9
+coverage-run-requires : tie.Need-coverage-run-requires Inv-loop μ-loop
+coverage-run-requires c κs =
+    let s = c .before .before .before .before .before .before .before .before .before .before in
+    let l = c .before .before .before .before .loop in
+    let e = c .before .before .least .result in
+    let w = part-length (l .cover) (l .i) e (omega arith) (omega (arith, l .inv .2)) in
+    (subst (λ (t : List ℤ). Ready t (s .args .n)) (sym (l .inv .1)) (s .pre .0), (s .pre .1 .0, omega (arith, w), omega (arith, w, ap length (l .inv .1), s .pre .0 .few, s .pre .0 .room)))
+
+-- src/cover.rt:47:5
 loop-less : tie.Need-loop-less Inv-loop μ-loop
 loop-less c = search needs
 
--- src/cover.rt:62:5
+-- src/cover.rt:47:5
 loop-again : tie.Need-loop-again Inv-loop μ-loop
 loop-again c =
-    let s = c .before .before .before .before .before .before .before .before .before .before .before .before .before in
-    let l = c .before .before .before .before .before .before .before .loop in
-    let t = c .before .before .before .before .before .before .before .before .before .before .clear in
-    let g = c .before .before .before .sample-row in
-    let a = s .args in (
-      search needs,
+    let s = c .before .before .before .before .before .before .before .before .before .before .before .before .before .before in
+    let a = s .args in
+    let l = c .before .before .before .before .before .before .before .before .loop in
+    let d = c .before .before .before .before .before .before .before .before .before .before .before .zero-counts .last .0 in
+    let e = c .before .before .before .before .before .before .least .result in
+    let g = c .before .before .before .coverage-run in
+    let es = edgesOf (a .scratch .now) (a .n) in
+    let o = row-turn es (a .nonzero) (a .x) (a .y) (l .cover) d (g .last .1 .1 .1 .1 .0) (l .i) e (omega arith) (omega (arith, l .inv .2)) (l .inv .2) (l .inv .3)
+    (g .ensures .1 ∙ ap (λ (t : List ℤ). tab (length (take (e - l .i) (drop (l .i) (l .cover)))) (λ j. coverage (edgesOf t (a .n)) (a .nonzero) (a .x + l .i + j) (a .y))) (l .inv .1)) in (
+      omega (arith, l .inv .2),
       g .ensures .0 ∙ l .inv .1,
-      g .kept .1 .1 .1 .1 .0 ∙ l .inv .2,
-      rows-turn (edgesOf (a .scratch .now) (a .n)) (a .nonzero) (a .x) (a .y) (length (t .last .0)) (l .r) (l .cover) _ (l .inv .3)
-          (g .ensures .1 ∙ ap (λ (u : List ℤ). tab (length (l .cover)) (λ i. getD (l .cover) i 0 + tally (a .nonzero) (λ j. winding (edgesOf u (a .n)) (sample (4 * a .x + j)) (sample (4 * a .y + l .r))) i)) (l .inv .1)),
+      ap length o ∙ over-length (tab e (kOf es (a .nonzero) (a .x) (a .y))) d (omega (arith, tab-length e (kOf es (a .nonzero) (a .x) (a .y)), l .inv .2)),
+      o,
     )
 
--- src/cover.rt:52:1
+-- src/cover.rt:31:1
 same-length : tie.Need-same-length Inv-loop μ-loop
 same-length c = search needs
 
--- src/cover.rt:52:1
+-- src/cover.rt:31:1
 same-length-2 : tie.Need-same-length-2 Inv-loop μ-loop
-same-length-2 c = c .before .loop .inv .2 ∙ c .before .before .before .before .clear .kept .0
+same-length-2 c = search needs
 
--- src/cover.rt:52:1
+-- src/cover.rt:31:1
 returns : tie.Need-returns Inv-loop μ-loop
 returns c =
-    let s = c .before .before .before .before .before .before .before in
+    let a = c .before .before .before .before .before .before .before .args in
     let l = c .before .loop in
-    let t = c .before .before .before .before .clear in
-    let a = s .args in (
-      l .inv .1,
-      rows-all (edgesOf (a .scratch .now) (a .n)) (a .nonzero) (a .x) (a .y) (length (a .cover .now)) (l .r) (l .cover)
-          (l .inv .3 ∙ ap (λ (n : ℕ). tab n (rowsOf (edgesOf (a .scratch .now) (a .n)) (a .nonzero) (a .x) (a .y) (l .r))) (t .kept .0)) (omega arith),
-    )
+    let z = c .before .before .before .before .zero-counts in
+    let k : length (z .last .0) ≡ length (a .cover .now) = z .kept .0 in
+    (l .inv .1, tab-all (kOf (edgesOf (a .scratch .now) (a .n)) (a .nonzero) (a .x) (a .y)) (l .cover) (z .last .0) (l .i) (length (a .cover .now)) (l .inv .3) (omega (arith, k)) (sym k))
 
 pub coverage-row-spec : {M : Type 1} → statement M
 coverage-row-spec =
@@ -108,13 +121,17 @@ coverage-row-spec =
     (tie.spec
     Inv-loop
     μ-loop
-    clear-requires
-    mul-c
+    zero-counts-requires
+    mul-most
+    sub-most
     loop-holds
-    mul-sample-row
-    add-sample-row
-    sample-row-requires
-    add-r
+    add-least
+    least-requires
+    add-coverage-run
+    sub-coverage-run
+    part-coverage-run-start
+    part-coverage-run-end
+    coverage-run-requires
     loop-less
     loop-again
     same-length

@@ -1,4 +1,4 @@
--- `coverage::counts::take_four` meets its contract. Assumes nothing.
+-- `coverage::samples::take_four` meets its contract. Assumes nothing.
 use mathlib.Core.Path.{_≡_, refl, ap, ap₂, _∙_}
 use mathlib.Core.Bool.{Bool}
 use borrow.Author.Needs.{needs}
@@ -11,8 +11,9 @@ use Rattle.coverage.specs.declared.Taken.{Taken}
 use Rattle.coverage.specs.Winding.{one, inside}
 use Rattle.coverage.specs.Engine.{takenFrom}
 use Rattle.coverage.proofs.Begin.{sized}
-use Rattle.coverage.proofs.counts.take_four.Statement.{statement}
-use Rattle.coverage.proofs.counts.take_four.Tie as tie
+use Rattle.coverage.proofs.Tally.{four-counts}
+use Rattle.coverage.proofs.samples.take_four.Statement.{statement}
+use Rattle.coverage.proofs.samples.take_four.Tie as tie
 
 abbrev za : tie.Start → Num
 za c = add (sized 1000000 (c .args .z) tt (c .pre .0)) (sized 1000000 (c .args .a) tt (c .pre .1))
@@ -26,18 +27,13 @@ zc c = add (keep w32 (zb c) tt) (sized 1000000 (c .args .c) tt (c .pre .3))
 abbrev zd : tie.Start → Num
 zd c = add (keep w32 (zc c) tt) (sized 1000000 (c .args .d) tt (c .pre .4))
 
-four : (p q r s p' q' r' s' : ℕ) → p ≡ p' → q ≡ q' → r ≡ r' → s ≡ s' → p + q + r + s ≡ p' + q' + r' + s'
-four p q r s p' q' r' s' a b c d = rw (a, b, c, d)
-
 returns : tie.Need-returns
 unfolding takenFrom
 returns c =
     let s = c .before .before .before .before in
-    let inner : Num → ℕ = λ n. one (inside (s .args .nonzero) (n .int)) in
     let f : ℤ → ℕ = λ z. one (inside (s .args .nonzero) z) in (
       ap₂ (λ (z : ℤ) (n : ℕ). record { sum = z; count = n }) (keep w32 (zd s) tt .same)
-          (four (c .before .before .before .one-inside .result) (c .before .before .one-inside2 .result) (c .before .one-inside3 .result) (c .one-inside4 .result)
-          (inner (za s)) (inner (zb s)) (inner (zc s)) (inner (zd s))
+          (four-counts
           (c .before .before .before .one-inside .ensures .0 ∙ ap f (keep w32 (za s) tt .same))
           (c .before .before .one-inside2 .ensures .0 ∙ ap f (keep w32 (zb s) tt .same))
           (c .before .one-inside3 .ensures .0 ∙ ap f (keep w32 (zc s) tt .same))
