@@ -1,19 +1,18 @@
 -- Where an edge's count begins, by the tests of the code.
-use mathlib.Core.Path.{_≡_, refl, sym, ap, ap₂, subst, _∙_}
-use mathlib.Core.Bool.{Bool, true, false, not, cond}
-use Prim.Native.Nat.{ℕ, zero, suc, _+_, _^_, _≤_, _<_}
+use mathlib.Core.Path.{_≡_, refl, sym, subst}
+use mathlib.Core.Bool.{Bool, true, false, cond}
+use Prim.Native.Nat.{ℕ, _≤_}
 use native.Mathlib.Omega.{arith}
 use lib.Dec.{T, ltb}
 use Rattle.fixed.proofs.Means.{Num, small}
 use lib.IntN.{ℤ, pos, negsuc, natAbs}
-use lib.Signed.{leZ, ltZ, _≤ℤ_, _<ℤ_, leZ-yes, ltZ-yes, clashℤ}
+use lib.Signed.{_≤ℤ_, ltZ-yes, clashℤ}
 use mir.Syntax.{w32}
-use mir.Val.{SFits, toZ, ofZ}
+use mir.Val.{toZ, ofZ}
 use mir.Facts.{toZ-ofZ}
-use Rattle.fixed.proofs.Within.{Within, fits}
+use Rattle.fixed.proofs.Within.{fits}
 use Rattle.fixed.proofs.Poly.{var, le, from-lt}
 use Rattle.path.specs.declared.Edge.{Edge}
-use Rattle.coverage.specs.declared.Start.{Start}
 use Rattle.coverage.specs.Winding.{rises, turned, upward, spansUp, spans, sign, weight}
 use Rattle.coverage.specs.Engine.{firstColumn, place, startAt, startOf}
 use Rattle.fixed.proofs.Tests.{is-true, is-false}

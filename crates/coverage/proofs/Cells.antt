@@ -1,21 +1,21 @@
 -- Pixel after pixel along a row: the winding numbers of four sample rows, and k.
 use mathlib.Core.Path.{_≡_, refl, sym, ap, ap₂, subst, _∙_}
-use mathlib.Core.List.{List, [], _∷_, _++_, append-assoc}
+use mathlib.Core.List.{List, _++_}
 use mathlib.Core.Bool.{Bool, true, false, cond}
-use Prim.Native.Nat.{ℕ, zero, suc, _+_, _*_, _-_, _/_, _≤_, _<_}
+use Prim.Native.Nat.{ℕ, suc, _+_, _*_, _-_, _/_, _≤_, _<_}
 use native.Mathlib.Omega.{arith}
 use lib.Dec.{eqb}
 use borrow.Author.Tests.{eqb-true}
-use lib.IntN.{ℤ, pos, natAbs, _+ℤ_, +ℤ-idr}
+use lib.IntN.{ℤ, pos, natAbs, +ℤ-idr}
 use lib.ListN.{length, getD, take, drop, length-take, length-drop, take-append-drop}
 use lib.Seq.{getD-append-add, getD-drop, getD-take}
-use Rattle.lists.specs.Lists.{tab, over, total}
+use Rattle.lists.specs.Lists.{over}
 use Rattle.lists.proofs.Laws.{tab-length, tab-ext, over-length, over-part}
 use Rattle.coverage.specs.declared.Taken.{Taken}
 use Rattle.coverage.specs.declared.Cell.{Cell}
 use Rattle.coverage.specs.Winding.{inside, one, tally}
 use Rattle.coverage.specs.Engine.{at, laid, zeros, running, rowOf, takenFrom, lineFrom, fullOf, cellOf, cellFrom, cellAfter, pixelOf, Bounded, Marked, Tame}
-use Rattle.coverage.proofs.Tally.{taken-law, four-counts}
+use Rattle.coverage.proofs.Tally.{taken-law}
 use Rattle.coverage.proofs.Zeros.{zeros-join}
 
 -- ---- one sample row of a pixel

@@ -1,19 +1,19 @@
 -- The first sample column at or right of a crossing: of n over 64 d, rounded up.
-use mathlib.Core.Path.{_≡_, refl, sym, ap, ap₂, subst, _∙_}
-use mathlib.Core.Bool.{Bool, true, false, not, cond}
-use Prim.Native.Nat.{ℕ, zero, suc, _+_, _*_, _-_, _≤_, _<_}
+use mathlib.Core.Path.{_≡_, refl, sym, ap₂, subst, _∙_}
+use mathlib.Core.Bool.{Bool, true, false, cond}
+use Prim.Native.Nat.{ℕ, _+_, _*_, _-_, _≤_, _<_}
 use native.Mathlib.Nat.{lt-of-mul-lt-mul-right, mul-le-mul-right}
 use native.Mathlib.Omega.{arith}
-use lib.Dec.{T, leb, ltb, leb→le, le→leb, leb·zero}
+use lib.Dec.{T, leb, leb→le, le→leb, leb·zero}
 use borrow.Author.Tests.{le-leb, lt-leb, leb-true, leb-false}
 use lib.IntN.{ℤ, pos, negsuc, natAbs, _+ℤ_, _-ℤ_, _*ℤ_}
-use lib.Signed.{leZ, ltZ, _≤ℤ_, _<ℤ_, leZ-yes, ltZ-yes, ltZ-no, nonNeg}
+use lib.Signed.{leZ, _≤ℤ_, _<ℤ_, leZ-yes, nonNeg}
 use Rattle.fixed.specs.Floor.{floorDiv}
-use Rattle.fixed.proofs.Poly.{Poly, up, dn, var, num, neg, _⊕_, _⊖_, _⊗_, eq, le, lt, from-eq, from-le, from-lt}
+use Rattle.fixed.proofs.Poly.{up, dn, var, num, _⊕_, _⊖_, _⊗_, le, lt, from-le, from-lt}
 use Rattle.fixed.proofs.Round.{from-floor}
 use Rattle.fixed.proofs.Sign.{is-positive, above-zero}
 use Rattle.path.specs.declared.Edge.{Edge}
-use Rattle.coverage.specs.Winding.{spansUp, leftUp, sample}
+use Rattle.coverage.specs.Winding.{leftUp, sample}
 use Rattle.coverage.specs.Engine.{ceilDiv, firstColumn, place}
 use Rattle.fixed.proofs.Tests.{same-test}
 

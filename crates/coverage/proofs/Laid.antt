@@ -1,16 +1,16 @@
 -- A run of numbers laid into a list: what is read of it, what is stored into it.
-use mathlib.Core.Path.{_≡_, refl, sym, ap, ap₂, subst, _∙_}
-use mathlib.Core.List.{List, [], _∷_, _++_, append-assoc}
-use mathlib.Core.Bool.{Bool, true, false, cond}
-use Prim.Native.Nat.{ℕ, zero, suc, _+_, _*_, _-_, _≤_, _<_}
+use mathlib.Core.Path.{_≡_, sym, ap, ap₂, _∙_}
+use mathlib.Core.List.{List, [], _∷_, _++_}
+use mathlib.Core.Bool.{Bool, cond}
+use Prim.Native.Nat.{ℕ, _+_, _≤_, _<_}
 use native.Mathlib.Omega.{arith}
 use native.Mathlib.Nat.{suc-add, zero-add}
 use native.Mathlib.Decide.{ℕ-discrete}
 use lib.Dec.{eqb}
 use borrow.Author.Tests.{eq-eqb, ne-eqb}
 use lib.IntN.{ℤ, pos, _+ℤ_, +ℤ-idr}
-use lib.ListN.{length, getD, set, take, drop, length-append, length-take, length-drop, length-set, List·getD-append}
-use lib.Seq.{length-take-le, getD-append-add, getD-take, getD-set-same, getD-set-other, set-append-left, take-at, drop-at, drop-drop}
+use lib.ListN.{length, getD, set, take, drop, length-set, List·getD-append}
+use lib.Seq.{length-take-le, getD-append-add, getD-take, getD-set-same, getD-set-other, set-append-left, take-at, drop-at}
 use Rattle.lists.specs.Lists.{tab}
 use Rattle.lists.proofs.Laws.{tab-length, tab-at, tab-ext}
 use Rattle.coverage.specs.Engine.{laid}
@@ -22,9 +22,6 @@ set-append-right (x ∷ xs) ys n a = rw (suc-add, set-append-right xs ys n a)
 module _ (b m : ℕ) (l q : List ℤ) (h : b + m ≤ length l) (e : length q ≡ m) where
   front : length (take b l) ≡ b
   front = length-take-le b l (omega arith)
-
-  pub laid-length : length (laid b m l q) ≡ length l
-  laid-length = simp (length-append, length-take, length-drop) (omega arith)
 
   pub laid-before : (j : ℕ) (d : ℤ) → j < b → getD (laid b m l q) j d ≡ getD l j d
   laid-before j d k = List·getD-append (take b l) (q ++ drop m (drop b l)) d j (rw front k) ∙ getD-take b l j d k

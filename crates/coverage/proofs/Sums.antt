@@ -1,19 +1,19 @@
 -- Sums over edges and over columns, and their exchange.
 use mathlib.Core.Path.{_≡_, refl, sym, ap, ap₂, subst, _∙_}
 use mathlib.Core.List.{List, [], _∷_, _++_}
-use mathlib.Core.Bool.{Bool, true, false, not, cond}
-use Prim.Native.Nat.{ℕ, zero, suc, _+_, _*_, _-_, _≤_, _<_}
+use mathlib.Core.Bool.{Bool, true, false, cond}
+use Prim.Native.Nat.{ℕ, zero, suc, _+_, _≤_, _<_}
 use native.Mathlib.Omega.{arith}
 use native.Mathlib.Decide.{ℕ-discrete}
 use lib.Dec.{T, leb, ltb, eqb, leb·suc-suc}
-use borrow.Author.Tests.{le-leb, lt-leb, lt-ltb, le-ltb, eq-eqb, ne-eqb, leb-true, leb-false, ltb-true, ltb-false}
+use borrow.Author.Tests.{lt-ltb, le-ltb, eq-eqb, ne-eqb, ltb-true, ltb-false}
 use lib.ListN.{length}
-use lib.IntN.{ℤ, pos, negsuc, natAbs, _+ℤ_, _-ℤ_, _*ℤ_, +ℤ-assoc, +ℤ-idl, +ℤ-idr, +ℤ-comm}
+use lib.IntN.{ℤ, pos, natAbs, _+ℤ_, +ℤ-assoc, +ℤ-idl, +ℤ-idr}
 use lib.Signed.{leZ, ltZ, _≤ℤ_, _<ℤ_, leZ-yes, ltZ-yes}
-use Rattle.fixed.proofs.Poly.{Poly, var, num, _⊕_, eq, lt, from-le, from-lt}
+use Rattle.fixed.proofs.Poly.{var, _⊕_, eq, lt, from-le, from-lt}
 use Rattle.fixed.proofs.Within.{Within, within-add}
 use Rattle.path.specs.declared.Edge.{Edge}
-use Rattle.coverage.specs.Winding.{upward, spansUp, leftUp, spans, atOrLeft, sign, rises, sumOf, weight, counts, winding, sample}
+use Rattle.coverage.specs.Winding.{upward, spansUp, leftUp, spans, atOrLeft, sign, sumOf, weight, counts, winding, sample}
 use Rattle.coverage.specs.Engine.{firstColumn, place, startAt, starts, running}
 use Rattle.fixed.proofs.Tests.{both-left, both-right}
 use Rattle.coverage.proofs.Crossing.{first-column-law, place-law}

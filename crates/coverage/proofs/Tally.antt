@@ -1,18 +1,15 @@
 -- Samples inside, four columns at a time.
-use mathlib.Core.Path.{_≡_, refl, sym, ap, ap₂, subst, _∙_}
-use mathlib.Core.List.{List}
-use mathlib.Core.Bool.{Bool, true, false, not, cond}
-use Prim.Native.Nat.{ℕ, zero, suc, _+_, _*_, _/_, _%_, _≤_, _<_}
+use mathlib.Core.Path.{_≡_, refl, sym, ap, _∙_}
+use mathlib.Core.Bool.{Bool, true, false}
+use Prim.Native.Nat.{ℕ, zero, suc, _+_, _*_, _/_, _%_, _≤_}
 use native.Mathlib.Omega.{arith}
 use native.Mathlib.Nat.{zero-add}
 use lib.IntN.{ℤ, pos, negsuc, negℤ, natAbs, _+ℤ_}
-use lib.Signed.{mag, remZ, quotZ, mag-rem}
+use lib.Signed.{remZ, quotZ, mag-rem}
 use mir.Syntax.{w32}
 use mir.Val.{SFits, ofZ}
-use Rattle.fixed.proofs.Within.{Within, fits}
+use Rattle.fixed.proofs.Within.{fits}
 use Rattle.fixed.proofs.Signed.{zero-yes, zero-no}
-use Rattle.coverage.specs.declared.Taken.{Taken}
-use Rattle.lists.specs.Lists.{total}
 use Rattle.coverage.specs.Winding.{inside, one, tally}
 use Rattle.coverage.specs.Engine.{takenFrom, running, at}
 

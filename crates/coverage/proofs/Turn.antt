@@ -2,13 +2,12 @@
 use mathlib.Core.Path.{_≡_, refl, sym, ap, ap₂, subst, _∙_}
 use mathlib.Core.List.{List, [], _∷_, _++_}
 use mathlib.Core.Bool.{Bool, true, false, cond, _&&_}
-use Prim.Native.Nat.{ℕ, zero, suc, _+_, _*_, _-_, _/_, _%_, _≤_, _<_}
+use Prim.Native.Nat.{ℕ, _+_, _*_, _-_, _/_, _%_, _≤_, _<_}
 use native.Mathlib.Omega.{arith}
 use native.Mathlib.Numerals.{add-one}
-use native.Mathlib.Nat.{le-trans, le-of-eq}
 use native.Mathlib.Decide.{ℕ-discrete}
 use lib.Dec.{T, eqb, leb, ltb}
-use borrow.Author.Tests.{leb-true, leb-false, ltb-true, ltb-false, lt-ltb, le-ltb, eq-eqb, ne-eqb}
+use borrow.Author.Tests.{leb-false, ltb-true, ltb-false, lt-ltb, le-ltb, eq-eqb, ne-eqb}
 use lib.IntN.{ℤ, pos, negsuc, natAbs, _+ℤ_, _-ℤ_, +ℤ-idr}
 use lib.Signed.{leZ, ltZ, leZ-yes, ltZ-yes}
 use lib.ListN.{length, getD, set, length-set}
@@ -21,7 +20,7 @@ use Rattle.fixed.proofs.Tests.{is-true, is-false, both-left, both-right}
 use Rattle.path.specs.declared.Edge.{Edge}
 use Rattle.path.specs.Stored.{edgeAt, edgesOf, Small}
 use Rattle.coverage.specs.declared.Start.{Start}
-use Rattle.coverage.specs.Winding.{upward, spans, rises, sign, weight, sumOf, sample}
+use Rattle.coverage.specs.Winding.{upward, spans, rises, sign, weight, sample}
 use Rattle.coverage.specs.Engine.{laid, zeros, place, firstColumn, startAt, starts, startOf, sumsAt, missed, bumped, withSums, Edges, Marked}
 use Rattle.coverage.proofs.Sums.{sum-more, sum-small}
 use Rattle.coverage.proofs.Telescope.{below, weight-law}
@@ -217,10 +216,6 @@ module _ (n m : ℕ) (l q : List ℤ) (fit : n * 4 + m ≤ length l) (e : length
 
   pub edges-stay : (i : ℕ) → i ≤ n → edgesOf (laid (n * 4) m l q) i ≡ edgesOf l i
   edges-stay i h = tab-same i (edgeAt (laid (n * 4) m l q)) (edgeAt l) (λ j k. edge-stays j (omega arith))
-
-pub at-le : (c k : ℕ) (Y : ℤ) (e : Edge) (s : Start) → s ≡ startOf c k Y e → s .at ≤ k
-unfolding startOf
-at-le c k Y e s q = subst (λ (z : Start). z .at ≤ k) (sym q) (start-le c k Y e)
 
 pub by-small : (c k : ℕ) (Y : ℤ) (e : Edge) (s : Start) → s ≡ startOf c k Y e → natAbs (s .by) ≤ 1
 unfolding startOf

@@ -2,8 +2,8 @@
 use crate::Start;
 use path::Edge;
 ghost use mathlib.Core.Path.{_≡_};
-ghost use Prim.Native.Nat.{ℕ, _+_, _*_, _^_, _<_, _≤_};
-ghost use lib.IntN.{pos, natAbs};
+ghost use Prim.Native.Nat.{_+_, _*_, _^_, _<_, _≤_};
+ghost use lib.IntN.{natAbs};
 ghost use lib.Signed.{ltZ, leZ, _<ℤ_};
 ghost use mathlib.Core.Bool.{_&&_};
 ghost use Rattle.path.specs.Stored.{Small};

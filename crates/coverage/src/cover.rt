@@ -11,7 +11,7 @@ use crate::fill::zero_counts;
 use crate::fill::zero_numbers;
 use crate::samples::take_row;
 ghost use mathlib.Core.Path.{_≡_};
-ghost use Prim.Native.Nat.{ℕ, _+_, _*_, _<_, _≤_, min};
+ghost use Prim.Native.Nat.{_+_, _*_, _<_, _≤_, min};
 ghost use lib.ListN.{length};
 ghost use Rattle.lists.specs.Lists.{tab};
 ghost use Rattle.path.specs.Stored.{edgesOf};

@@ -1,19 +1,16 @@
 -- `coverage::column::first_column` meets its contract: no step overflows, by the sizes of the coordinates. Assumes nothing.
-use mathlib.Core.Path.{_≡_, refl, sym, ap, ap₂, subst, _∙_}
+use mathlib.Core.Path.{refl, sym, ap₂, subst, _∙_}
 use lib.IntN.{ℤ, pos, natAbs}
 use lib.Signed.{_<ℤ_}
 use Rattle.fixed.specs.Floor.{floorDiv}
 use Rattle.coverage.specs.Engine.{edge}
 use Rattle.coverage.proofs.Crossing.{wide, column-as}
-use borrow.Author.Needs.{needs, sfits-of}
+use borrow.Author.Needs.{sfits-of}
 use mir.Syntax.{w32, w64}
 use mir.Facts.{toZ-ofZ}
 use Rattle.fixed.proofs.Means.{Num, need, keep, small, lit, add, sub, mul}
 use Rattle.coverage.proofs.column.first_column.Statement.{statement}
 use Rattle.coverage.proofs.column.first_column.Tie as tie
-use Rattle.coverage.proofs.column.first_column.Reads as reads
-use Rattle.coverage.proofs.column.first_column.Lts as lts
-use Rattle.fixed.proofs.floor.floor_div.Reads as floor-div-reads
 
 abbrev x0 : tie.Start → Num
 x0 c = small w32 8388608 (c .args .x0) (c .fits .x0) (record { size = c .pre .1 .0 })

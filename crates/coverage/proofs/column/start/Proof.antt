@@ -1,25 +1,16 @@
 -- `coverage::column::start` meets its contract. Assumes nothing.
-use mathlib.Core.Path.{_≡_, refl, sym, ap, ap₂, subst, _∙_}
-use mathlib.Core.Bool.{Bool, true, false}
+use mathlib.Core.Path.{_≡_, sym, ap, subst, _∙_}
 use Prim.Native.Nat.{ℕ}
 use borrow.Author.Needs.{needs, sfits-of}
 use lib.Dec.{T}
-use lib.IntN.{ℤ, pos, negsuc}
-use mir.Syntax.{w32, w64}
+use lib.IntN.{pos, negsuc}
 use mir.Facts.{toZ-ofZ}
-use Rattle.path.specs.declared.Edge.{Edge}
 use Rattle.coverage.specs.Winding.{spansUp, turned}
-use Rattle.path.specs.Stored.{Small}
 use Rattle.coverage.specs.Engine.{firstColumn, place}
 use Rattle.coverage.proofs.Begin.{clean, start-up, start-down, start-none}
 use Rattle.coverage.proofs.Sums.{span-rises}
 use Rattle.coverage.proofs.column.start.Statement.{statement}
 use Rattle.coverage.proofs.column.start.Tie as tie
-use Rattle.coverage.proofs.column.start.Reads as reads
-use Rattle.coverage.proofs.column.start.Lts as lts
-use Rattle.coverage.proofs.column.between.Reads as between-reads
-use Rattle.coverage.proofs.column.first_column.Reads as first-column-reads
-use Rattle.coverage.proofs.column.place_in.Reads as place-in-reads
 
 -- what the two tests tell, of the edge and of the edge turned
 up : (c : tie.After-between) → c .between .result ≡ spansUp (c .before .before .before .before .before .args .e) (c .before .before .before .before .before .args .y)

@@ -4,39 +4,28 @@ use Rattle.coverage.proofs.Zeros.{rest-zeroed}
 use borrow.Author.Needs.{needs}
 use Rattle.coverage.proofs.cover.clear_sums.Statement.{statement}
 use Rattle.coverage.proofs.cover.clear_sums.Tie as tie
-use Rattle.coverage.proofs.cover.clear_sums.Reads as reads
-use Rattle.coverage.proofs.cover.clear_sums.Lts as lts
-use Rattle.coverage.proofs.fill.zero_numbers.Reads as zero-numbers-reads
 
--- src/cover.rt:73:14
 mul-at : tie.Need-mul-at
 mul-at c = search needs
 
--- src/cover.rt:74:10
 mul-zero-numbers : tie.Need-mul-zero-numbers
 mul-zero-numbers c = search needs
 
--- src/cover.rt:74:10
 sub-zero-numbers : tie.Need-sub-zero-numbers
 sub-zero-numbers c = search needs
 
--- src/cover.rt:74:10
 part-zero-numbers-start : tie.Need-part-zero-numbers-start
 part-zero-numbers-start c = search needs
 
--- src/cover.rt:74:10
 part-zero-numbers-end : tie.Need-part-zero-numbers-end
 part-zero-numbers-end c = search needs
 
--- src/cover.rt:74:5
 zero-numbers-requires : tie.Need-zero-numbers-requires
 zero-numbers-requires c κs = search needs
 
--- src/cover.rt:69:1
 same-length : tie.Need-same-length
 same-length c = search needs
 
--- src/cover.rt:69:1
 returns : tie.Need-returns
 returns c =
     let a = c .before .before .before .args in

@@ -1,7 +1,7 @@
 -- `coverage::cover::coverage_row` meets its contract. Assumes nothing.
-use mathlib.Core.Path.{_≡_, refl, sym, ap, ap₂, subst, _∙_}
+use mathlib.Core.Path.{_≡_, refl, sym, ap, subst, _∙_}
 use mathlib.Core.List.{List}
-use Prim.Native.Nat.{ℕ, _+_, _*_, _-_, _≤_, _<_}
+use Prim.Native.Nat.{_+_, _-_, _≤_}
 use native.Mathlib.Omega.{arith}
 use lib.ListN.{length, take, drop}
 use lib.IntN.{ℤ}
@@ -14,11 +14,6 @@ use Rattle.coverage.proofs.Window.{kOf, row-turn}
 use borrow.Author.Needs.{needs}
 use Rattle.coverage.proofs.cover.coverage_row.Statement.{statement}
 use Rattle.coverage.proofs.cover.coverage_row.Tie as tie
-use Rattle.coverage.proofs.cover.coverage_row.Reads as reads
-use Rattle.coverage.proofs.cover.coverage_row.Lts as lts
-use Rattle.coverage.proofs.cover.coverage_run.Reads as coverage-run-reads
-use Rattle.coverage.proofs.cover.least.Reads as least-reads
-use Rattle.coverage.proofs.fill.zero_counts.Reads as zero-counts-reads
 
 abbrev Inv-loop : tie.InvT-loop
 Inv-loop scratch₀ n x y cover₀ nonzero most i₀ scratch cover i =
@@ -27,47 +22,36 @@ Inv-loop scratch₀ n x y cover₀ nonzero most i₀ scratch cover i =
 abbrev μ-loop : tie.MeasureT-loop
 μ-loop scratch₀ n x y cover₀ nonzero most i₀ scratch cover i = length cover₀ - i
 
--- src/cover.rt:44:5
 zero-counts-requires : tie.Need-zero-counts-requires Inv-loop μ-loop
 zero-counts-requires c κs = search needs
 
--- src/cover.rt:45:33
 mul-most : tie.Need-mul-most Inv-loop μ-loop
 mul-most c = search needs
 
--- src/cover.rt:45:17
 sub-most : tie.Need-sub-most Inv-loop μ-loop
 sub-most c = search needs
 
--- src/cover.rt:47:5
 loop-holds : tie.Need-loop-holds Inv-loop μ-loop
 loop-holds c = (search needs, refl, refl, refl)
 
--- src/cover.rt:48:25
 add-least : tie.Need-add-least Inv-loop μ-loop
 add-least c = search needs
 
--- src/cover.rt:48:13
 least-requires : tie.Need-least-requires Inv-loop μ-loop
 least-requires c κs = search needs
 
--- src/cover.rt:49:34
 add-coverage-run : tie.Need-add-coverage-run Inv-loop μ-loop
 add-coverage-run c = search needs
 
--- src/cover.rt:49:44
 sub-coverage-run : tie.Need-sub-coverage-run Inv-loop μ-loop
 sub-coverage-run c = search needs
 
--- src/cover.rt:49:44
 part-coverage-run-start : tie.Need-part-coverage-run-start Inv-loop μ-loop
 part-coverage-run-start c = search needs
 
--- src/cover.rt:49:44
 part-coverage-run-end : tie.Need-part-coverage-run-end Inv-loop μ-loop
 part-coverage-run-end c = search needs
 
--- src/cover.rt:49:9
 coverage-run-requires : tie.Need-coverage-run-requires Inv-loop μ-loop
 coverage-run-requires c κs =
     let s = c .before .before .before .before .before .before .before .before .before .before in
@@ -76,11 +60,9 @@ coverage-run-requires c κs =
     let w = part-length (l .cover) (l .i) e (omega arith) (omega (arith, l .inv .2)) in
     (subst (λ (t : List ℤ). Ready t (s .args .n)) (sym (l .inv .1)) (s .pre .0), (s .pre .1 .0, omega (arith, w), omega (arith, w, ap length (l .inv .1), s .pre .0 .few, s .pre .0 .room)))
 
--- src/cover.rt:47:5
 loop-less : tie.Need-loop-less Inv-loop μ-loop
 loop-less c = search needs
 
--- src/cover.rt:47:5
 loop-again : tie.Need-loop-again Inv-loop μ-loop
 loop-again c =
     let s = c .before .before .before .before .before .before .before .before .before .before .before .before .before .before in
@@ -98,15 +80,12 @@ loop-again c =
       o,
     )
 
--- src/cover.rt:31:1
 same-length : tie.Need-same-length Inv-loop μ-loop
 same-length c = search needs
 
--- src/cover.rt:31:1
 same-length-2 : tie.Need-same-length-2 Inv-loop μ-loop
 same-length-2 c = search needs
 
--- src/cover.rt:31:1
 returns : tie.Need-returns Inv-loop μ-loop
 returns c =
     let a = c .before .before .before .before .before .before .before .args in

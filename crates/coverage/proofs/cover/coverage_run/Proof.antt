@@ -1,7 +1,7 @@
 -- `coverage::cover::coverage_run` meets its contract. Assumes nothing.
-use mathlib.Core.Path.{_≡_, refl, sym, ap, ap₂, subst, _∙_}
+use mathlib.Core.Path.{_≡_, sym, ap, ap₂, subst, _∙_}
 use mathlib.Core.List.{List}
-use Prim.Native.Nat.{ℕ, _+_, _*_, _-_, _≤_, _<_}
+use Prim.Native.Nat.{ℕ, _+_, _*_, _-_, _≤_}
 use native.Mathlib.Omega.{arith}
 use lib.ListN.{length, take, drop}
 use lib.IntN.{ℤ}
@@ -14,10 +14,6 @@ use Rattle.coverage.proofs.Window.{sumsOf, sums-long, sums-marked, sums
 use borrow.Author.Needs.{needs}
 use Rattle.coverage.proofs.cover.coverage_run.Statement.{statement}
 use Rattle.coverage.proofs.cover.coverage_run.Tie as tie
-use Rattle.coverage.proofs.cover.coverage_run.Reads as reads
-use Rattle.coverage.proofs.cover.coverage_run.Lts as lts
-use Rattle.coverage.proofs.edges.add_edges.Reads as add-edges-reads
-use Rattle.coverage.proofs.samples.take_row.Reads as take-row-reads
 
 -- the part that is lent
 lent : (c : tie.After-add-edges)
@@ -30,46 +26,36 @@ lent c =
     let es = edgesOf (a .scratch .now) (a .n) in
     part-is (a .n * 4) (w * 16) (a .scratch .now) (sumsOf (4 * a .x) w (a .y) es) (c .add-edges .last .0) (s .pre .1 .2) (sums-long (4 * a .x) w (a .y) es) (c .add-edges .ensures .0)
 
--- src/cover.rt:43:14
 mul-at : tie.Need-mul-at
 mul-at c = search needs
 
--- src/cover.rt:44:20
 mul-end : tie.Need-mul-end
 mul-end c = search needs
 
--- src/cover.rt:44:15
 add-end : tie.Need-add-end
 add-end c = search needs
 
--- src/cover.rt:45:27
 mul-add-edges : tie.Need-mul-add-edges
 mul-add-edges c = search needs
 
--- src/cover.rt:45:5
 add-edges-requires : tie.Need-add-edges-requires
 add-edges-requires c κs =
     let s = c .before .before .before in
     let p = s .pre .0 in
     ((s .pre .1 .0, omega (arith, s .pre .1 .1)), (record { few = p .few; room = s .pre .1 .2; small = p .small }, clear-laid (s .args .scratch .now) (s .args .n) (length (s .args .cover .now) * 16) (s .pre .1 .2) (p .clear)))
 
--- src/cover.rt:46:14
 mul-take-row : tie.Need-mul-take-row
 mul-take-row c = search needs
 
--- src/cover.rt:46:14
 sub-take-row : tie.Need-sub-take-row
 sub-take-row c = search needs
 
--- src/cover.rt:46:14
 part-take-row-start : tie.Need-part-take-row-start
 part-take-row-start c = search needs
 
--- src/cover.rt:46:14
 part-take-row-end : tie.Need-part-take-row-end
 part-take-row-end c = search needs
 
--- src/cover.rt:46:5
 take-row-requires : tie.Need-take-row-requires
 take-row-requires c κs =
     let s = c .before .before .before .before .before .before .before .before .before in
@@ -85,15 +71,12 @@ take-row-requires c κs =
       (sums-marked (4 * a .x) w (a .y) es (g .last .1 .1 .1 .1 .0) k (g .ensures .1), subst (λ (n : ℕ). Tame (sumsOf (4 * a .x) w (a .y) es) (n * 4)) (sym k) (sums-tame (4 * a .x) w (a .y) es few)),
     )
 
--- src/cover.rt:30:1
 same-length : tie.Need-same-length
 same-length c = search needs
 
--- src/cover.rt:30:1
 same-length-2 : tie.Need-same-length-2
 same-length-2 c = search needs
 
--- src/cover.rt:30:1
 returns : tie.Need-returns
 returns c =
     let s = c .before .before .before .before .before .before .before .before .before .before .before .before .before in

@@ -1,15 +1,14 @@
 -- `coverage::edges::add_edge` meets its contract. Assumes nothing.
 use mathlib.Core.Path.{_≡_, refl, sym, ap, ap₂, subst, _∙_}
-use mathlib.Core.Bool.{Bool, cond}
-use mathlib.Core.List.{List}
+use mathlib.Core.Bool.{cond}
 use lib.Dec.{ltb}
 use mir.Syntax.{w32}
 use mir.Val.{toZ, ofZ}
 use mir.Facts.{toZ-pos}
 use Prim.Native.Nat.{ℕ, _+_, _*_, _-_, _/_, _≤_, _<_}
 use native.Mathlib.Omega.{arith}
-use lib.ListN.{length, getD}
-use lib.IntN.{ℤ, pos, natAbs}
+use lib.ListN.{length}
+use lib.IntN.{ℤ, natAbs}
 use Rattle.lists.specs.Lists.{tab}
 use Rattle.path.specs.declared.Edge.{Edge}
 use Rattle.path.specs.Stored.{edgeAt, edgesOf, Small}
@@ -20,12 +19,6 @@ use Rattle.coverage.proofs.Turn.{partly, miss-sums, miss-marks, first-s
 use borrow.Author.Needs.{needs}
 use Rattle.coverage.proofs.edges.add_edge.Statement.{statement}
 use Rattle.coverage.proofs.edges.add_edge.Tie as tie
-use Rattle.coverage.proofs.edges.add_edge.Reads as reads
-use Rattle.coverage.proofs.edges.add_edge.Lts as lts
-use Rattle.coverage.proofs.column.start.Reads as start-reads
-use Rattle.coverage.proofs.edges.load.Reads as load-reads
-use Rattle.coverage.proofs.edges.misses.Reads as misses-reads
-use Rattle.coverage.proofs.edges.put.Reads as put-reads
 
 abbrev Inv-loop : tie.InvT-loop
 Inv-loop scratch₀ n i c y cover₀ e y0 y1 base k r₀ scratch cover r =
@@ -68,19 +61,15 @@ by-read c =
     let h = by-small (a .c) (length (a .cover .now) * 4) (sample (4 * a .y + c .before .before .loop .r)) (edgeAt (a .scratch .now) (a .i)) (c .start .result) (begun-at c) in
     (h, clean (c .start .result .by) (omega (arith, h)))
 
--- src/edges.rt:71:9
 load-requires : tie.Need-load-requires Inv-loop μ-loop
 load-requires c κs = search needs
 
--- src/edges.rt:74:8
 misses-requires : tie.Need-misses-requires Inv-loop μ-loop
 misses-requires c κs = search needs
 
--- src/edges.rt:75:9
 same-length : tie.Need-same-length Inv-loop μ-loop
 same-length c = search needs
 
--- src/edges.rt:75:9
 returns : tie.Need-returns Inv-loop μ-loop
 returns c =
     let s = c .before .before .before .before .before .before .before in
@@ -89,15 +78,12 @@ returns c =
     let q = sym (tested (c .before)) ∙ c .if1 .taken in
     (miss-sums (a .n) w (a .c) (a .y) (a .scratch .now) (s .pre .1 .0 .room) (a .i) q (s .pre .1 .1 .0), miss-marks (a .n) w (a .c) (a .y) (a .scratch .now) (s .pre .1 .0 .room) (a .i) q (a .cover .now) (s .pre .1 .1 .1))
 
--- src/edges.rt:77:16
 mul-base : tie.Need-mul-base Inv-loop μ-loop
 mul-base c = search needs
 
--- src/edges.rt:78:13
 mul-k : tie.Need-mul-k Inv-loop μ-loop
 mul-k c = search needs
 
--- src/edges.rt:80:5
 loop-holds : tie.Need-loop-holds Inv-loop μ-loop
 loop-holds c =
     let s = c .before .before .before .before .before .before .before in
@@ -110,27 +96,21 @@ loop-holds c =
       first-marks (a .n) w (a .c) (a .y) (a .scratch .now) (s .pre .1 .0 .room) (a .i) (a .cover .now) (s .pre .1 .1 .1),
     )
 
--- src/edges.rt:81:33
 mul-start : tie.Need-mul-start Inv-loop μ-loop
 mul-start c = search needs
 
--- src/edges.rt:81:33
 add-start : tie.Need-add-start Inv-loop μ-loop
 add-start c = search needs
 
--- src/edges.rt:81:27
 mul-start-2 : tie.Need-mul-start-2 Inv-loop μ-loop
 mul-start-2 c = search needs
 
--- src/edges.rt:81:27
 add-start-2 : tie.Need-add-start-2 Inv-loop μ-loop
 add-start-2 c = search needs
 
--- src/edges.rt:81:26
 cast-start : tie.Need-cast-start Inv-loop μ-loop
 cast-start c = search needs
 
--- src/edges.rt:81:13
 start-requires : tie.Need-start-requires Inv-loop μ-loop
 start-requires c κs =
     let s = c .before .before .before .before .before .before .before .before .before in
@@ -138,7 +118,6 @@ start-requires c κs =
     let l = c .before .loop in
     (subst Small (sym (c .before .before .before .before .before .before .load .ensures)) (s .pre .1 .0 .small (a .i) (omega arith)), (subst (λ (z : ℤ). natAbs z ≤ 8388608) (sym (line (a .y) (l .r) (omega arith) (omega arith))) (omega arith), s .pre .0 .2))
 
--- src/edges.rt:84:9
 put-requires : tie.Need-put-requires Inv-loop μ-loop
 put-requires c κs =
     let s = c .before .before .before .before .before .before .before .before .before .before .before .before .before in
@@ -150,15 +129,12 @@ put-requires c κs =
       λ h. omega (arith, sums-small (a .n) w (a .c) (a .y) (a .scratch .now) (s .pre .1 .0 .room) (a .i) (l .r) (l .scratch) (l .inv .3) (t .start .result .at * 4 + l .r) (omega (arith, l .inv .2, h)), s .pre .1 .0 .few),
     )
 
--- src/edges.rt:85:9
 add-r : tie.Need-add-r Inv-loop μ-loop
 add-r c = search needs
 
--- src/edges.rt:80:5
 loop-less : tie.Need-loop-less Inv-loop μ-loop
 loop-less c = search needs
 
--- src/edges.rt:80:5
 loop-again : tie.Need-loop-again Inv-loop μ-loop
 loop-again c =
     let s = c .before .before .before .before .before .before .before .before .before .before .before .before .before .before .before .before .before in
@@ -176,15 +152,12 @@ loop-again c =
       next-marks (a .n) w (a .c) (a .y) (a .scratch .now) (s .pre .1 .0 .room) (a .i) (l .r) (omega arith) (t .start .result) (begun-at t) (l .cover) (p .last .1 .1 .0) (p .ensures .1) (l .inv .4),
     )
 
--- src/edges.rt:63:1
 same-length-2 : tie.Need-same-length-2 Inv-loop μ-loop
 same-length-2 c = search needs
 
--- src/edges.rt:63:1
 same-length-3 : tie.Need-same-length-3 Inv-loop μ-loop
 same-length-3 c = search needs
 
--- src/edges.rt:63:1
 returns-2 : tie.Need-returns-2 Inv-loop μ-loop
 returns-2 c =
     let s = c .before .before .before .before .before .before .before .before .before in

@@ -1,20 +1,14 @@
 -- `coverage::edges::add_edges` meets its contract. Assumes nothing.
-use mathlib.Core.Path.{_≡_, refl, sym, ap, ap₂, subst, _∙_}
-use mathlib.Core.List.{List}
-use Prim.Native.Nat.{ℕ, _+_, _*_, _-_, _≤_, _<_}
+use mathlib.Core.Path.{_≡_, refl, ap, subst, _∙_}
+use Prim.Native.Nat.{ℕ, _*_, _-_, _≤_}
 use native.Mathlib.Omega.{arith}
 use lib.ListN.{length}
-use lib.IntN.{ℤ}
-use Rattle.path.specs.declared.Edge.{Edge}
-use Rattle.path.specs.Stored.{edgeAt, edgesOf, Small}
-use Rattle.coverage.specs.Engine.{sumsAt, withSums, Edges, Marked}
+use Rattle.path.specs.Stored.{edgesOf}
+use Rattle.coverage.specs.Engine.{sumsAt, withSums, Marked}
 use Rattle.coverage.proofs.Turn.{no-sums, no-marks, turn-asks, turn-sums, turn-marks}
 use borrow.Author.Needs.{needs}
 use Rattle.coverage.proofs.edges.add_edges.Statement.{statement}
 use Rattle.coverage.proofs.edges.add_edges.Tie as tie
-use Rattle.coverage.proofs.edges.add_edges.Reads as reads
-use Rattle.coverage.proofs.edges.add_edges.Lts as lts
-use Rattle.coverage.proofs.edges.add_edge.Reads as add-edge-reads
 
 abbrev Inv-loop : tie.InvT-loop
 Inv-loop scratch₀ n c y cover₀ i₀ scratch cover i =
@@ -27,7 +21,6 @@ Inv-loop scratch₀ n c y cover₀ i₀ scratch cover i =
 abbrev μ-loop : tie.MeasureT-loop
 μ-loop scratch₀ n c y cover₀ i₀ scratch cover i = n - i
 
--- src/edges.rt:98:5
 loop-holds : tie.Need-loop-holds Inv-loop μ-loop
 loop-holds c =
     let s = c .before in
@@ -40,7 +33,6 @@ loop-holds c =
       no-marks (a .n) w (a .c) (a .y) (a .scratch .now) (s .pre .1 .0 .room) (a .cover .now),
     )
 
--- src/edges.rt:99:9
 add-edge-requires : tie.Need-add-edge-requires Inv-loop μ-loop
 add-edge-requires c κs =
     let s = c .before .before .before .before .before in
@@ -50,15 +42,12 @@ add-edge-requires c κs =
       turn-asks (a .n) (length (a .cover .now)) (a .c) (a .y) (a .scratch .now) (s .pre .1 .0 .room) (l .i) (omega arith) (l .scratch) (l .inv .3) (length (l .cover)) (l .inv .2) (l .cover) (s .pre .1 .0) (l .inv .1) (l .inv .4),
     )
 
--- src/edges.rt:100:9
 add-i : tie.Need-add-i Inv-loop μ-loop
 add-i c = search needs
 
--- src/edges.rt:98:5
 loop-less : tie.Need-loop-less Inv-loop μ-loop
 loop-less c = search needs
 
--- src/edges.rt:98:5
 loop-again : tie.Need-loop-again Inv-loop μ-loop
 loop-again c =
     let s = c .before .before .before .before .before .before .before .before .before in
@@ -73,15 +62,12 @@ loop-again c =
       turn-marks (a .n) w (a .c) (a .y) (a .scratch .now) (s .pre .1 .0 .room) (l .i) (omega arith) (l .scratch) (l .inv .3) (length (l .cover)) (l .inv .2) (g .last .1 .1 .1 .1 .1 .0) (g .ensures .1),
     )
 
--- src/edges.rt:90:1
 same-length : tie.Need-same-length Inv-loop μ-loop
 same-length c = search needs
 
--- src/edges.rt:90:1
 same-length-2 : tie.Need-same-length-2 Inv-loop μ-loop
 same-length-2 c = search needs
 
--- src/edges.rt:90:1
 returns : tie.Need-returns Inv-loop μ-loop
 returns c =
     let a = c .before .before .before .args in

@@ -1,9 +1,9 @@
 -- `coverage::edges::misses` meets its contract. Assumes nothing.
 use mathlib.Core.Path.{_≡_, ap, _∙_}
-use mathlib.Core.Bool.{Bool, true, false}
+use mathlib.Core.Bool.{Bool}
 use Prim.Native.Nat.{ℕ, _+_, _*_}
 use native.Mathlib.Omega.{arith}
-use lib.IntN.{ℤ, pos}
+use lib.IntN.{pos}
 use lib.Signed.{leZ, ltZ}
 use mir.Syntax.{w32}
 use mir.Val.{toZ, ofZ}
@@ -12,8 +12,6 @@ use Rattle.coverage.specs.Winding.{sample}
 use borrow.Author.Needs.{needs}
 use Rattle.coverage.proofs.edges.misses.Statement.{statement}
 use Rattle.coverage.proofs.edges.misses.Tie as tie
-use Rattle.coverage.proofs.edges.misses.Reads as reads
-use Rattle.coverage.proofs.edges.misses.Lts as lts
 
 -- the first and the last row of samples, as the locals hold them, and the two tests with them
 first : (s : tie.Start) → toZ w32 (256 * s .args .y + 32) ≡ sample (4 * s .args .y)
@@ -34,43 +32,34 @@ low s e = rw (toZ-ofZ (s .fits .y0), first s) at e
 high : (s : tie.Start) {t : Bool} → ltZ (toZ w32 (256 * s .args .y + 224)) (toZ w32 (ofZ w32 (s .args .y0))) ≡ t → ltZ (sample (4 * s .args .y + 3)) (s .args .y0) ≡ t
 high s e = rw (toZ-ofZ (s .fits .y0), last s) at e
 
--- src/edges.rt:36:18
 mul-first : tie.Need-mul-first
 mul-first c = search needs
 
--- src/edges.rt:36:18
 add-first : tie.Need-add-first
 add-first c = search needs
 
--- src/edges.rt:36:17
 cast-first : tie.Need-cast-first
 cast-first c = search needs
 
--- src/edges.rt:37:17
 mul-last : tie.Need-mul-last
 mul-last c = search needs
 
--- src/edges.rt:37:17
 add-last : tie.Need-add-last
 add-last c = search needs
 
--- src/edges.rt:37:16
 cast-last : tie.Need-cast-last
 cast-last c = search needs
 
--- src/edges.rt:39:9
 returns : tie.Need-returns
 returns c =
     let s = c .before in
     rw (toZ-ofZ (s .fits .y1), first s, low s (c .if1 .taken))
 
--- src/edges.rt:32:1
 returns-2 : tie.Need-returns-2
 returns-2 c =
     let s = c .before .before in
     rw (toZ-ofZ (s .fits .y1), last s, low s (c .before .if1 .left), high s (c .if2 .taken))
 
--- src/edges.rt:32:1
 returns-3 : tie.Need-returns-3
 returns-3 c =
     let s = c .before .before in

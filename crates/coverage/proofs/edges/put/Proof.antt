@@ -1,7 +1,7 @@
 -- `coverage::edges::put` meets its contract. Assumes nothing.
-use mathlib.Core.Path.{_≡_, refl, sym, ap, _∙_}
+use mathlib.Core.Path.{refl, sym, ap, _∙_}
 use mathlib.Core.Bool.{Bool, cond}
-use Prim.Native.Nat.{ℕ, _+_, _*_, _/_}
+use Prim.Native.Nat.{_+_, _*_, _/_}
 use native.Mathlib.Omega.{arith}
 use lib.IntN.{pos}
 use lib.ListN.{length, getD, set}
@@ -14,15 +14,12 @@ use Rattle.coverage.proofs.Begin.{sized}
 use borrow.Author.Needs.{needs}
 use Rattle.coverage.proofs.edges.put.Statement.{statement}
 use Rattle.coverage.proofs.edges.put.Tie as tie
-use Rattle.coverage.proofs.edges.put.Reads as reads
-use Rattle.coverage.proofs.edges.put.Lts as lts
 
 abbrev sum : tie.Else1 → Num
 sum c =
     let a = c .before .args in
     add (sized 1000000 (getD (a .scratch .now) (a .base + (a .at * 4 + a .r)) (pos 0)) tt (c .before .pre .1 (omega arith))) (sized 1 (a .by) tt (c .before .pre .0 .2))
 
--- src/edges.rt:53:9
 returns : tie.Need-returns
 returns c =
     let a = c .before .args in (
@@ -30,51 +27,39 @@ returns c =
       sym (set-out (a .cover .now) (a .at / 4) 1 (omega arith)),
     )
 
--- src/edges.rt:55:5
 slice-write-cover : tie.Need-slice-write-cover
 slice-write-cover c = search needs
 
--- src/edges.rt:56:21
 mul-i : tie.Need-mul-i
 mul-i c = search needs
 
--- src/edges.rt:56:21
 add-i : tie.Need-add-i
 add-i c = search needs
 
--- src/edges.rt:56:13
 add-i-2 : tie.Need-add-i-2
 add-i-2 c = search needs
 
--- src/edges.rt:57:13
 mul-v : tie.Need-mul-v
 mul-v c = search needs
 
--- src/edges.rt:57:13
 slice-copy-out-v : tie.Need-slice-copy-out-v
 slice-copy-out-v c = search needs
 
--- src/edges.rt:57:13
 add-v : tie.Need-add-v
 add-v c = need (sum (c .before)) tt
 
--- src/edges.rt:58:5
 mul-v-2 : tie.Need-mul-v-2
 mul-v-2 c = search needs
 
--- src/edges.rt:58:5
 slice-set-from-v : tie.Need-slice-set-from-v
 slice-set-from-v c = search needs
 
--- src/edges.rt:45:1
 same-length : tie.Need-same-length
 same-length c = search needs
 
--- src/edges.rt:45:1
 same-length-2 : tie.Need-same-length-2
 same-length-2 c = search needs
 
--- src/edges.rt:45:1
 returns-2 : tie.Need-returns-2
 returns-2 c =
     let e = c .before in

@@ -1,7 +1,7 @@
 -- `coverage::samples::cell_of` meets its contract. Assumes nothing.
 use mathlib.Core.Path.{_≡_, _∙_}
 use mathlib.Core.Bool.{Bool}
-use Prim.Native.Nat.{ℕ, _+_}
+use Prim.Native.Nat.{_+_}
 use lib.IntN.{ℤ}
 use mir.Syntax.{w32}
 use mir.Facts.{toZ-ofZ}
@@ -9,30 +9,22 @@ use Rattle.coverage.specs.Engine.{fullOf, cellOf}
 use borrow.Author.Needs.{needs, sfits-of}
 use Rattle.coverage.proofs.samples.cell_of.Statement.{statement}
 use Rattle.coverage.proofs.samples.cell_of.Tie as tie
-use Rattle.coverage.proofs.samples.cell_of.Reads as reads
-use Rattle.coverage.proofs.samples.cell_of.Lts as lts
-use Rattle.coverage.proofs.samples.full_of.Reads as full-of-reads
 
 full-same : (nonZero : Bool) {a b c d e f g h : ℤ} → a ≡ e → b ≡ f → c ≡ g → d ≡ h → fullOf nonZero a b c d ≡ fullOf nonZero e f g h
 full-same nonZero p q r s = rw (p, q, r, s)
 
--- src/samples.rt:66:15
 full-of-requires : tie.Need-full-of-requires
 full-of-requires c κs = search needs
 
--- src/samples.rt:67:16
 add-t11 : tie.Need-add-t11
 add-t11 c = search needs
 
--- src/samples.rt:67:16
 add-t12 : tie.Need-add-t12
 add-t12 c = search needs
 
--- src/samples.rt:67:16
 add-t13 : tie.Need-add-t13
 add-t13 c = search needs
 
--- src/samples.rt:53:1
 returns : tie.Need-returns
 unfolding cellOf
 returns c =

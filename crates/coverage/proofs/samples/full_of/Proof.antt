@@ -9,43 +9,31 @@ use Rattle.coverage.proofs.Tally.{four-counts}
 use borrow.Author.Needs.{needs}
 use Rattle.coverage.proofs.samples.full_of.Statement.{statement}
 use Rattle.coverage.proofs.samples.full_of.Tie as tie
-use Rattle.coverage.proofs.samples.full_of.Reads as reads
-use Rattle.coverage.proofs.samples.full_of.Lts as lts
-use Rattle.coverage.proofs.samples.one_inside.Reads as one-inside-reads
 
--- src/samples.rt:75:6
 one-inside-requires : tie.Need-one-inside-requires
 one-inside-requires c κs = search needs
 
--- src/samples.rt:76:11
 one-inside-requires-2 : tie.Need-one-inside-requires-2
 one-inside-requires-2 c κs = search needs
 
--- src/samples.rt:75:6
 add-result : tie.Need-add-result
 add-result c = search needs
 
--- src/samples.rt:77:11
 one-inside-requires-3 : tie.Need-one-inside-requires-3
 one-inside-requires-3 c κs = search needs
 
--- src/samples.rt:75:6
 add-result-2 : tie.Need-add-result-2
 add-result-2 c = search needs
 
--- src/samples.rt:78:11
 one-inside-requires-4 : tie.Need-one-inside-requires-4
 one-inside-requires-4 c κs = search needs
 
--- src/samples.rt:75:6
 add-result-3 : tie.Need-add-result-3
 add-result-3 c = search needs
 
--- src/samples.rt:75:5
 mul-result : tie.Need-mul-result
 mul-result c = search needs
 
--- src/samples.rt:72:1
 returns : tie.Need-returns
 unfolding fullOf
 returns c =

@@ -1,5 +1,5 @@
 -- `coverage::samples::next_cell` meets its contract. Assumes nothing.
-use mathlib.Core.Path.{_≡_, refl, sym, ap, _∙_}
+use mathlib.Core.Path.{_≡_, sym, ap, _∙_}
 use mathlib.Core.Bool.{Bool, cond}
 use Prim.Native.Nat.{ℕ, _+_, _*_}
 use native.Mathlib.Omega.{arith}
@@ -13,9 +13,6 @@ use Rattle.coverage.proofs.Begin.{clean}
 use borrow.Author.Needs.{needs}
 use Rattle.coverage.proofs.samples.next_cell.Statement.{statement}
 use Rattle.coverage.proofs.samples.next_cell.Tie as tie
-use Rattle.coverage.proofs.samples.next_cell.Reads as reads
-use Rattle.coverage.proofs.samples.next_cell.Lts as lts
-use Rattle.coverage.proofs.samples.take_cell.Reads as take-cell-reads
 
 -- the winding numbers, as they are handed on
 as-read : (z : Cell) → Bounded z
@@ -23,7 +20,6 @@ as-read : (z : Cell) → Bounded z
 as-read z h =
     rw (clean (z .a) (omega (arith, h .a)), clean (z .b) (omega (arith, h .b)), clean (z .c) (omega (arith, h .c)), clean (z .d) (omega (arith, h .d)))
 
--- src/samples.rt:112:9
 returns : tie.Need-returns
 returns c =
     let s = c .before .before in
@@ -34,15 +30,12 @@ returns c =
       ap (λ (t : Bool). cond t (a .sums .now) (laid (a .p * 16) 16 (a .sums .now) (zeros 16))) e,
     )
 
--- src/samples.rt:121:5
 take-cell-requires : tie.Need-take-cell-requires
 take-cell-requires c κs = c .before .before .pre
 
--- src/samples.rt:105:1
 same-length : tie.Need-same-length
 same-length c = search needs
 
--- src/samples.rt:105:1
 returns-2 : tie.Need-returns-2
 returns-2 c =
     let a = c .before .before .before .before .args in

@@ -1,8 +1,8 @@
 -- `coverage::samples::one_inside` meets its contract. Assumes nothing.
-use mathlib.Core.Path.{_≡_, refl, subst}
+use mathlib.Core.Path.{_≡_, subst}
 use borrow.Author.Needs.{needs}
 use borrow.Author.Tests.{eq-eqb, ne-eqb}
-use Prim.Native.Nat.{ℕ, _%_}
+use Prim.Native.Nat.{_%_}
 use lib.Dec.{lit<}
 use lib.IntN.{ℤ, pos, natAbs}
 use lib.Signed.{remZ}
@@ -13,8 +13,6 @@ use Rattle.fixed.proofs.Signed.{zero-yes, zero-no}
 use Rattle.coverage.proofs.Tally.{odd-yes, odd-no, half-fits}
 use Rattle.coverage.proofs.samples.one_inside.Statement.{statement}
 use Rattle.coverage.proofs.samples.one_inside.Tie as tie
-use Rattle.coverage.proofs.samples.one_inside.Reads as reads
-use Rattle.coverage.proofs.samples.one_inside.Lts as lts
 
 rem-if3 : tie.Need-rem-if3
 rem-if3 c = (lit< tt, rw (toZ-ofZ (c .before .fits .w)) (half-fits (c .before .args .w) (c .before .fits .w)))

@@ -14,11 +14,6 @@ use Rattle.coverage.proofs.Zeros.{part-zeroed}
 use borrow.Author.Needs.{needs}
 use Rattle.coverage.proofs.samples.take_cell.Statement.{statement}
 use Rattle.coverage.proofs.samples.take_cell.Tie as tie
-use Rattle.coverage.proofs.samples.take_cell.Reads as reads
-use Rattle.coverage.proofs.samples.take_cell.Lts as lts
-use Rattle.coverage.proofs.fill.zero_numbers.Reads as zero-numbers-reads
-use Rattle.coverage.proofs.samples.cell_of.Reads as cell-of-reads
-use Rattle.coverage.proofs.samples.take_line.Reads as take-line-reads
 
 -- what a sample row asks for
 asked : (s : tie.Start) (v : ℤ) → natAbs v ≤ 1000000 → (i : ℕ) → s .args .p * 16 ≤ i → i + 12 < s .args .p * 16 + 16
@@ -37,71 +32,54 @@ asked s v h i l m =
         whole : (b j : ℕ) → b ≤ j → b + (j - b) ≡ j
         whole b j k = omega arith
 
--- src/samples.rt:90:13
 mul-i : tie.Need-mul-i
 mul-i c = search needs
 
--- src/samples.rt:95:9
 take-line-requires : tie.Need-take-line-requires
 take-line-requires c κs = asked (c .before .before .before .before .before) (c .before .before .before .before .before .args .z .a) (c .before .before .before .before .before .pre .0 .1 .a) (c .before .before .before .before .before .args .p * 16) (omega arith) (omega arith)
 
--- src/samples.rt:96:29
 add-take-line : tie.Need-add-take-line
 add-take-line c = search needs
 
--- src/samples.rt:96:9
 take-line-requires-2 : tie.Need-take-line-requires-2
 take-line-requires-2 c κs = asked (c .before .before .before .before .before .before .before) (c .before .before .before .before .before .before .before .args .z .b) (c .before .before .before .before .before .before .before .pre .0 .1 .b) (c .before .before .before .before .before .before .before .args .p * 16 + 1) (omega arith) (omega arith)
 
--- src/samples.rt:97:29
 add-take-line-2 : tie.Need-add-take-line-2
 add-take-line-2 c = search needs
 
--- src/samples.rt:97:9
 take-line-requires-3 : tie.Need-take-line-requires-3
 take-line-requires-3 c κs = asked (c .before .before .before .before .before .before .before .before .before) (c .before .before .before .before .before .before .before .before .before .args .z .c) (c .before .before .before .before .before .before .before .before .before .pre .0 .1 .c) (c .before .before .before .before .before .before .before .before .before .args .p * 16 + 2) (omega arith) (omega arith)
 
--- src/samples.rt:98:29
 add-take-line-3 : tie.Need-add-take-line-3
 add-take-line-3 c = search needs
 
--- src/samples.rt:98:9
 take-line-requires-4 : tie.Need-take-line-requires-4
 take-line-requires-4 c κs = asked (c .before .before .before .before .before .before .before .before .before .before .before) (c .before .before .before .before .before .before .before .before .before .before .before .args .z .d) (c .before .before .before .before .before .before .before .before .before .before .before .pre .0 .1 .d) (c .before .before .before .before .before .before .before .before .before .before .before .args .p * 16 + 3) (omega arith) (omega arith)
 
--- src/samples.rt:99:13
 add-e : tie.Need-add-e
 add-e c = search needs
 
--- src/samples.rt:100:18
 mul-zero-numbers : tie.Need-mul-zero-numbers
 mul-zero-numbers c = search needs
 
--- src/samples.rt:100:18
 sub-zero-numbers : tie.Need-sub-zero-numbers
 sub-zero-numbers c = search needs
 
--- src/samples.rt:100:18
 part-zero-numbers-start : tie.Need-part-zero-numbers-start
 part-zero-numbers-start c = search needs
 
--- src/samples.rt:100:18
 part-zero-numbers-end : tie.Need-part-zero-numbers-end
 part-zero-numbers-end c = search needs
 
--- src/samples.rt:100:5
 zero-numbers-requires : tie.Need-zero-numbers-requires
 zero-numbers-requires c κs = search needs
 
--- src/samples.rt:101:5
 cell-of-requires : tie.Need-cell-of-requires
 cell-of-requires c κs = search needs
 
--- src/samples.rt:84:1
 same-length : tie.Need-same-length
 same-length c = search needs
 
--- src/samples.rt:84:1
 returns : tie.Need-returns
 returns c =
     let s = c .before .before .before .before .before .before .before .before .before .before .before .before .before .before .before .before in

@@ -1,13 +1,10 @@
 -- `coverage::samples::take_four` meets its contract. Assumes nothing.
-use mathlib.Core.Path.{_≡_, refl, ap, ap₂, _∙_}
-use mathlib.Core.Bool.{Bool}
+use mathlib.Core.Path.{ap, ap₂, _∙_}
 use borrow.Author.Needs.{needs}
-use native.Mathlib.Omega.{arith}
-use Prim.Native.Nat.{ℕ, _+_, _≤_}
+use Prim.Native.Nat.{ℕ}
 use lib.IntN.{ℤ}
 use mir.Syntax.{w32}
 use Rattle.fixed.proofs.Means.{Num, need, keep, add}
-use Rattle.coverage.specs.declared.Taken.{Taken}
 use Rattle.coverage.specs.Winding.{one, inside}
 use Rattle.coverage.specs.Engine.{takenFrom}
 use Rattle.coverage.proofs.Begin.{sized}

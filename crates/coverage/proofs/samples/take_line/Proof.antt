@@ -2,7 +2,7 @@
 use mathlib.Core.Path.{_≡_}
 use Prim.Native.Nat.{ℕ, _+_, _≤_}
 use native.Mathlib.Omega.{arith}
-use lib.IntN.{ℤ, natAbs}
+use lib.IntN.{natAbs}
 use mir.Syntax.{w32}
 use mir.Val.{toZ, ofZ}
 use Rattle.coverage.specs.Engine.{at}
@@ -10,59 +10,44 @@ use Rattle.coverage.proofs.Begin.{clean}
 use borrow.Author.Needs.{needs}
 use Rattle.coverage.proofs.samples.take_line.Statement.{statement}
 use Rattle.coverage.proofs.samples.take_line.Tie as tie
-use Rattle.coverage.proofs.samples.take_line.Reads as reads
-use Rattle.coverage.proofs.samples.take_line.Lts as lts
-use Rattle.coverage.proofs.samples.take_four.Reads as take-four-reads
 
 -- a number, as it is handed on
 read : (s : tie.Start) (j : ℕ) → natAbs (at (s .args .sums .now) j) ≤ 1000000 → toZ w32 (ofZ w32 (at (s .args .sums .now) j)) ≡ at (s .args .sums .now) j
 read s j h = clean (at (s .args .sums .now) j) (omega (arith, h))
 
--- src/samples.rt:49:27
 mul-take-four : tie.Need-mul-take-four
 mul-take-four c = search needs
 
--- src/samples.rt:49:27
 shared-slice-copy-out-take-four : tie.Need-shared-slice-copy-out-take-four
 shared-slice-copy-out-take-four c = search needs
 
--- src/samples.rt:49:41
 add-take-four : tie.Need-add-take-four
 add-take-four c = search needs
 
--- src/samples.rt:49:36
 mul-take-four-2 : tie.Need-mul-take-four-2
 mul-take-four-2 c = search needs
 
--- src/samples.rt:49:36
 shared-slice-copy-out-take-four-2 : tie.Need-shared-slice-copy-out-take-four-2
 shared-slice-copy-out-take-four-2 c = search needs
 
--- src/samples.rt:49:54
 add-take-four-2 : tie.Need-add-take-four-2
 add-take-four-2 c = search needs
 
--- src/samples.rt:49:49
 mul-take-four-3 : tie.Need-mul-take-four-3
 mul-take-four-3 c = search needs
 
--- src/samples.rt:49:49
 shared-slice-copy-out-take-four-3 : tie.Need-shared-slice-copy-out-take-four-3
 shared-slice-copy-out-take-four-3 c = search needs
 
--- src/samples.rt:49:67
 add-take-four-3 : tie.Need-add-take-four-3
 add-take-four-3 c = search needs
 
--- src/samples.rt:49:62
 mul-take-four-4 : tie.Need-mul-take-four-4
 mul-take-four-4 c = search needs
 
--- src/samples.rt:49:62
 shared-slice-copy-out-take-four-4 : tie.Need-shared-slice-copy-out-take-four-4
 shared-slice-copy-out-take-four-4 c = search needs
 
--- src/samples.rt:49:5
 take-four-requires : tie.Need-take-four-requires
 take-four-requires c κs =
     let s = c .before .before .before .before in
@@ -70,7 +55,6 @@ take-four-requires c κs =
     let p = s .pre .1 in
     rw (clean (a .z) (omega (arith, p .0)), read s (a .i) (p .1), read s (a .i + 4) (p .2), read s (a .i + 8) (p .3), read s (a .i + 12) (p .4)) p
 
--- src/samples.rt:44:1
 returns : tie.Need-returns
 returns c =
     let s = c .before .before .before .before .before in

@@ -1,20 +1,16 @@
 -- `coverage::samples::take_row` meets its contract. Assumes nothing.
 use mathlib.Core.Path.{_≡_, refl, sym, ap, subst, _∙_}
-use mathlib.Core.List.{List}
-use Prim.Native.Nat.{ℕ, _+_, _*_, _-_, _≤_, _<_}
+use Prim.Native.Nat.{_+_, _*_, _-_, _≤_}
 use native.Mathlib.Omega.{arith}
 use lib.IntN.{ℤ, pos, natAbs}
 use lib.ListN.{length, getD, length-set}
 use Rattle.lists.specs.Lists.{tab, over}
 use Rattle.lists.proofs.Laws.{tab-length, tab-turn, tab-read, tab-all, over-all}
-use Rattle.coverage.specs.Engine.{at, zeros, pixelOf}
+use Rattle.coverage.specs.Engine.{zeros, pixelOf}
 use Rattle.coverage.proofs.Cells.{Stands, stands-first, stands-bounded, next-stands, next-count, numbers-stand, turn-cell, turn-sums}
 use borrow.Author.Needs.{needs}
 use Rattle.coverage.proofs.samples.take_row.Statement.{statement}
 use Rattle.coverage.proofs.samples.take_row.Tie as tie
-use Rattle.coverage.proofs.samples.take_row.Reads as reads
-use Rattle.coverage.proofs.samples.take_row.Lts as lts
-use Rattle.coverage.proofs.samples.next_cell.Reads as next-cell-reads
 
 abbrev Inv-loop : tie.InvT-loop
 Inv-loop sums₀ cover₀ nonzero z₀ p₀ sums cover z p =
@@ -28,15 +24,12 @@ Inv-loop sums₀ cover₀ nonzero z₀ p₀ sums cover z p =
 abbrev μ-loop : tie.MeasureT-loop
 μ-loop sums₀ cover₀ nonzero z₀ p₀ sums cover z p = length cover₀ - p
 
--- src/samples.rt:141:5
 loop-holds : tie.Need-loop-holds Inv-loop μ-loop
 loop-holds c = (search needs, refl, refl, stands-first (c .before .args .nonzero) (c .before .args .sums .now), refl, refl)
 
--- src/samples.rt:142:32
 slice-read-next-cell : tie.Need-slice-read-next-cell Inv-loop μ-loop
 slice-read-next-cell c = search needs
 
--- src/samples.rt:142:9
 next-cell-requires : tie.Need-next-cell-requires Inv-loop μ-loop
 next-cell-requires c κs =
     let s = c .before .before .before .before .before in
@@ -46,19 +39,15 @@ next-cell-requires c κs =
       λ j. subst (λ (z : ℤ). natAbs z ≤ 1000000) (sym (numbers-stand (s .args .sums .now) (l .sums) (l .p) (l .inv .4) j)) (m .each (l .p * 16 + j)),
     )
 
--- src/samples.rt:143:9
 slice-write-cover : tie.Need-slice-write-cover Inv-loop μ-loop
 slice-write-cover c = search needs
 
--- src/samples.rt:144:9
 add-p : tie.Need-add-p Inv-loop μ-loop
 add-p c = search needs
 
--- src/samples.rt:141:5
 loop-less : tie.Need-loop-less Inv-loop μ-loop
 loop-less c = search needs
 
--- src/samples.rt:141:5
 loop-again : tie.Need-loop-again Inv-loop μ-loop
 loop-again c =
     let s = c .before .before .before .before .before .before .before in
@@ -77,15 +66,12 @@ loop-again c =
       tab-turn f (l .cover) (a .cover .now) (l .p) (g .result .count) (next-count (a .nonzero) (a .sums .now) (l .p) (l .z) (l .inv .3) (g .result) t) (l .inv .5) (omega arith),
     )
 
--- src/samples.rt:125:1
 same-length : tie.Need-same-length Inv-loop μ-loop
 same-length c = search needs
 
--- src/samples.rt:125:1
 same-length-2 : tie.Need-same-length-2 Inv-loop μ-loop
 same-length-2 c = search needs
 
--- src/samples.rt:125:1
 returns : tie.Need-returns Inv-loop μ-loop
 returns c =
     let s = c .before .before .before in
