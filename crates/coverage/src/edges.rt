@@ -1,0 +1,100 @@
+// What begins at each column of a window, in the four rows of samples of one row of pixels. Number 4 j + r of the sums is for column j and
+// sample row r. The sums of an edge's row over the columns up to j are what it counts at column j.
+use crate::Start;
+use crate::column::start;
+use path::Edge;
+ghost use mathlib.Core.Path.{_≡_};
+ghost use mathlib.Core.Bool.{cond};
+ghost use Prim.Native.Nat.{_+_, _*_, _/_, _^_, _<_, _≤_};
+ghost use lib.Dec.{ltb};
+ghost use lib.IntN.{pos, natAbs};
+ghost use lib.ListN.{length, getD, set};
+ghost use Rattle.path.specs.Stored.{edgeAt, edgesOf};
+ghost use Rattle.coverage.specs.Winding.{sample};
+ghost use Rattle.coverage.specs.Engine.{laid, zeros, missed, bumped, sumsAt, withSums, Edges, Marked};
+
+// The ith edge.
+fn load(scratch: &[i32], i: usize) -> Edge
+    requires { ⌜ i * 4 + 3 < length (now scratch) ⌝ }
+    ensures { λ r. ⌜ r ≡ edgeAt (now (scratch .entry)) i ⌝ }
+{
+    let at = i * 4;
+    Edge {
+        x0: scratch[at],
+        y0: scratch[at + 1],
+        x1: scratch[at + 2],
+        y1: scratch[at + 3],
+    }
+}
+
+// Whether an edge has no sample row of the pixel row y between its ends.
+fn misses(y0: i32, y1: i32, y: usize) -> bool
+    requires { ⌜ y < 1024 ⌝ }
+    ensures { λ r. ⌜ r ≡ missed y0 y1 y ⌝ }
+{
+    let first = (256 * y + 32) as i32;
+    let last = (256 * y + 224) as i32;
+    if y0 <= first {
+        return y1 <= first;
+    }
+    if last < y0 { last < y1 } else { false }
+}
+
+// Adds to the number of column at and sample row r, and marks its pixel. Right of the window nothing is to be done.
+fn put(scratch: &mut [i32], base: usize, cover: &mut [u8], r: usize, at: usize, by: i32)
+    requires { ⌜ (r < 4) × (base + length (now cover) * 16 ≤ length (now scratch)) × (natAbs by ≤ 1) ⌝ }
+    requires { ⌜ (at / 4 < length (now cover) → natAbs (getD (now scratch) (base + (at * 4 + r)) (pos 0)) ≤ 1000000) ⌝ }
+    ensures { λ _. ⌜ now (scratch .exit) ≡ cond (ltb (at / 4) (length (now (cover .entry)))) (bumped (now (scratch .entry)) (base + (at * 4 + r)) by) (now (scratch .entry)) ⌝ }
+    ensures { λ _. ⌜ now (cover .exit) ≡ set (now (cover .entry)) (at / 4) 1 ⌝ }
+{
+    let p = at / 4;
+    if cover.len() <= p {
+        return;
+    }
+    cover[p] = 1;
+    let i = base + (at * 4 + r);
+    let v = scratch[i] + by;
+    scratch[i] = v;
+}
+
+// Adds what the ith edge begins in the pixel row y, in the window from column c on.
+fn add_edge(scratch: &mut [i32], n: usize, i: usize, c: usize, y: usize, cover: &mut [u8])
+    requires { ⌜ (i < n) × (y < 1024) × (c + length (now cover) * 4 < 2 ^ 31) ⌝ }
+    requires { ⌜ Edges (now scratch) n (length (now cover) * 16) ⌝ }
+    requires { ⌜ now scratch ≡ withSums n (length (now cover)) c y i (now scratch) ⌝ }
+    requires { ⌜ Marked (now cover) (sumsAt c (length (now cover) * 4) y (edgesOf (now scratch) i)) ⌝ }
+    ensures { λ _. ⌜ now (scratch .exit) ≡ withSums n (length (now (cover .entry))) c y (i + 1) (now (scratch .entry)) ⌝ }
+    ensures { λ _. ⌜ Marked (now (cover .exit)) (sumsAt c (length (now (cover .entry)) * 4) y (edgesOf (now (scratch .entry)) (i + 1))) ⌝ }
+{
+    let e = load(scratch, i);
+    let y0 = e.y0;
+    let y1 = e.y1;
+    if misses(y0, y1, y) {
+        return;
+    }
+    let base = n * 4;
+    let k = cover.len() * 4;
+    let mut r = 0;
+    while r < 4 {
+        let s = start(e, (64 * (4 * y + r) + 32) as i32, c, k);
+        let at = s.at;
+        let by = s.by;
+        put(scratch, base, cover, r, at, by);
+        r += 1;
+    }
+}
+
+// Adds what all n edges begin in the pixel row y, in the window from column c on, and marks the pixels where something begins.
+pub fn add_edges(scratch: &mut [i32], n: usize, c: usize, y: usize, cover: &mut [u8])
+    requires { ⌜ (y < 1024) × (c + length (now cover) * 4 < 2 ^ 31) ⌝ }
+    requires { ⌜ Edges (now scratch) n (length (now cover) * 16) ⌝ }
+    requires { ⌜ now scratch ≡ laid (n * 4) (length (now cover) * 16) (now scratch) (zeros (length (now cover) * 16)) ⌝ }
+    ensures { λ _. ⌜ now (scratch .exit) ≡ withSums n (length (now (cover .entry))) c y n (now (scratch .entry)) ⌝ }
+    ensures { λ _. ⌜ Marked (now (cover .exit)) (sumsAt c (length (now (cover .entry)) * 4) y (edgesOf (now (scratch .entry)) n)) ⌝ }
+{
+    let mut i = 0;
+    while i < n {
+        add_edge(scratch, n, i, c, y, cover);
+        i += 1;
+    }
+}
