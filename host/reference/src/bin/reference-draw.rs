@@ -1,6 +1,7 @@
 //! The drawing program by the reference: prints the picture of the scene file named as its argument.
 
-use std::{env, fs, process};
+use std::io::Write;
+use std::{env, fs, io, process};
 
 fn main() {
     let arguments: Vec<String> = env::args().skip(1).collect();
@@ -12,5 +13,9 @@ fn main() {
         eprintln!("{scene}: {e}");
         process::exit(2);
     });
-    print!("{}", reference::print::drawing(&bytes));
+    let text = reference::print::drawing(&bytes);
+    if let Err(error) = io::stdout().write_all(text.as_bytes()) {
+        eprintln!("{error}");
+        process::exit(2);
+    }
 }

@@ -1,6 +1,7 @@
 //! The redraw program by the reference: draws the old scene file, redraws to the new, and prints area and picture.
 
-use std::{env, fs, process};
+use std::io::Write;
+use std::{env, fs, io, process};
 
 fn main() {
     let arguments: Vec<String> = env::args().skip(1).collect();
@@ -14,5 +15,9 @@ fn main() {
             process::exit(2);
         })
     };
-    print!("{}", reference::print::redrawing(&read(old), &read(new)));
+    let text = reference::print::redrawing(&read(old), &read(new));
+    if let Err(error) = io::stdout().write_all(text.as_bytes()) {
+        eprintln!("{error}");
+        process::exit(2);
+    }
 }
