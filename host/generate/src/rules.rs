@@ -388,7 +388,7 @@ impl Cases {
                     }
                 }
                 for (byte, count) in [(SMOOTH_QUAD, 2), (SMOOTH_CUBIC, 4)] {
-                    // The control half way is reflected at 0 from the other side.
+                    // The quad ends at 0, so its control is reflected to the far point.
                     let path = Path::new().quad_to((-far, -far), (0, 0)).segment(byte, &vec![0; count]);
                     let matrix = [256.0, 0.0, 0.0, 256.0, translation, translation];
                     let scene = with_draw(Draw { matrix, path, ..Draw::default() });

@@ -61,7 +61,7 @@ impl Dial {
         FIRST_ANGLE + (LAST_ANGLE - FIRST_ANGLE) * value / self.greatest
     }
 
-    /// Two rings lit from opposite sides, the face, and a sheen on its upper half.
+    /// Two rings lit from opposite sides, and the face.
     fn housing(&self, canvas: &Canvas, draws: &mut Vec<Draw>) {
         let (_, y) = self.center;
         let (top, bottom) = (y + RADIUS, y - RADIUS);

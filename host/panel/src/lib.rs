@@ -10,8 +10,7 @@ mod lamps;
 mod shape;
 
 use scene::{Draw, Scene};
-
-pub use shape::Shape;
+use shape::Shape;
 
 pub const WIDTH: f64 = 1_024.0;
 pub const HEIGHT: f64 = 600.0;
@@ -82,7 +81,7 @@ fn body(canvas: &Canvas, draws: &mut Vec<Draw>) {
 }
 
 /// Brings shapes and gradients in panel pixels onto a surface of some scale.
-pub struct Canvas {
+struct Canvas {
     scale: f64,
 }
 
