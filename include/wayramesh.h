@@ -4,9 +4,8 @@
  * A scene file goes in, and pixels come out. wayramesh_draw draws a scene in full. wayramesh_redraw takes a surface
  * from one scene to the next and writes only the area in which they may differ.
  *
- * Link with libwayramesh.a. The library allocates nothing, keeps nothing between calls, calls no other library, does
- * no input or output, and always returns. Calls that share no writable buffer may run at the same time.
- * examples/panel.c is a whole program.
+ * Link with libwayramesh.a. The library allocates nothing, keeps nothing between calls, does no input or output, and
+ * always returns. Calls that share no writable buffer may run at the same time. examples/panel.c is a whole program.
  *
  * What is proved of both functions, for every input:
  *
