@@ -58,6 +58,6 @@ composite mode k s d = record {
   a = compositeByte mode k (s .a) (d .a) (s .a) (d .a);
 }
 
--- the step called alone: any other mode or k is refused, and the pixel stays
+-- the step called alone (paper 02, P2): any other mode or k is refused 0x1001, and the pixel stays
 abbrev pub compositeAnswer : ℕ → ℕ → Pixel → Pixel → Composited
 compositeAnswer mode k s d = cond (isMode mode && leb k 16) (record { code = 0; pixel = composite mode k s d }) (record { code = 0x1001; pixel = d })

@@ -52,7 +52,7 @@ squareTwice = pathEdges (fixedMatrix (movedBy zero)) (round ++ round) (corners +
 
 -- ---- a gradient from x = 0 to x = 4, and stops of five f32: offset, R, G, B, A
 abbrev fourPixels : LinearPoints
-fourPixels = record { x0 = zero; y0 = zero; x1 = fin false 4 (pos 0); y1 = zero }
+fourPixels = record { x0 = zero; y0 = zero; x1 = fin false 1 (pos 2); y1 = zero }
 
 abbrev bytesOfZero : List ℕ
 bytesOfZero = 0 ∷ 0 ∷ 0 ∷ 0 ∷ []
@@ -83,7 +83,7 @@ row given paper = record { given = given; paper = paper }
 unfoldable pub table : List Row
 table =
     -- C1
-    row (pos (coverage (square (part 1 0)) false 0 0) ∷ pos (coverage (square (part 1 0)) false 1 0) ∷ pos (compositeByte modeSrcOver 8 255 255 255 0) ∷ [])
+    row (pos (coverage (square (part 1 0)) false 0 0) ∷ pos (coverage (square (part 1 0)) false 1 0) ∷ pos (compositeByte modeSrcOver (coverage (square (part 1 0)) false 1 0) 255 255 255 0) ∷ [])
     (pos 8 ∷ pos 8 ∷ pos 128 ∷ [])
     -- C2
     ∷ row (pos (coverage (square (part 1 2)) false 0 0) ∷ pos (coverage (square (part 1 2)) false 1 0) ∷ []) (pos 16 ∷ pos 0 ∷ [])
@@ -97,7 +97,7 @@ table =
     ∷ row (pos (channelByte (part 1 0)) ∷ pos (channelByte one) ∷ pos (channelByte (fin true 1 (pos 0))) ∷ []) (pos 128 ∷ pos 255 ∷ pos 0 ∷ [])
     -- C7
     ∷ row (linearT (fixedPoints fourPixels) 0 0 ∷ linearT (fixedPoints fourPixels) 3 0 ∷ []) (pos 8192 ∷ pos 57344 ∷ [])
-    ∷ row (bytesOf (rampAt (rampOf false [] 0) (pos 8192)) ++ bytesOf (rampAt (rampOf false [] 0) (pos 57344)))
+    ∷ row (bytesOf (rampAt (rampOf false [] 0) (linearT (fixedPoints fourPixels) 0 0)) ++ bytesOf (rampAt (rampOf false [] 0) (linearT (fixedPoints fourPixels) 3 0)))
     (pos 32 ∷ pos 32 ∷ pos 32 ∷ pos 255 ∷ pos 223 ∷ pos 223 ∷ pos 223 ∷ pos 255 ∷ [])
     -- C8
     ∷ row (bytesOf (rampAt (rampOf false [] 0) (mapped spreadPad (negsuc 8191))) ++ mapped spreadRepeat (negsuc 8191) ∷ mapped spreadReflect (negsuc 8191) ∷ [])

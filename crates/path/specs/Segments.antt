@@ -62,7 +62,7 @@ point x y = record { x = x; y = y }
 abbrev pub origin : Point
 origin = point (pos 0) (pos 0)
 
--- in -32,768..32,767 on both axes
+-- a coordinate in -32,768..32,767, and a point with both
 abbrev pub inSixteenBits : ℤ → Bool
 inSixteenBits z = leZ (negsuc 32767) z && leZ z (pos 32767)
 
@@ -94,7 +94,7 @@ quadTo c e = record { degree = 2; p1 = c; p2 = e; p3 = e }
 abbrev pub cubicTo : Point → Point → Point → Curve
 cubicTo c d e = record { degree = 3; p1 = c; p2 = d; p3 = e }
 
--- the absolute points of a segment: coordinate j of it is c j
+-- the absolute points of a segment, whose coordinate j is c j; the last case is that of move and line
 abbrev pub pairAt : Point → (ℕ → ℤ) → ℕ → Point
 pairAt o c j = point (o .x +ℤ c j) (o .y +ℤ c (j + 1))
 
@@ -140,7 +140,7 @@ abbrev pub walkTo : List ℕ → List ℕ → ℕ → Walk
 walkTo segments coordinates zero = firstWalk
 walkTo segments coordinates (suc n) = walkOn coordinates (walkTo segments coordinates n) (getD segments n 0)
 
--- ---- the rules of a segment: 0, or the code of its refusal
+-- ---- the rules of a segment: 0, or the code of its refusal. A 567th coordinate is one past the 1,132 bytes that a scene has for them
 abbrev pub curveInRange : Curve → Bool
 curveInRange c = inRange (c .p1) && (inRange (c .p2) && inRange (c .p3))
 
