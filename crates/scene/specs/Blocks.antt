@@ -1,8 +1,8 @@
 -- Blocks: their check, and the bytes of a draw.
-use Prim.Native.Nat.{ℕ, suc, _+_, _*_, _/_, _%_}
+use Prim.Native.Nat.{ℕ, zero, suc, _+_, _*_, _/_, _%_}
 use mathlib.Core.List.{List}
-use mathlib.Core.Bool.{Bool, _&&_}
-use lib.ListN.{take, drop}
+use mathlib.Core.Bool.{Bool, true, _&&_}
+use lib.ListN.{getD, take, drop}
 use lib.Dec.{eqb}
 use Rattle.lists.specs.Lists.{total, upto}
 use Rattle.fixed.specs.Little.{u16At}
@@ -33,3 +33,8 @@ drawOf s i = upto drawBlocks (λ j. take payloadBytes (drop (blockBytes * (block
 -- where in the file place p of draw i stands
 abbrev pub fileOffset : ℕ → ℕ → ℕ
 fileOffset i p = blockBytes * (blockOf i + p / payloadBytes) + p % payloadBytes
+
+-- the first n bytes of two lists are the same
+abbrev pub sameTo : List ℕ → List ℕ → ℕ → Bool
+sameTo a b zero = true
+sameTo a b (suc n) = sameTo a b n && eqb (getD a n 0) (getD b n 0)

@@ -1,0 +1,4 @@
+-- The definitions that contracts cite.
+pub mod Picture
+pub mod Damage
+pub mod Answers
