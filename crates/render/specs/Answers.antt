@@ -13,8 +13,8 @@ use Rattle.scene.specs.declared.Fault.{Fault}
 use Rattle.scene.specs.Layout.{noDraw, illegalArgument}
 use Rattle.scene.specs.Header.{widthOf, heightOf}
 use Rattle.scene.specs.Rules.{sceneFault}
-use Rattle.render.specs.Picture.{pixelAt, picture}
-use Rattle.render.specs.Damage.{damage}
+use Rattle.engine.specs.Picture.{pixelAt, picture}
+use Rattle.damage.specs.Damage.{damage}
 use Rattle.render.specs.declared.Refusal.{Refusal}
 use Rattle.render.specs.declared.Answer.{Answer}
 

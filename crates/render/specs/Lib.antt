@@ -1,4 +1,2 @@
 -- The definitions that contracts cite.
-pub mod Picture
-pub mod Damage
 pub mod Answers

@@ -6,7 +6,7 @@ use lib.ListN.{getD, take, drop}
 use lib.Dec.{eqb}
 use Rattle.lists.specs.Lists.{total, upto}
 use Rattle.fixed.specs.Little.{u16At}
-use Rattle.scene.specs.Layout.{blockBytes, payloadBytes, payloadWords, checkModulus, drawBlocks}
+use Rattle.scene.specs.Layout.{blockBytes, payloadBytes, payloadWords, checkModulus, drawBlocks, drawBytes}
 use Rattle.scene.specs.declared.Checksum.{Checksum}
 
 -- the check of the payload at a place: the sum of wi and the sum of i·wi, i from 1, each modulo 65,521; both sums begin at start
@@ -38,3 +38,7 @@ fileOffset i p = blockBytes * (blockOf i + p / payloadBytes) + p % payloadBytes
 abbrev pub sameTo : List ℕ → List ℕ → ℕ → Bool
 sameTo a b zero = true
 sameTo a b (suc n) = sameTo a b n && eqb (getD a n 0) (getD b n 0)
+
+-- two draws have the same 2,032 bytes
+unfoldable pub sameDraw : List ℕ → List ℕ → Bool
+sameDraw a b = sameTo a b drawBytes

@@ -8,10 +8,9 @@ use Rattle.color.specs.declared.Pixel.{Pixel}
 use Rattle.rect.specs.declared.Rect.{Rect}
 use Rattle.rect.specs.Rects.{none, whole, smallest}
 use Rattle.path.specs.Boxes.{boxOf}
-use Rattle.scene.specs.Layout.{drawBytes}
-use Rattle.scene.specs.Blocks.{drawOf, sameTo}
+use Rattle.scene.specs.Blocks.{drawOf, sameDraw}
 use Rattle.scene.specs.Header.{widthOf, heightOf, countOf, backgroundOf}
-use Rattle.render.specs.Picture.{drawEdges}
+use Rattle.engine.specs.Picture.{drawEdges}
 
 -- the scene has a draw i
 abbrev pub has : List ℕ → ℕ → Bool
@@ -19,7 +18,7 @@ has s i = ltb i (countOf s)
 
 -- draw i is changed: its 2,032 bytes differ, or only one scene has it
 unfoldable pub changedAt : List ℕ → List ℕ → ℕ → Bool
-changedAt old new i = cond (has old i) (cond (has new i) (not (sameTo (drawOf old i) (drawOf new i) drawBytes)) true) (has new i)
+changedAt old new i = cond (has old i) (cond (has new i) (not (sameDraw (drawOf old i) (drawOf new i))) true) (has new i)
 
 -- the box of draw i on a surface of w by h pixels
 unfoldable pub drawBox : ℕ → ℕ → List ℕ → Rect
