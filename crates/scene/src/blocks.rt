@@ -11,7 +11,7 @@ ghost use mathlib.Core.Path.{_≡_};
 ghost use Prim.Native.Nat.{_+_, _*_, _<_, _≤_};
 ghost use lib.ListN.{length, take, drop};
 ghost use Rattle.scene.specs.Layout.{blockBytes, payloadBytes, drawBytes};
-ghost use Rattle.scene.specs.Blocks.{checksumOf, blockRight, blockOf, drawOf, sameTo};
+ghost use Rattle.scene.specs.Blocks.{checksumOf, blockRight, blockOf, drawOf, sameDraw};
 
 // The check of the payload at a place; both sums begin at start.
 pub fn checksum(start: u32, s: &[u8], at: usize) -> Checksum
@@ -76,7 +76,7 @@ fn copy(s: &[u8], at: usize, out: &mut [u8])
 // Whether the bytes of two draws are the same.
 pub fn same_draw(a: &[u8], b: &[u8]) -> bool
     requires { ⌜ (length (now a) ≡ drawBytes) × (length (now b) ≡ drawBytes) ⌝ }
-    ensures { λ r. ⌜ r ≡ sameTo (now (a .entry)) (now (b .entry)) drawBytes ⌝ }
+    ensures { λ r. ⌜ r ≡ sameDraw (now (a .entry)) (now (b .entry)) ⌝ }
 {
     let mut i = 0;
     while i < DRAW_BYTES {

@@ -1,5 +1,7 @@
 // The scene file: its blocks, its rules in their order, and its fields.
 pub mod blocks;
+pub mod faults;
+pub mod header;
 pub mod layout;
 
 // The two sums of a block's check.

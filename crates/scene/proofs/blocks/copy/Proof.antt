@@ -45,7 +45,10 @@ loop-less c = search needs
 
 -- src/blocks.rt:70:5
 loop-again : tie.Need-loop-again Inv-loop μ-loop
-loop-again c = ?
+loop-again c =
+    let l = c .before .before .loop in
+    let a = c .before .before .before .args in
+    (search needs, simp length-set (omega arith), copy-turn (a .s .now) (a .out .now) (a .at) (l .out) (l .i) (omega arith) (omega arith) (l .inv .2))
 
 -- src/blocks.rt:65:1
 same-length : tie.Need-same-length Inv-loop μ-loop
@@ -53,7 +56,10 @@ same-length c = search needs
 
 -- src/blocks.rt:65:1
 returns : tie.Need-returns Inv-loop μ-loop
-returns c = ?
+returns c =
+    let l = c .before .loop in
+    let a = c .before .before .args in
+    copy-end (a .s .now) (a .out .now) (a .at) (l .out) (l .i) (omega arith) (omega arith) (l .inv .2)
 
 pub copy-spec : {M : Type 1} → statement M
 copy-spec =

@@ -6,7 +6,7 @@ use native.Mathlib.Numerals.{add-one}
 use native.Mathlib.Omega.{arith}
 use lib.ListN.{length, getD, set, take, drop, length-set}
 use Rattle.lists.specs.Lists.{total, upto, over}
-use Rattle.scene.specs.Blocks.{sameTo}
+use Rattle.scene.specs.Blocks.{sameTo, sameDraw}
 use Rattle.scene.proofs.Same.{same-turn, same-stop}
 use borrow.Author.Needs.{needs}
 use Rattle.scene.proofs.blocks.same_draw.Statement.{statement}
@@ -34,7 +34,11 @@ shared-slice-read-if1-2 c = search needs
 
 -- src/blocks.rt:84:13
 returns : tie.Need-returns Inv-loop μ-loop
-returns c = ?
+unfolding sameDraw
+returns c =
+    let l = c .before .before .before .before .loop in
+    let a = c .before .before .before .before .before .args in
+    sym (same-stop (a .a .now) (a .b .now) (l .i) 2032 (omega arith) (c .if1 .taken))
 
 -- src/blocks.rt:86:9
 add-i : tie.Need-add-i Inv-loop μ-loop
@@ -46,11 +50,18 @@ loop-less c = search needs
 
 -- src/blocks.rt:82:5
 loop-again : tie.Need-loop-again Inv-loop μ-loop
-loop-again c = ?
+loop-again c =
+    let l = c .before .before .before .before .loop in
+    let a = c .before .before .before .before .before .args in
+    (search needs, same-turn (a .a .now) (a .b .now) (l .i) (l .inv .1) (c .if1 .left))
 
 -- src/blocks.rt:77:1
 returns-2 : tie.Need-returns-2 Inv-loop μ-loop
-returns-2 c = ?
+unfolding sameDraw
+returns-2 c =
+    let l = c .before .loop in
+    let e : l .i ≡ 2032 = omega arith in
+    sym (rw e at (l .inv .1))
 
 pub same-draw-spec : {M : Type 1} → statement M
 same-draw-spec =

@@ -1,0 +1,64 @@
+use borrow.Author.Needs.{needs}
+use Rattle.scene.proofs.faults.unused.Statement.{statement}
+use Rattle.scene.proofs.faults.unused.Tie as tie
+use Rattle.scene.proofs.faults.unused.Reads as reads
+use Rattle.scene.proofs.faults.unused.Lts as lts
+use Rattle.scene.proofs.faults.must.Reads as must-reads
+
+abbrev Inv-loop : tie.InvT-loop
+Inv-loop d from to at₀ at = ?
+
+abbrev μ-loop : tie.MeasureT-loop
+μ-loop d from to at₀ at = ?
+
+-- src/faults.rt:46:5
+loop-holds : tie.Need-loop-holds Inv-loop μ-loop
+loop-holds c = search needs
+
+-- src/faults.rt:47:12
+shared-slice-read-if1 : tie.Need-shared-slice-read-if1 Inv-loop μ-loop
+shared-slice-read-if1 c = search needs
+
+-- src/faults.rt:48:13
+must-requires : tie.Need-must-requires Inv-loop μ-loop
+must-requires c κs = search needs
+
+-- src/faults.rt:48:13
+returns : tie.Need-returns Inv-loop μ-loop
+returns c = search needs
+
+-- src/faults.rt:50:9
+add-at : tie.Need-add-at Inv-loop μ-loop
+add-at c = search needs
+
+-- src/faults.rt:46:5
+loop-less : tie.Need-loop-less Inv-loop μ-loop
+loop-less c = search needs
+
+-- src/faults.rt:46:5
+loop-again : tie.Need-loop-again Inv-loop μ-loop
+loop-again c = search needs
+
+-- src/faults.rt:52:5
+must-requires-2 : tie.Need-must-requires-2 Inv-loop μ-loop
+must-requires-2 c κs = search needs
+
+-- src/faults.rt:41:1
+returns-2 : tie.Need-returns-2 Inv-loop μ-loop
+returns-2 c = search needs
+
+pub unused-spec : {M : Type 1} → statement M
+unused-spec =
+    tie.close
+    (tie.spec
+    Inv-loop
+    μ-loop
+    loop-holds
+    shared-slice-read-if1
+    must-requires
+    returns
+    add-at
+    loop-less
+    loop-again
+    must-requires-2
+    returns-2)
