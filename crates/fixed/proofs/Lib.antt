@@ -12,7 +12,13 @@ pub mod Within
 pub mod Means
 pub mod Poly
 pub mod Sign
+pub mod Divide
 pub mod Round
+pub mod Nearest
+pub mod Patterns
+pub mod Nans
+pub mod Conversions
+pub mod Offsets
 pub mod Signed
 pub mod Twos
 pub mod Tests
