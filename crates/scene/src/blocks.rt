@@ -56,7 +56,11 @@ pub fn read_draw(s: &[u8], i: usize, out: &mut [u8])
     let mut j = 0;
     while j < DRAW_BLOCKS {
         let at = PAYLOAD_BYTES * j;
-        copy(s, BLOCK_BYTES * (first + j), &mut out[at..at + PAYLOAD_BYTES]);
+        copy(
+            s,
+            BLOCK_BYTES * (first + j),
+            &mut out[at..at + PAYLOAD_BYTES],
+        );
         j += 1;
     }
 }

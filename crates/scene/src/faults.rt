@@ -12,8 +12,11 @@ ghost use Rattle.scene.specs.Faults as Faults;
 ghost use Rattle.scene.specs.Faults.{orElse};
 
 const SIGN: u32 = 0x80000000;
+
 const INFINITY: u32 = 0x7F800000;
+
 const EXPONENT_BIAS: u32 = 127;
+
 const EXPONENT_ONE: u32 = 0x800000;
 
 // A rule: a place that must be as the paper says.

@@ -64,8 +64,7 @@ loop-again : tie.Need-loop-again Inv-loop μ-loop
 loop-again c =
     let l = c .before .before .loop in
     let a = c .before .before .before .before .args in
-    let w : c .u16-at .result ≡ u16At (a .s .now) (a .at + 2 * l .i) = c .u16-at .ensures .0 ∙ ap (u16At (a .s .now)) (l .inv .1) in
-    (
+    let w : c .u16-at .result ≡ u16At (a .s .now) (a .at + 2 * l .i) = c .u16-at .ensures .0 ∙ ap (u16At (a .s .now)) (l .inv .1) in (
       search needs,
       omega arith,
       omega arith,

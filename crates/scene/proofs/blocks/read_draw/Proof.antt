@@ -91,8 +91,7 @@ loop-again c =
     let f : ℕ → List ℕ = λ k. take 508 (drop (512 * (blockOf (a .i) + k)) (a .s .now)) in
     let m = part-length (l .out) (508 * l .j) (508 * l .j + 508) (omega arith) (omega arith) ∙ n in
     let w : length q ≡ 508 = c .before .before .copy .kept .1 .1 .0 ∙ m in
-    let h : q ≡ f (l .j) = c .before .before .copy .ensures ∙ ap (λ (x : ℕ). take x (drop (512 * (blockOf (a .i) + l .j)) (a .s .now))) m in
-    (
+    let h : q ≡ f (l .j) = c .before .before .copy .ensures ∙ ap (λ (x : ℕ). take x (drop (512 * (blockOf (a .i) + l .j)) (a .s .now))) m in (
       search needs,
       part-kept (l .out) q (508 * l .j) 508 (508 * l .j + 508 - 508 * l .j) (omega arith) w n ∙ l .inv .1,
       part-turn (l .out) q (508 * l .j) 508 (508 * l .j + 508 - 508 * l .j) (omega arith) w f (l .j) (508 * (l .j + 1)) (omega arith) (l .inv .2) h,

@@ -6,11 +6,11 @@ use Rattle.scene.proofs.faults.must.Lts as lts
 
 -- src/faults.rt:20:1
 returns : tie.Need-returns
-returns c = search needs
+returns c = rw (c .if1 .taken)
 
 -- src/faults.rt:20:1
 returns-2 : tie.Need-returns-2
-returns-2 c = search needs
+returns-2 c = rw (c .if1 .left)
 
 pub must-spec : {M : Type 1} → statement M
 must-spec = tie.close (tie.spec returns returns-2)
