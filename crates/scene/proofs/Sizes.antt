@@ -8,10 +8,10 @@ use mathlib.Core.Logic.{⊎-elim}
 use native.Mathlib.Decide.{ℕ-discrete}
 use native.Mathlib.Omega.{arith}
 use borrow.Author.Tests.{le-ltb, lt-ltb, ltb-true, ltb-false}
-use lib.Ieee.{Float, nan, inf, fin, binary32, ofBits, isNan}
+use lib.Ieee.{Float, nan, inf, fin, binary32, ofBits, nanBits, isNan}
 use lib.Ieee.Bits.{nanBits-is, nanBits-above}
 use Rattle.fixed.specs.Floats.{atMost}
-use Rattle.fixed.proofs.Conversions.{isValue, value-within}
+use Rattle.fixed.proofs.Answers.{isValue, value-within}
 use Rattle.fixed.proofs.Patterns.{pattern-within, pattern-above, bits-infinite}
 
 -- a NaN's pattern is above that of infinity
@@ -28,11 +28,14 @@ no-number-pattern n h = rw (nan-pattern n h)
 past-limit : (k m : ℕ) → k ≤ m → (m ≡ k → ⊥) → k < m
 past-limit k m h f = ⊎-elim (λ e. absurd (f (sym e))) (λ l. l) (eq-or-lt-of-le h)
 
-no-size : (k : ℕ) (v : Float) → isNan v ≡ true → atMost k v ≡ false
+is-nan : (v : Float) → isNan v ≡ true → v ≡ nan
 unfolding isNan
-no-size k nan h = refl
-no-size k (inf s) h = refl
-no-size k (fin s m e) h = absurd (false≢true h)
+is-nan nan h = refl
+is-nan (inf s) h = absurd (false≢true h)
+is-nan (fin s m e) h = absurd (false≢true h)
+
+pub nan-read : (n : ℕ) → nanBits binary32 n ≡ true → ofBits binary32 n ≡ nan
+nan-read n h = is-nan (ofBits binary32 n) (sym (nanBits-is binary32 n) ∙ h)
 
 -- that of 2^g is (127 + g) 2^23
 module _ (n g : ℕ) (small : g ≤ 15) where
@@ -48,4 +51,4 @@ module _ (n g : ℕ) (small : g ≤ 15) where
         where
           past : (t : Bool) → ltb (n % 2147483648) 2139095040 ≡ t → atMost (2 ^ g) (ofBits binary32 n) ≡ false
           past true e = sym (value-within 1 (2 ^ g) (ofBits binary32 n)) ∙ ap isValue (pattern-above n 1 g h (ltb-true _ _ e))
-          past false e = no-size (2 ^ g) (ofBits binary32 n) (nan-pattern n (past-limit 2139095040 (n % 2147483648) (ltb-false _ _ e) f))
+          past false e = ap (atMost (2 ^ g)) (is-nan (ofBits binary32 n) (nan-pattern n (past-limit 2139095040 (n % 2147483648) (ltb-false _ _ e) f)))

@@ -24,16 +24,20 @@ abbrev pub linearPointLimit : ℕ
 linearPointLimit = 4096
 
 -- ---- a draw's fields, in layout order
+unfoldable pub countRules : List ℕ → FieldFault
+countRules d =
+    orElse (must (leb (segmentCount d) segmentLimit) segmentCountAt)
+    (orElse (must (leb (scissorCount d) scissorLimit) scissorCountAt)
+    (orElse (must (leb (stopCount d) stopLimit) stopCountAt)
+    (must (eqb (getD d paddingAt 0) 0) paddingAt)))
+
 unfoldable pub headRules : List ℕ → FieldFault
 headRules d =
     orElse (must (ltb (flagsOf d) 8) flagsAt)
     (orElse (must (isMode (blendOf d)) blendAt)
     (orElse (must (eqb (paintTypeOf d) paintColor || eqb (paintTypeOf d) paintLinear) paintTypeAt)
     (orElse (must (leb spreadPad (spreadOf d) && leb (spreadOf d) spreadReflect) spreadAt)
-    (orElse (must (leb (segmentCount d) segmentLimit) segmentCountAt)
-    (orElse (must (leb (scissorCount d) scissorLimit) scissorCountAt)
-    (orElse (must (leb (stopCount d) stopLimit) stopCountAt)
-    (must (eqb (getD d paddingAt 0) 0) paddingAt)))))))
+    (countRules d))))
 
 unfoldable pub floatRules : List ℕ → FieldFault
 floatRules d =

@@ -69,17 +69,28 @@ pub const COORDINATES_AT: usize = 900;
 
 pub const FLAGS_LIMIT: u32 = 8;
 
-pub const SEGMENT_LIMIT: u8 = 128;
+pub const SEGMENT_LIMIT: usize = 128;
 
-pub const SCISSOR_LIMIT: u8 = 4;
+pub const SCISSOR_LIMIT: usize = 4;
 
-pub const STOP_LIMIT: u8 = 32;
+pub const STOP_LIMIT: usize = 32;
 
 pub const SCISSOR_BYTES: usize = 16;
 
 pub const STOP_BYTES: usize = 20;
 
 pub const STOP_FLOATS: usize = 5;
+
+// The limits of floats, as powers of 2: 256 and 32,768 in the matrix, 4,096 in the linear points.
+pub const LINEAR_LOG: u32 = 8;
+pub const TRANSLATION_LOG: u32 = 15;
+pub const POINT_LOG: u32 = 12;
+
+// Paint types and spread modes.
+pub const PAINT_COLOR: u32 = 0x1B00;
+pub const PAINT_LINEAR: u32 = 0x1B01;
+pub const SPREAD_PAD: u32 = 0x1C00;
+pub const SPREAD_REFLECT: u32 = 0x1C02;
 
 // Codes.
 pub const BAD_CHECKSUM: u16 = 0xB001;

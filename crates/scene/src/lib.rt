@@ -1,8 +1,10 @@
 // The scene file: its blocks, its rules in their order, and its fields.
 pub mod blocks;
 pub mod faults;
+pub mod fields;
 pub mod header;
 pub mod layout;
+pub mod rules;
 
 // The two sums of a block's check.
 pub struct Checksum {
