@@ -1,3 +1,4 @@
+use Rattle.scene.specs.Rules.{countRules}
 use borrow.Author.Needs.{needs}
 use Rattle.scene.proofs.rules.count_rules.Statement.{statement}
 use Rattle.scene.proofs.rules.count_rules.Tie as tie
@@ -55,7 +56,20 @@ or-else-requires-3 c κs = search needs
 
 -- src/rules.rt:69:1
 returns : tie.Need-returns
-returns c = search needs
+unfolding countRules
+returns c =
+    rw (
+      c .or-else3 .ensures,
+      c .before .must4 .ensures,
+      c .before .before .segment-count .ensures .0,
+      c .before .before .before .or-else2 .ensures,
+      c .before .before .before .before .must3 .ensures,
+      c .before .before .before .before .before .scissor-count .ensures .0,
+      c .before .before .before .before .before .before .or-else .ensures,
+      c .before .before .before .before .before .before .before .must2 .ensures,
+      c .before .before .before .before .before .before .before .before .stop-count .ensures .0,
+      c .before .before .before .before .before .before .before .before .before .must .ensures,
+    )
 
 pub count-rules-spec : {M : Type 1} → statement M
 count-rules-spec =

@@ -1,3 +1,4 @@
+use Rattle.scene.specs.Rules.{floatRules}
 use borrow.Author.Needs.{needs}
 use Rattle.scene.proofs.rules.float_rules.Statement.{statement}
 use Rattle.scene.proofs.rules.float_rules.Tie as tie
@@ -37,7 +38,17 @@ or-else-requires-3 c κs = search needs
 
 -- src/rules.rt:92:1
 returns : tie.Need-returns
-returns c = search needs
+unfolding floatRules
+returns c =
+    rw (
+      c .or-else3 .ensures,
+      c .before .limited3 .ensures,
+      c .before .before .or-else2 .ensures,
+      c .before .before .before .limited2 .ensures,
+      c .before .before .before .before .or-else .ensures,
+      c .before .before .before .before .before .numbers .ensures,
+      c .before .before .before .before .before .before .limited .ensures,
+    )
 
 pub float-rules-spec : {M : Type 1} → statement M
 float-rules-spec =

@@ -1,3 +1,4 @@
+use Rattle.scene.specs.Rules.{listRules}
 use borrow.Author.Needs.{needs}
 use Rattle.scene.proofs.rules.list_rules.Statement.{statement}
 use Rattle.scene.proofs.rules.list_rules.Tie as tie
@@ -59,7 +60,17 @@ or-else-requires-2 c κs = search needs
 
 -- src/rules.rt:103:1
 returns : tie.Need-returns
-returns c = search needs
+unfolding listRules
+returns c =
+    rw (
+      c .or-else2 .ensures,
+      c .before .unused2 .ensures,
+      c .before .before .or-else .ensures,
+      c .before .before .before .numbers .ensures,
+      c .before .before .before .before .unused .ensures,
+      c .before .before .before .before .before .stop-count .ensures .0,
+      c .before .before .before .before .before .before .scissor-count .ensures .0,
+    )
 
 pub list-rules-spec : {M : Type 1} → statement M
 list-rules-spec =
