@@ -3,4 +3,6 @@ pub mod Layout
 pub mod Blocks
 pub mod Header
 pub mod Fields
+pub mod Faults
 pub mod Rules
+pub mod Accepted
