@@ -1,4 +1,13 @@
 // Whole numbers: floor division, little-endian reads, and the exact whole number that a float becomes.
+pub mod floor;
+pub mod little;
+
+pub use crate::floor::floor_div;
+pub use crate::floor::floor_mod;
+pub use crate::little::i16_at;
+pub use crate::little::i32_at;
+pub use crate::little::u16_at;
+pub use crate::little::u32_at;
 
 // What four bytes are as an f32.
 pub enum Real {
@@ -8,7 +17,7 @@ pub enum Real {
 
 // What a float becomes under a limit on its size.
 pub enum Fixed {
-    Value(i32),
+    Value(i64),
     TooLarge,
     Infinite,
     NotANumber,
