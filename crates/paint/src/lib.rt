@@ -1,4 +1,6 @@
 // Paint: the colour of a pixel, from a plain colour or a linear gradient.
+pub mod gradient;
+
 use color::Color;
 use color::Pixel;
 
@@ -28,4 +30,10 @@ pub enum Paint {
 pub struct Stop {
     pub offset: u32,
     pub color: Pixel,
+}
+
+// A floor division: n / d is whole and rest / d, with rest from 0 to d - 1.
+pub struct Quotient {
+    pub whole: i64,
+    pub rest: i64,
 }
