@@ -1,5 +1,6 @@
 // Paint: the colour of a pixel, from a plain colour or a linear gradient.
 pub mod gradient;
+pub mod ramp;
 
 use color::Color;
 use color::Pixel;
