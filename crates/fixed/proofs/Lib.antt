@@ -13,6 +13,11 @@ pub mod Means
 pub mod Poly
 pub mod Sign
 pub mod Round
+pub mod Nearest
+pub mod Patterns
+pub mod Nans
+pub mod Conversions
+pub mod Offsets
 pub mod Signed
 pub mod Twos
 pub mod Tests

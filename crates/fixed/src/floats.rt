@@ -1,0 +1,28 @@
+// Floats from their bytes.
+use crate::Real;
+use crate::little::u32_at;
+ghost use mathlib.Core.Path.{_≡_};
+ghost use Prim.Native.Nat.{_+_, _≤_};
+ghost use lib.ListN.{length};
+ghost use lib.Ieee as Ieee;
+ghost use lib.Ieee.{binary32};
+ghost use Rattle.fixed.specs.Floats.{realOf, realAt};
+
+// The float of the four bytes from a place on.
+pub fn f32_at(s: &[u8], at: usize) -> Real
+    requires { ⌜ at + 4 ≤ length (now s) ⌝ }
+    ensures { λ r. ⌜ r ≡ realAt (now (s .entry)) at ⌝ }
+{
+    from_pattern(u32_at(s, at))
+}
+
+// The float with the bit pattern n. Without its sign bit, a NaN's pattern is above that of infinity.
+fn from_pattern(n: u32) -> Real
+    ensures { λ r. ⌜ r ≡ realOf (Ieee.nanBits binary32 n) (Ieee.ofBits binary32 n) ⌝ }
+{
+    if n % 2147483648 <= 2139095040 {
+        Real::Number(f32::from_bits(n))
+    } else {
+        Real::Nan
+    }
+}
