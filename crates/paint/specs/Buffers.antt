@@ -3,11 +3,18 @@
 use Prim.Native.Nat.{ℕ, zero, suc, _*_, _≤_, _<_}
 use mathlib.Core.Path.{_≡_}
 use mathlib.Core.List.{List, [], _∷_}
+use mathlib.Core.Bool.{cond}
 use lib.ListN.{length, getD}
-use lib.IntN.{natAbs}
+use lib.IntN.{ℤ, pos, natAbs, _+ℤ_, _-ℤ_, _*ℤ_}
+use lib.Signed.{ltZ}
+use Rattle.fixed.specs.Floor.{floorDiv, floorMod}
+use Rattle.color.specs.declared.Pixel.{Pixel}
 use Rattle.raster.specs.Surface.{pixelIn}
-use Rattle.paint.specs.Gradient.{one}
+use Rattle.paint.specs.Gradient.{one, projection, squaredLength, linearT}
+use Rattle.paint.specs.Paints.{gradientColor}
 use Rattle.paint.specs.declared.FixedPoints.{FixedPoints}
+use Rattle.paint.specs.declared.LinearGradient.{LinearGradient}
+use Rattle.paint.specs.declared.Quotient.{Quotient}
 use Rattle.paint.specs.declared.Stop.{Stop}
 
 -- points of at most 4,096 pixels in size
@@ -36,3 +43,30 @@ pub record Held (offsets colors : List ℕ) (count : ℕ) : Type 0 where
   pub bytes : count * 4 ≤ length colors
   pub first : getD offsets 0 0 ≡ 0
   pub below : (i : ℕ) → i < count → getD offsets i 0 ≤ one
+
+-- ---- t along a row: the numerator over the squared length, from pixel to pixel
+abbrev pub quotientOf : ℤ → ℕ → Quotient
+quotientOf n d = record { whole = floorDiv n d; rest = pos (floorMod n d) }
+
+unfoldable pub quotientAt : FixedPoints → ℕ → ℕ → Quotient
+quotientAt p x y = quotientOf (pos one *ℤ projection p x y) (natAbs (squaredLength p))
+
+-- 65,536 times 256 dx
+unfoldable pub rowStep : FixedPoints → Quotient
+rowStep p = quotientOf (pos 16777216 *ℤ (p .x1 -ℤ p .x0)) (natAbs (squaredLength p))
+
+-- two quotients over d added, with a carry where the rests reach d
+abbrev pub addQuotients : Quotient → Quotient → ℤ → Quotient
+addQuotients a b d =
+    cond (ltZ (a .rest +ℤ b .rest) d)
+    (record { whole = a .whole +ℤ b .whole; rest = a .rest +ℤ b .rest })
+    (record { whole = a .whole +ℤ b .whole +ℤ pos 1; rest = a .rest +ℤ b .rest -ℤ d })
+
+-- at most 2^60 in size, so that a sum fits 64 bits
+pub record Moderate (q : Quotient) : Type 0 where
+  pub whole : natAbs (q .whole) ≤ 1152921504606846976
+  pub rest : natAbs (q .rest) ≤ 1152921504606846976
+
+-- ---- a gradient as it is drawn
+abbrev pub linearAt : LinearGradient → List Stop → ℕ → ℕ → Pixel
+linearAt g ramp x y = gradientColor (g .spread) (g .premultiply) ramp (linearT (g .points) x y)

@@ -5,7 +5,8 @@ ghost use mathlib.Core.Path.{_≡_};
 ghost use Prim.Native.Nat.{_+_, _*_, _≤_};
 ghost use lib.IntN.{pos, natAbs, _+ℤ_, _-ℤ_, _*ℤ_};
 ghost use Rattle.paint.specs.Gradient.{one, centre, squaredLength, projection, linearT, mapped};
-ghost use Rattle.paint.specs.Buffers.{Near};
+ghost use lib.Signed.{_<ℤ_};
+ghost use Rattle.paint.specs.Buffers.{Near, Moderate, quotientOf, addQuotients, quotientAt, rowStep};
 
 // t at the pixel (x, y).
 pub fn linear_t(p: FixedPoints, x: usize, y: usize) -> i64
@@ -46,7 +47,7 @@ fn numerator(p: FixedPoints, x: usize, y: usize) -> i64
     65536 * (along(p.x0, p.x1, x) + along(p.y0, p.y1, y))
 }
 
-fn squared_length(p: FixedPoints) -> i64
+pub fn squared_length(p: FixedPoints) -> i64
     requires { ⌜ Near p ⌝ }
     ensures { λ r. ⌜ r ≡ squaredLength p ⌝ }
 {
@@ -66,4 +67,49 @@ fn square(a: i64, b: i64) -> i64
     ensures { λ r. ⌜ (r ≡ (a -ℤ b) *ℤ (a -ℤ b)) × (natAbs r ≤ 4398046511104) ⌝ }
 {
     (a - b) * (a - b)
+}
+
+// t at the pixel (x, y) of two points that do not coincide, with the rest of its division.
+pub fn quotient_at(p: FixedPoints, x: usize, y: usize) -> Quotient
+    requires { ⌜ Near p × (natAbs (squaredLength p) ≡ 0 → ⊥) ⌝ }
+    requires { ⌜ (x ≤ 1024) × (y ≤ 1024) ⌝ }
+    ensures { λ r. ⌜ r ≡ quotientAt p x y ⌝ }
+{
+    quotient(numerator(p, x, y), squared_length(p))
+}
+
+// What t grows by from one pixel of a row to the next.
+pub fn row_step(p: FixedPoints) -> Quotient
+    requires { ⌜ Near p × (natAbs (squaredLength p) ≡ 0 → ⊥) ⌝ }
+    ensures { λ r. ⌜ r ≡ rowStep p ⌝ }
+{
+    quotient(16777216 * (p.x1 - p.x0), squared_length(p))
+}
+
+// n / d.
+fn quotient(n: i64, d: i64) -> Quotient
+    requires { ⌜ pos 0 <ℤ d ⌝ }
+    ensures { λ r. ⌜ r ≡ quotientOf n (natAbs d) ⌝ }
+{
+    Quotient {
+        whole: fixed::floor_div(n, d),
+        rest: fixed::floor_mod(n, d),
+    }
+}
+
+// The sum of two quotients over d, by a carry and no division.
+pub fn add_quotients(a: Quotient, b: Quotient, d: i64) -> Quotient
+    requires { ⌜ Moderate a × Moderate b × (natAbs d ≤ 1152921504606846976) ⌝ }
+    ensures { λ r. ⌜ r ≡ addQuotients a b d ⌝ }
+{
+    let whole = a.whole + b.whole;
+    let rest = a.rest + b.rest;
+    if rest < d {
+        Quotient { whole, rest }
+    } else {
+        Quotient {
+            whole: whole + 1,
+            rest: rest - d,
+        }
+    }
 }
