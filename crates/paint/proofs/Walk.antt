@@ -1,5 +1,6 @@
 -- t along a row, by quotients: each is the one before and the row's step, and none is large.
 use mathlib.Core.Path.{_≡_, refl, sym, ap, ap₂, _∙_, subst}
+use mathlib.Core.List.{List}
 use Prim.Native.Nat.{ℕ, _+_, _*_, _≤_, _<_}
 use native.Mathlib.Nat.{le-trans}
 use native.Mathlib.Omega.{arith}
@@ -11,13 +12,18 @@ use Rattle.fixed.proofs.Within.{Within, within-pos, within-add, within-sub, wit
 use Rattle.fixed.proofs.Poly as P
 use Rattle.fixed.proofs.Poly.{_⊕_, _⊖_, _⊗_}
 use Rattle.fixed.proofs.Sign.{is-positive, above-zero}
+use Rattle.lists.proofs.Laws.{upto-same}
+use Rattle.color.specs.declared.Pixel.{Pixel}
+use Rattle.raster.specs.Surface.{bytesOf, run}
 use Rattle.paint.specs.Gradient.{one, centre, squaredLength, projection, linearT}
-use Rattle.paint.specs.Buffers.{Near, Moderate, quotientOf, addQuotients, quotientAt, rowStep}
+use Rattle.paint.specs.Paints.{gradientColor}
+use Rattle.paint.specs.Buffers.{Near, Moderate, quotientOf, addQuotients, quotientAt, rowStep, linearAt}
 use Rattle.paint.specs.declared.FixedPoints.{FixedPoints}
-use Rattle.paint.specs.declared.Quotient.{Quotient}
+use Rattle.paint.specs.declared.LinearGradient.{LinearGradient}
+use Rattle.paint.specs.declared.Stop.{Stop}
 use Rattle.paint.proofs.Folded.{rest-below}
 use Rattle.paint.proofs.Quotients.{quotients-add}
-use Rattle.paint.proofs.Slope.{squared-is, above}
+use Rattle.paint.proofs.Slope.{squared-is, above, one-t}
 
 -- a pixel further on the row the numerator is larger by 65,536 times 256 dx
 shifted : (dx x0 rest : ℤ) (x : ℕ)
@@ -82,3 +88,10 @@ module _ (p : FixedPoints) (apart : natAbs (squaredLength p) ≡ 0 → ⊥) wher
         (within-mul (within-pos 65536)
         (within-add (within-mul x-apart (within-sub (centred x h) (small (p .x0) (near .x0))))
         (within-mul y-apart (within-sub (centred y k) (small (p .y0) (near .y0))))))
+
+-- ---- points with one x: a row has one colour
+pub flat-run : (g : LinearGradient) (ramp : List Stop) (x y n : ℕ) (c : Pixel) → g .points .x0 ≡ g .points .x1 → c ≡ linearAt g ramp x y
+    → run n (λ i. c) ≡ run n (λ i. linearAt g ramp (x + i) y)
+flat-run g ramp x y n c e h =
+    upto-same n (λ i. bytesOf c) (λ i. bytesOf (linearAt g ramp (x + i) y))
+    (λ k l. ap bytesOf (h ∙ ap (gradientColor (g .spread) (g .premultiply) ramp) (one-t (g .points) e x (x + k) y)))

@@ -22,9 +22,9 @@ pub fn linear_row(g: LinearGradient, offsets: &[u32], colors: &[u8], x: usize, y
     if p.x0 == p.x1 {
         let c = linear_pixel(g, offsets, colors, x, y);
         raster::fill_row(row, n, c);
-    } else {
-        sloped_row(g, offsets, colors, x, y, n, row);
+        return;
     }
+    sloped_row(g, offsets, colors, x, y, n, row);
 }
 
 // The pixel (x, y).
