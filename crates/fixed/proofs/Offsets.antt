@@ -1,18 +1,15 @@
 -- The offset of a stop, by a comparison with 0 and a conversion under the limit 1.
 use mathlib.Core.Path.{_≡_, refl, sym, ap, _∙_, subst}
-use mathlib.Core.Bool.{Bool, true, false, not, _&&_, _||_}
-use Prim.Native.Nat.{ℕ, _+_, _*_, _≤_, _<_}
+use mathlib.Core.Bool.{true, false, not, _&&_, _||_}
+use Prim.Native.Nat.{ℕ, _*_}
 use native.Mathlib.Nat.{one-mul}
 use native.Mathlib.Decide.{ℕ-discrete}
 use native.Mathlib.Omega.{arith}
 use borrow.Author.Tests.{le-leb, lt-leb, lt-ltb, le-ltb, eq-eqb}
 use lib.Dec.{T, leb, ltb, eqb, eqb→eq}
-use lib.IntN.{ℤ, pos, negℤ, natAbs, _+ℤ_}
+use lib.IntN.{pos}
 use lib.Ieee.{Float, nan, inf, fin, up, down, lt, le, eq, isNan}
-use lib.Ieee.Fits.{down-pos}
-use Rattle.fixed.specs.Floats.{scaled, atMost, inUnit, offsetIn, pickOffset, nearestOf}
-use Rattle.fixed.specs.declared.Offset.{Offset}
-use Rattle.fixed.specs.declared.Offset.the-variants.{At, Outside, NotANumber}
+use Rattle.fixed.specs.Floats.{atMost, inUnit}
 use Rattle.fixed.proofs.Tests.{both-left}
 
 abbrev zeroF : Float

@@ -1,12 +1,12 @@
 -- The value of a bit pattern of 32 bits by its fields, and what its size is at most.
 use mathlib.Core.Path.{_≡_, refl, sym, ap, ap₂, _∙_, subst}
-use mathlib.Core.Bool.{Bool, true, false, cond}
-use Prim.Native.Nat.{ℕ, zero, suc, _+_, _*_, _-_, _/_, _%_, _^_, _≤_, _<_}
-use native.Mathlib.Nat.{le-trans, le-refl, le-of-eq, mul-le-mul, mul-le-mul-right, le-of-mul-le-mul-right, mul-lt-mul-of-pos-right, lt-of-lt-of-le, mul-right-comm, lt-of-mul-lt-mul-right, eq-of-mul-eq-mul-right, mul-assoc, mul-comm, mul-lt-mul-of-pos-left}
+use mathlib.Core.Bool.{Bool}
+use Prim.Native.Nat.{ℕ, suc, _+_, _*_, _-_, _/_, _%_, _^_, _≤_, _<_}
+use native.Mathlib.Nat.{le-trans, le-of-eq, mul-le-mul, mul-le-mul-right, le-of-mul-le-mul-right, mul-lt-mul-of-pos-right, lt-of-lt-of-le, mul-right-comm, lt-of-mul-lt-mul-right, eq-of-mul-eq-mul-right, mul-assoc, mul-comm, mul-lt-mul-of-pos-left}
 use native.Mathlib.Decide.{ℕ-discrete}
 use native.Mathlib.Omega.{arith}
 use borrow.Author.Tests.{le-leb, lt-leb, ne-eqb}
-use lib.Dec.{leb, eqb, lit≤, lit<}
+use lib.Dec.{leb, lit≤, lit<}
 use lib.Pow.{pow-add, pow-mono, pow-pos}
 use lib.Ieee.{Float, nan, inf, fin, up, down, binary32, ofFields, ofBits}
 use lib.Ieee.Fits.{down-pos}

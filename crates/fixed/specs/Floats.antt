@@ -1,9 +1,9 @@
 -- f32 numbers in a list of bytes, and the exact whole number that a float becomes ("Floats to whole numbers").
 use Prim.Native.Nat.{ℕ, _*_}
 use mathlib.Core.List.{List}
-use mathlib.Core.Bool.{Bool, true, false, _&&_, cond}
+use mathlib.Core.Bool.{Bool, true, false}
 use lib.IntN.{ℤ, pos, negℤ, natAbs, _+ℤ_}
-use lib.Ieee.{Float, nan, inf, fin, up, down, binary32, ofBits, nanBits, isNan}
+use lib.Ieee.{Float, nan, inf, fin, up, down, binary32, ofBits, nanBits}
 use lib.Dec.{leb}
 use Rattle.fixed.specs.Floor.{floorDiv}
 use Rattle.fixed.specs.Little.{u32At}

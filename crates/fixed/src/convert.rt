@@ -4,6 +4,9 @@
 // the sign, patterns are in the order of the sizes: at most 2^log is at most the pattern (127 + log) 2^23.
 use crate::Fixed;
 use crate::Offset;
+use crate::floats::EXPONENT;
+use crate::floats::INFINITY;
+use crate::floats::SIGN;
 ghost use mathlib.Core.Path.{_≡_};
 ghost use Prim.Native.Nat.{_+_, _*_, _≤_, _<_, _^_, _%_};
 ghost use lib.IntN.{pos, natAbs, _+ℤ_};
@@ -12,28 +15,28 @@ ghost use lib.Ieee.{binary32};
 ghost use Rattle.fixed.specs.Floor.{floorDiv};
 ghost use Rattle.fixed.specs.Floats.{nearestOf, scaled, fixedIn, offsetIn};
 
-// One of sx, shy, shx, sy of a matrix, in 65,536ths.
+// One of sx, shy, shx, sy of a matrix, at most 2^8 in size, in 65,536ths.
 pub fn linear_entry(v: f32) -> Fixed
     ensures { λ r. ⌜ r ≡ fixedIn 65536 256 v ⌝ }
 {
     convert(v, 65536, 8)
 }
 
-// One of tx, ty of a matrix, in 65,536ths.
+// One of tx, ty of a matrix, at most 2^15 in size, in 65,536ths.
 pub fn translation(v: f32) -> Fixed
     ensures { λ r. ⌜ r ≡ fixedIn 65536 32768 v ⌝ }
 {
     convert(v, 65536, 15)
 }
 
-// A coordinate of a linear gradient's points, in 256ths.
+// A coordinate of a linear gradient's points, at most 2^12 in size, in 256ths.
 pub fn gradient_point(v: f32) -> Fixed
     ensures { λ r. ⌜ r ≡ fixedIn 256 4096 v ⌝ }
 {
     convert(v, 256, 12)
 }
 
-// The offset of a stop, in 65,536ths.
+// The offset of a stop, from 0 to 1, in 65,536ths.
 pub fn stop_offset(v: f32) -> Offset
     ensures { λ r. ⌜ r ≡ offsetIn v ⌝ }
 {
@@ -69,10 +72,10 @@ fn convert_pattern(n: u32, scale: u32, log: u32) -> Fixed
     requires { ⌜ (scale ≤ 65536) × (log ≤ 15) ⌝ }
     ensures { λ r. ⌜ r ≡ fixedIn scale (2 ^ log) (Ieee.ofBits binary32 n) ⌝ }
 {
-    let size = n % 2147483648;
-    if size <= (127 + log) * 8388608 {
+    let size = n % SIGN;
+    if size <= (127 + log) * EXPONENT {
         Fixed::Value(scale_pattern(n, scale))
-    } else if size < 2139095040 {
+    } else if size < INFINITY {
         Fixed::TooLarge
     } else {
         Fixed::Infinite
@@ -85,13 +88,13 @@ fn scale_pattern(n: u32, scale: u32) -> i64
     requires { ⌜ scale ≤ 65536 ⌝ }
     ensures { λ r. ⌜ r ≡ scaled scale (Ieee.ofBits binary32 n) ⌝ }
 {
-    let x = (n % 2147483648 / 8388608) as u64;
-    let t = n % 8388608;
-    let neg = 2147483648 <= n;
+    let x = (n % SIGN / EXPONENT) as u64;
+    let t = n % EXPONENT;
+    let neg = SIGN <= n;
     if x == 0 {
         nearest(neg, t, scale, 149)
     } else {
-        nearest(neg, 8388608 + t, scale, 150 - x)
+        nearest(neg, EXPONENT + t, scale, 150 - x)
     }
 }
 

@@ -8,6 +8,15 @@ ghost use lib.Ieee as Ieee;
 ghost use lib.Ieee.{binary32};
 ghost use Rattle.fixed.specs.Floats.{realOf, realAt};
 
+// The bit of the sign in a bit pattern.
+pub const SIGN: u32 = 0x80000000;
+
+// The lowest bit of the exponent's field.
+pub const EXPONENT: u32 = 0x00800000;
+
+// The pattern of infinity.
+pub const INFINITY: u32 = 0x7f800000;
+
 // The float of the four bytes from a place on.
 pub fn f32_at(s: &[u8], at: usize) -> Real
     requires { ⌜ at + 4 ≤ length (now s) ⌝ }
@@ -20,7 +29,7 @@ pub fn f32_at(s: &[u8], at: usize) -> Real
 fn from_pattern(n: u32) -> Real
     ensures { λ r. ⌜ r ≡ realOf (Ieee.nanBits binary32 n) (Ieee.ofBits binary32 n) ⌝ }
 {
-    if n % 2147483648 <= 2139095040 {
+    if n % SIGN <= INFINITY {
         Real::Number(f32::from_bits(n))
     } else {
         Real::Nan

@@ -8,9 +8,6 @@ use Rattle.fixed.specs.Floats.{fixedIn}
 use Rattle.fixed.proofs.Nans.{equals-itself, is-nan, pattern-no-nan}
 use Rattle.fixed.proofs.convert.convert.Statement.{statement}
 use Rattle.fixed.proofs.convert.convert.Tie as tie
-use Rattle.fixed.proofs.convert.convert.Reads as reads
-use Rattle.fixed.proofs.convert.convert.Lts as lts
-use Rattle.fixed.proofs.convert.convert_pattern.Reads as convert-pattern-reads
 
 -- v is an f32
 v-fits : (c : tie.Start) → T (fits binary32 (c .args .v))

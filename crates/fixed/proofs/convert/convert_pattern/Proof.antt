@@ -9,9 +9,6 @@ use Rattle.fixed.specs.declared.Fixed.the-variants.{Value}
 use Rattle.fixed.proofs.Patterns.{pattern-within, pattern-above, bits-infinite}
 use Rattle.fixed.proofs.convert.convert_pattern.Statement.{statement}
 use Rattle.fixed.proofs.convert.convert_pattern.Tie as tie
-use Rattle.fixed.proofs.convert.convert_pattern.Reads as reads
-use Rattle.fixed.proofs.convert.convert_pattern.Lts as lts
-use Rattle.fixed.proofs.convert.scale_pattern.Reads as scale-pattern-reads
 
 returns : tie.Need-returns
 returns c =

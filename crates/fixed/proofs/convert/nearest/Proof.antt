@@ -1,5 +1,5 @@
 -- `fixed::convert::nearest` meets its contract.
-use mathlib.Core.Path.{_≡_, sym, ap, _∙_, subst}
+use mathlib.Core.Path.{sym, ap, _∙_, subst}
 use mathlib.Core.Bool.{Bool}
 use Prim.Native.Nat.{ℕ, _*_, _^_, _≤_, _<_}
 use native.Mathlib.Nat.{mul-le-mul}
@@ -13,15 +13,12 @@ use mir.Val.{toZ, ofZ}
 use mir.Facts.{toZ-ofZ}
 use Rattle.fixed.specs.Floor.{floorDiv}
 use Rattle.fixed.specs.Floats.{nearestOf}
-use Rattle.fixed.proofs.Means.{Num, need, keep, of-nat, lit, said, sub, mul}
+use Rattle.fixed.proofs.Means.{Num, need, keep, of-nat, lit, sub, mul}
 use Rattle.fixed.proofs.Within.{within-widen}
 use Rattle.fixed.proofs.Signed.{neg-is}
 use Rattle.fixed.proofs.Nearest.{nearest-zero}
 use Rattle.fixed.proofs.convert.nearest.Statement.{statement}
 use Rattle.fixed.proofs.convert.nearest.Tie as tie
-use Rattle.fixed.proofs.convert.nearest.Reads as reads
-use Rattle.fixed.proofs.convert.nearest.Lts as lts
-use Rattle.fixed.proofs.convert.half_up.Reads as half-up-reads
 
 -- less than a half
 small : (m scale s : ℕ) → m < 16777216 → scale ≤ 65536 → 42 ≤ s → 2 * (scale * m) < 2 ^ s

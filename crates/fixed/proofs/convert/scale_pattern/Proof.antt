@@ -9,9 +9,6 @@ use mir.Facts.{toZ-ofZ}
 use Rattle.fixed.proofs.Patterns.{scaled-value, bits-zero, bits-more}
 use Rattle.fixed.proofs.convert.scale_pattern.Statement.{statement}
 use Rattle.fixed.proofs.convert.scale_pattern.Tie as tie
-use Rattle.fixed.proofs.convert.scale_pattern.Reads as reads
-use Rattle.fixed.proofs.convert.scale_pattern.Lts as lts
-use Rattle.fixed.proofs.convert.nearest.Reads as nearest-reads
 
 returns : tie.Need-returns
 returns c =

@@ -3,24 +3,21 @@ use mathlib.Core.Path.{_≡_, sym, ap, _∙_, subst}
 use mathlib.Core.Bool.{true}
 use Prim.Native.Nat.{_≤_}
 use native.Mathlib.Nat.{lt-of-le-of-lt}
-use borrow.Author.Needs.{needs, sfits-of}
-use lib.Dec.{T, lit<}
+use borrow.Author.Needs.{needs}
+use lib.Dec.{lit<}
 use lib.IntN.{ℤ, pos, natAbs}
-use lib.Ieee.{Float, ofBits, le}
-use mir.Syntax.{w32, w64}
+use lib.Ieee.{Float, ofBits}
+use mir.Syntax.{w64}
 use mir.Val.{toZ, ofZ}
-use mir.Facts.{toZ-ofZ}
 use Rattle.fixed.specs.Floats.{scaled, inUnit, offsetIn}
 use Rattle.fixed.specs.declared.Offset.the-variants.{At}
 use Rattle.fixed.proofs.Signed.{clean}
 use Rattle.fixed.proofs.Nans.{equals-itself, is-nan}
-use Rattle.fixed.proofs.Conversions.{isValue, value-told, no-value-told, other-arm, offset-in, offset-out, unit-nonneg, unit-size}
+use Rattle.fixed.proofs.Scaled.{unit-nonneg, unit-size}
+use Rattle.fixed.proofs.Answers.{isValue, value-told, no-value, no-value-arm, offset-in, offset-out}
 use Rattle.fixed.proofs.Offsets.{zero-number, unit-limit, below-zero}
 use Rattle.fixed.proofs.convert.stop_offset.Statement.{statement}
 use Rattle.fixed.proofs.convert.stop_offset.Tie as tie
-use Rattle.fixed.proofs.convert.stop_offset.Reads as reads
-use Rattle.fixed.proofs.convert.stop_offset.Lts as lts
-use Rattle.fixed.proofs.convert.convert.Reads as convert-reads
 
 abbrev v : tie.After-known-told → Float
 v c = c .before .before .before .before .before .args .v
@@ -50,7 +47,7 @@ returns-2 : tie.Need-returns-2
 unfolding ofBits
 returns-2 c =
     let v = c .before .before .before .args .v in
-    let o = no-value-told 65536 1 v (ap isValue (sym (c .before .convert .ensures)) ∙ other-arm (c .before .convert .result) (c .match .keys2)) in
+    let o = no-value 65536 1 v (ap isValue (sym (c .before .convert .ensures)) ∙ no-value-arm (c .before .convert .result) (c .match .keys2)) in
     sym (offset-out v (zero-number v (c .before .before .if1 .taken)) (unit-limit v (c .before .before .if1 .taken) ∙ o))
 
 returns-3 : tie.Need-returns-3

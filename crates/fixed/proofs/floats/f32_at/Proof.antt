@@ -6,10 +6,6 @@ use lib.Ieee.{binary32, nanBits, ofBits}
 use Rattle.fixed.specs.Floats.{realOf}
 use Rattle.fixed.proofs.floats.f32_at.Statement.{statement}
 use Rattle.fixed.proofs.floats.f32_at.Tie as tie
-use Rattle.fixed.proofs.floats.f32_at.Reads as reads
-use Rattle.fixed.proofs.floats.f32_at.Lts as lts
-use Rattle.fixed.proofs.floats.from_pattern.Reads as from-pattern-reads
-use Rattle.fixed.proofs.little.u32_at.Reads as u32-at-reads
 
 returns : tie.Need-returns
 returns c = c .from-pattern .ensures ∙ ap (λ (n : ℕ). realOf (nanBits binary32 n) (ofBits binary32 n)) (c .before .u32-at .ensures)
