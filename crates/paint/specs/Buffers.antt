@@ -3,10 +3,13 @@
 use Prim.Native.Nat.{ℕ, zero, suc, _*_, _≤_, _<_}
 use mathlib.Core.Path.{_≡_}
 use mathlib.Core.List.{List, [], _∷_}
-use mathlib.Core.Bool.{cond}
+use mathlib.Core.Bool.{Bool, false, cond}
 use lib.ListN.{length, getD}
 use lib.IntN.{ℤ, pos, natAbs, _+ℤ_, _-ℤ_, _*ℤ_}
 use lib.Signed.{ltZ}
+use lib.Ieee.{lt}
+use Rattle.fixed.specs.declared.Real.{Real}
+use Rattle.fixed.specs.declared.Real.the-variants.{Number, Nan}
 use Rattle.fixed.specs.Floor.{floorDiv, floorMod}
 use Rattle.color.specs.declared.Pixel.{Pixel}
 use Rattle.raster.specs.Surface.{pixelIn}
@@ -23,6 +26,12 @@ pub record Near (p : FixedPoints) : Type 0 where
   pub y0 : natAbs (p .y0) ≤ 1048576
   pub x1 : natAbs (p .x1) ≤ 1048576
   pub y1 : natAbs (p .y1) ≤ 1048576
+
+-- ---- floats as they are read: a NaN is less than none
+abbrev pub lessReal : Real → Real → Bool
+lessReal (Number x) (Number y) = lt x y
+lessReal (Number x) Nan = false
+lessReal Nan b = false
 
 -- ---- stops in buffers: offsets, and colours of four bytes
 abbrev pub stopAt : List ℕ → List ℕ → ℕ → Stop

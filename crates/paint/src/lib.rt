@@ -2,6 +2,7 @@
 pub mod gradient;
 pub mod ramp;
 pub mod row;
+pub mod stops;
 
 use color::Color;
 use color::Pixel;
