@@ -6,7 +6,8 @@
 --     Walk        t from pixel to pixel of a row
 --     Mix      a channel between two stops
 --     Reals       floats read from bytes
---     Lookup   the search for the stops around t
+--     Lookup      the search for the stops around t
+--     Built       stops stored one after the other
 pub mod Sizes
 pub mod Slope
 pub mod Folded
@@ -15,3 +16,4 @@ pub mod Walk
 pub mod Mix
 pub mod Reals
 pub mod Lookup
+pub mod Built
