@@ -10,7 +10,7 @@ use Rattle.lists.proofs.Laws.{getD-set-before, four-before, four-each}
 use Rattle.color.specs.declared.Pixel.{Pixel}
 use Rattle.raster.specs.Surface.{pixelIn}
 use Rattle.paint.specs.Ramps.{stop}
-use Rattle.paint.specs.Buffers.{stopAt, stopsFrom, stopsIn}
+use Rattle.paint.specs.Buffers.{Room, stopAt, stopsFrom, stopsIn}
 use Rattle.paint.specs.declared.Stop.{Stop}
 
 shift : (i n : ℕ) → suc i + n ≡ i + suc n
@@ -62,3 +62,6 @@ module _ (o c : List ℕ) (at x : ℕ) (q : Pixel) (h : at < length o) (k : at *
 
       here : stopAt (set o at x) (putColor c at q) at ≡ stop x q
       here = ap₂ stop (getD-set-same o at x 0 h) (color-put c at q k)
+
+pub room-kept : (o c p d : List ℕ) → length p ≡ length o → length d ≡ length c → Room o c → Room p d
+room-kept o c p d e f r = record { places = omega (arith, r .places); bytes = omega (arith, r .bytes) }

@@ -8,6 +8,7 @@
 --     Reals       floats read from bytes
 --     Lookup      the search for the stops around t
 --     Built       stops stored one after the other
+--     Ends        which stops are kept, and the two ends
 pub mod Sizes
 pub mod Slope
 pub mod Folded
@@ -17,3 +18,4 @@ pub mod Mix
 pub mod Reals
 pub mod Lookup
 pub mod Built
+pub mod Ends

@@ -77,8 +77,7 @@ fn first_stop(offsets: &mut [u32], colors: &mut [u8], offset: u32, color: Pixel)
         push(offsets, colors, 0, offset, color);
         return 1;
     }
-    push(offsets, colors, 0, 0, color);
-    push(offsets, colors, 1, offset, color);
+    two_stops(offsets, colors, color, offset, color);
     2
 }
 
@@ -88,8 +87,7 @@ fn close_ramp(offsets: &mut [u32], colors: &mut [u8], count: usize) -> usize
     ensures { λ r. ⌜ (stopsIn (now (offsets .exit)) (now (colors .exit)) r ≡ closed (stopsIn (now (offsets .entry)) (now (colors .entry)) count)) × (r ≤ 34) ⌝ }
 {
     if count == 0 {
-        push(offsets, colors, 0, 0, gray(0));
-        push(offsets, colors, 1, 65536, gray(255));
+        two_stops(offsets, colors, gray(0), 65536, gray(255));
         return 2;
     }
     let last = count - 1;
@@ -111,6 +109,15 @@ fn gray(c: u8) -> Pixel
         b: c,
         a: 255,
     }
+}
+
+// A stop at 0, and another.
+fn two_stops(offsets: &mut [u32], colors: &mut [u8], color: Pixel, offset: u32, next: Pixel)
+    requires { ⌜ Room (now offsets) (now colors) ⌝ }
+    ensures { λ _. ⌜ stopsIn (now (offsets .exit)) (now (colors .exit)) 2 ≡ stop 0 color ∷ stop offset next ∷ [] ⌝ }
+{
+    push(offsets, colors, 0, 0, color);
+    push(offsets, colors, 1, offset, next);
 }
 
 // A stop after the first `at`.
