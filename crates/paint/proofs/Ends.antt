@@ -2,19 +2,20 @@
 use mathlib.Core.Path.{_≡_, refl, sym, ap, ap₂, _∙_}
 use mathlib.Core.Bool.{Bool, true, false, cond}
 use mathlib.Core.List.{List, [], _∷_, _++_, map, map-append, append-nil}
-use Prim.Native.Nat.{ℕ, zero, suc, _+_}
+use Prim.Native.Nat.{ℕ, zero, suc, _+_, _-_}
 use native.Mathlib.Omega.{arith}
 use borrow.Author.Tests.{eq-eqb, ne-eqb}
 use lib.Dec.{eqb}
 use lib.IntN.{natAbs}
 use lib.ListN.{getD}
+use Rattle.lists.specs.Lists.{upto}
 use Rattle.fixed.specs.Floats.{inUnit, offsetIn, scaled}
 use Rattle.fixed.specs.declared.Offset.{Offset}
 use Rattle.fixed.specs.declared.Offset.the-variants.{At}
 use Rattle.fixed.proofs.Answers.{isOffset, offset-told, no-offset}
 use Rattle.raster.specs.Surface.{pixelIn}
 use Rattle.paint.specs.Gradient.{one}
-use Rattle.paint.specs.Ramps.{offsetAt, colorAt, keptAt, black, white, stop, withEnd, withEnds, prepared}
+use Rattle.paint.specs.Ramps.{offsetAt, colorAt, fallsIn, keptAt, keptStops, black, white, stop, withEnd, withEnds, prepared, rampOf}
 use Rattle.paint.specs.Buffers.{stopAt, stopsFrom, stopsIn, withFirst, grown, closed}
 use Rattle.paint.specs.declared.Stop.{Stop}
 
@@ -98,7 +99,7 @@ end-prepared premultiply a [] = by (eqb (a .offset) one)
     by false = refl
 end-prepared premultiply a (b ∷ l) = ap (λ (r : List Stop). prepared premultiply a ∷ r) (end-prepared premultiply b l)
 
-pub ends-built : (premultiply : Bool) (l : List Stop) → map (prepared premultiply) (withEnds l) ≡ closed (withFirst (map (prepared premultiply) l))
+ends-built : (premultiply : Bool) (l : List Stop) → map (prepared premultiply) (withEnds l) ≡ closed (withFirst (map (prepared premultiply) l))
 unfolding withEnds
 ends-built true [] = refl
 ends-built false [] = refl
@@ -109,3 +110,16 @@ ends-built premultiply (a ∷ l) = by (eqb (a .offset) 0)
         ≡ closed (cond t (prepared premultiply a ∷ map (prepared premultiply) l) (stop 0 (prepared premultiply a .color) ∷ prepared premultiply a ∷ map (prepared premultiply) l))
     by true = end-prepared premultiply a l
     by false = ap (λ (r : List Stop). stop 0 (prepared premultiply a .color) ∷ r) (end-prepared premultiply a l)
+
+-- the ramp of stops that fall, and of others
+module _ (premultiply : Bool) (stops : List ℕ) (n : ℕ) where
+  built : (l : List Stop) → keptStops stops n ≡ l → rampOf premultiply stops n ≡ closed (withFirst (map (prepared premultiply) l))
+  built l e = ends-built premultiply (keptStops stops n) ∙ ap (λ (k : List Stop). closed (withFirst (map (prepared premultiply) k))) e
+
+  pub ramp-fallen : fallsIn stops (n - 1) ≡ true → rampOf premultiply stops n ≡ closed []
+  unfolding keptStops
+  ramp-fallen h = built [] (rw h)
+
+  pub ramp-kept : fallsIn stops (n - 1) ≡ false → rampOf premultiply stops n ≡ closed (withFirst (map (prepared premultiply) (upto n (keptAt stops))))
+  unfolding keptStops
+  ramp-kept h = built (upto n (keptAt stops)) (rw h)

@@ -9,6 +9,7 @@
 --     Lookup      the search for the stops around t
 --     Built       stops stored one after the other
 --     Ends        which stops are kept, and the two ends
+--     Sound       a ramp's offsets are at most 65,536, and paint is made of bytes
 pub mod Sizes
 pub mod Slope
 pub mod Folded
@@ -19,3 +20,4 @@ pub mod Reals
 pub mod Lookup
 pub mod Built
 pub mod Ends
+pub mod Sound

@@ -29,6 +29,13 @@ pub record Near (p : FixedPoints) : Type 0 where
   pub x1 : natAbs (p .x1) ≤ 1048576
   pub y1 : natAbs (p .y1) ≤ 1048576
 
+-- four bytes
+pub record Bytes (p : Pixel) : Type 0 where
+  pub r : p .r < 256
+  pub g : p .g < 256
+  pub b : p .b < 256
+  pub a : p .a < 256
+
 -- ---- floats as they are read: a NaN is less than none
 abbrev pub lessReal : Real → Real → Bool
 lessReal (Number x) (Number y) = lt x y

@@ -1,47 +1,63 @@
+-- `build::keep_stops` meets its contract.
+use mathlib.Core.Path.{_≡_, refl, sym, ap, _∙_}
+use mathlib.Core.List.{List, map}
+use Prim.Native.Nat.{ℕ, _+_, _-_, _≤_}
+use native.Mathlib.Omega.{arith}
+use lib.ListN.{length}
+use Rattle.lists.specs.Lists.{upto}
+use Rattle.lists.proofs.Laws.{upto-more}
+use Rattle.paint.specs.Ramps.{keptAt, prepared}
+use Rattle.paint.specs.Buffers.{stopsIn, withFirst, grown}
+use Rattle.paint.specs.declared.Stop.{Stop}
+use Rattle.paint.proofs.Built.{room-kept}
+use Rattle.paint.proofs.Ends.{kept-turn}
 use borrow.Author.Needs.{needs}
 use Rattle.paint.proofs.build.keep_stops.Statement.{statement}
 use Rattle.paint.proofs.build.keep_stops.Tie as tie
-use Rattle.paint.proofs.build.keep_stops.Reads as reads
-use Rattle.paint.proofs.build.keep_stops.Lts as lts
-use Rattle.paint.proofs.build.keep_stop.Reads as keep-stop-reads
 
 abbrev Inv-loop : tie.InvT-loop
-Inv-loop stops n premultiply offsets₀ colors₀ count₀ i₀ offsets colors count i = ?
+Inv-loop stops n premultiply offsets₀ colors₀ count₀ i₀ offsets colors count i =
+    (i ≤ n)
+    × (count ≤ i + 1)
+    × (length offsets ≡ length offsets₀)
+    × (length colors ≡ length colors₀)
+    × (stopsIn offsets colors count ≡ withFirst (map (prepared premultiply) (upto i (keptAt stops))))
 
 abbrev μ-loop : tie.MeasureT-loop
-μ-loop stops n premultiply offsets₀ colors₀ count₀ i₀ offsets colors count i = ?
+μ-loop stops n premultiply offsets₀ colors₀ count₀ i₀ offsets colors count i = n - i
 
--- src/build.rt:38:5
-loop-holds : tie.Need-loop-holds Inv-loop μ-loop
-loop-holds c = ?
-
--- src/build.rt:39:9
 keep-stop-requires : tie.Need-keep-stop-requires Inv-loop μ-loop
-keep-stop-requires c κs = ?
+keep-stop-requires c κs =
+    let l = c .before .before .before .loop in
+    let s = c .before .before .before .before .before .before .before in
+    (
+      (omega arith, omega arith, l .inv .1),
+      room-kept (s .args .offsets .now) (s .args .colors .now) (l .offsets) (l .colors) (l .inv .2) (l .inv .3) (s .pre .1),
+    )
 
--- src/build.rt:40:9
-add-i : tie.Need-add-i Inv-loop μ-loop
-add-i c = ?
-
--- src/build.rt:38:5
-loop-less : tie.Need-loop-less Inv-loop μ-loop
-loop-less c = ?
-
--- src/build.rt:38:5
 loop-again : tie.Need-loop-again Inv-loop μ-loop
-loop-again c = ?
+loop-again c =
+    let l = c .before .before .before .before .before .before .before .before .loop in
+    let a = c .before .before .before .before .before .before .before .before .before .before .before .before .args in
+    let k = c .before .before .before .before .keep-stop in
+    let kept = upto (l .i) (keptAt (a .stops .now)) in
+    (
+      omega arith,
+      omega (arith, k .ensures .1),
+      k .kept .1 .1 .1 .0 ∙ l .inv .2,
+      k .kept .1 .1 .1 .1 .0 ∙ l .inv .3,
+      k .ensures .0
+      ∙ ap (λ (r : List Stop). grown r (map (prepared (a .premultiply)) (keptAt (a .stops .now) (l .i)))) (l .inv .4)
+      ∙ kept-turn (a .premultiply) (a .stops .now) (l .i) kept
+      ∙ ap (λ (r : List Stop). withFirst (map (prepared (a .premultiply)) r)) (sym (upto-more (l .i) (keptAt (a .stops .now)))),
+    )
 
--- src/build.rt:30:1
-same-length : tie.Need-same-length Inv-loop μ-loop
-same-length c = ?
-
--- src/build.rt:30:1
-same-length-2 : tie.Need-same-length-2 Inv-loop μ-loop
-same-length-2 c = ?
-
--- src/build.rt:30:1
 returns : tie.Need-returns Inv-loop μ-loop
-returns c = ?
+returns c =
+    let l = c .before .loop in
+    let a = c .before .before .before .before .before .args in
+    let e : l .i ≡ a .n = omega arith in
+    (l .inv .4 ∙ ap (λ (k : ℕ). withFirst (map (prepared (a .premultiply)) (upto k (keptAt (a .stops .now))))) e, omega arith)
 
 pub keep-stops-spec : {M : Type 1} → statement M
 keep-stops-spec =
@@ -49,11 +65,11 @@ keep-stops-spec =
     (tie.spec
     Inv-loop
     μ-loop
-    loop-holds
+    (λ c. (omega arith, omega arith, refl, refl, refl))
     keep-stop-requires
-    add-i
-    loop-less
+    (λ c. search needs)
+    (λ c. search needs)
     loop-again
-    same-length
-    same-length-2
+    (λ c. c .before .loop .inv .2)
+    (λ c. c .before .loop .inv .3)
     returns)
