@@ -2,15 +2,24 @@
 use crate::LinearGradient;
 use crate::gradient;
 use crate::ramp;
+use color::Color;
 use color::Pixel;
 ghost use mathlib.Core.Path.{_≡_};
 ghost use Prim.Native.Nat.{_+_, _*_, _≤_};
 ghost use lib.IntN.{natAbs};
 ghost use lib.ListN.{length};
+ghost use Rattle.color.specs.Channels.{bytesOfColor, premultiplied};
 ghost use Rattle.raster.specs.Surface.{run};
 ghost use Rattle.paint.specs.Gradient.{squaredLength};
 ghost use Rattle.paint.specs.Paints.{gradientColor};
 ghost use Rattle.paint.specs.Buffers.{Near, Held, stopsIn, linearAt};
+
+// The pixel of a plain colour.
+pub fn solid_pixel(c: Color) -> Pixel
+    ensures { λ r. ⌜ r ≡ premultiplied (bytesOfColor c) ⌝ }
+{
+    c.to_bytes().premultiplied()
+}
 
 // The pixels (x, y) to (x + n - 1, y).
 pub fn linear_row(g: LinearGradient, offsets: &[u32], colors: &[u8], x: usize, y: usize, n: usize, row: &mut [u8])
