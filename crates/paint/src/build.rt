@@ -13,7 +13,13 @@ ghost use Rattle.paint.specs.Ramps.{stop, keptAt, prepared, rampOf};
 ghost use Rattle.paint.specs.Buffers.{Held, Room, stopsIn, withFirst, grown, closed};
 
 // The ramp of n stops. Returns the number of stops that the buffers hold then.
-pub fn build_ramp(stops: &[u8], n: usize, premultiply: bool, offsets: &mut [u32], colors: &mut [u8]) -> usize
+pub fn build_ramp(
+    stops: &[u8],
+    n: usize,
+    premultiply: bool,
+    offsets: &mut [u32],
+    colors: &mut [u8],
+) -> usize
     requires { ⌜ (n ≤ 32) × (20 * n ≤ length (now stops)) ⌝ }
     requires { ⌜ Room (now offsets) (now colors) ⌝ }
     ensures { λ r. ⌜ stopsIn (now (offsets .exit)) (now (colors .exit)) r ≡ rampOf premultiply (now (stops .entry)) n ⌝ }
@@ -27,7 +33,13 @@ pub fn build_ramp(stops: &[u8], n: usize, premultiply: bool, offsets: &mut [u32]
 }
 
 // The stops in range, with an end at 0.
-fn keep_stops(stops: &[u8], n: usize, premultiply: bool, offsets: &mut [u32], colors: &mut [u8]) -> usize
+fn keep_stops(
+    stops: &[u8],
+    n: usize,
+    premultiply: bool,
+    offsets: &mut [u32],
+    colors: &mut [u8],
+) -> usize
     requires { ⌜ (n ≤ 32) × (20 * n ≤ length (now stops)) ⌝ }
     requires { ⌜ Room (now offsets) (now colors) ⌝ }
     ensures { λ r. ⌜ stopsIn (now (offsets .exit)) (now (colors .exit)) r ≡ withFirst (map (prepared premultiply) (upto n (keptAt (now (stops .entry))))) ⌝ }

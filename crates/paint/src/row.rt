@@ -22,7 +22,15 @@ pub fn solid_pixel(c: Color) -> Pixel
 }
 
 // The pixels (x, y) to (x + n - 1, y).
-pub fn linear_row(g: LinearGradient, offsets: &[u32], colors: &[u8], x: usize, y: usize, n: usize, row: &mut [u8])
+pub fn linear_row(
+    g: LinearGradient,
+    offsets: &[u32],
+    colors: &[u8],
+    x: usize,
+    y: usize,
+    n: usize,
+    row: &mut [u8],
+)
     requires { ⌜ Near (g .points) × Held (now offsets) (now colors) (g .count) ⌝ }
     requires { ⌜ (x + n ≤ 1024) × (y ≤ 1024) × (length (now row) ≡ n * 4) ⌝ }
     ensures { λ _. ⌜ now (row .exit) ≡ run n (λ i. linearAt g (stopsIn (now (offsets .entry)) (now (colors .entry)) (g .count)) (x + i) y) ⌝ }
@@ -47,7 +55,15 @@ pub fn linear_pixel(g: LinearGradient, offsets: &[u32], colors: &[u8], x: usize,
 }
 
 // The same as linear_row of points that do not coincide: t goes from pixel to pixel without a division.
-fn sloped_row(g: LinearGradient, offsets: &[u32], colors: &[u8], x: usize, y: usize, n: usize, row: &mut [u8])
+fn sloped_row(
+    g: LinearGradient,
+    offsets: &[u32],
+    colors: &[u8],
+    x: usize,
+    y: usize,
+    n: usize,
+    row: &mut [u8],
+)
     requires { ⌜ Near (g .points) × Held (now offsets) (now colors) (g .count) ⌝ }
     requires { ⌜ (x + n ≤ 1024) × (y ≤ 1024) × (length (now row) ≡ n * 4) ⌝ }
     requires { ⌜ (natAbs (squaredLength (g .points)) ≡ 0 → ⊥) ⌝ }
@@ -76,9 +92,5 @@ fn shade(g: LinearGradient, offsets: &[u32], colors: &[u8], t: i64) -> Pixel
     ensures { λ r. ⌜ r ≡ gradientColor (g .spread) (g .premultiply) (stopsIn (now (offsets .entry)) (now (colors .entry)) (g .count)) t ⌝ }
 {
     let c = ramp::ramp_color(offsets, colors, g.count, gradient::spread(g.spread, t));
-    if g.premultiply {
-        c
-    } else {
-        c.premultiplied()
-    }
+    if g.premultiply { c } else { c.premultiplied() }
 }

@@ -13,8 +13,7 @@ use Rattle.paint.proofs.build.build_ramp.Tie as tie
 close-ramp-requires-2 : tie.Need-close-ramp-requires-2
 close-ramp-requires-2 c κs =
     let s = c .before .before .before .before .before .before .before .before .before .before .before .before .before .before in
-    let k = c .before .before .before .before .before .before .keep-stops in
-    (
+    let k = c .before .before .before .before .before .before .keep-stops in (
       omega (arith, k .ensures .1),
       room-kept (s .args .offsets .now) (s .args .colors .now) (k .last .1 .1 .1 .0) (k .last .1 .1 .1 .1 .0) (k .kept .1 .1 .1 .0) (k .kept .1 .1 .1 .1 .0) (s .pre .1),
     )
@@ -25,13 +24,12 @@ returns c =
     let a = s .args in
     let r = c .before .before .before .before .close-ramp in
     let e : stopsIn (r .last .0) (r .last .1 .0) (r .result) ≡ rampOf (a .premultiply) (a .stops .now) (a .n) =
-    r .ensures .0 ∙ sym (ramp-fallen (a .premultiply) (a .stops .now) (a .n) (sym (c .before .before .before .before .before .before .before .before .falls .ensures) ∙ c .before .before .before .before .before .before .before .if1 .taken)) in
-    (
+    r .ensures .0 ∙ sym (ramp-fallen (a .premultiply) (a .stops .now) (a .n) (sym (c .before .before .before .before .before .before .before .before .falls .ensures) ∙ c .before .before .before .before .before .before .before .if1 .taken)) in (
       e,
       ramp-held (r .last .0) (r .last .1 .0) (a .premultiply) (a .stops .now) (a .n) (r .result)
-      (room-kept (a .offsets .now) (a .colors .now) (r .last .0) (r .last .1 .0) (r .kept .0) (r .kept .1 .0) (s .pre .1))
-      (r .ensures .1)
-      e,
+          (room-kept (a .offsets .now) (a .colors .now) (r .last .0) (r .last .1 .0) (r .kept .0) (r .kept .1 .0) (s .pre .1))
+          (r .ensures .1)
+          e,
     )
 
 returns-2 : tie.Need-returns-2
@@ -41,13 +39,12 @@ returns-2 c =
     let r = c .before .before .before .before .close-ramp2 in
     let k = c .before .before .before .before .before .before .before .before .before .before .before .keep-stops in
     let e : stopsIn (r .last .0) (r .last .1 .0) (r .result) ≡ rampOf (a .premultiply) (a .stops .now) (a .n) =
-    r .ensures .0 ∙ ap closed (k .ensures .0) ∙ sym (ramp-kept (a .premultiply) (a .stops .now) (a .n) (sym (c .before .before .before .before .before .before .before .before .before .before .before .before .before .before .before .falls .ensures) ∙ c .before .before .before .before .before .before .before .before .before .before .before .before .before .before .if1 .left)) in
-    (
+    r .ensures .0 ∙ ap closed (k .ensures .0) ∙ sym (ramp-kept (a .premultiply) (a .stops .now) (a .n) (sym (c .before .before .before .before .before .before .before .before .before .before .before .before .before .before .before .falls .ensures) ∙ c .before .before .before .before .before .before .before .before .before .before .before .before .before .before .if1 .left)) in (
       e,
       ramp-held (r .last .0) (r .last .1 .0) (a .premultiply) (a .stops .now) (a .n) (r .result)
-      (room-kept (a .offsets .now) (a .colors .now) (r .last .0) (r .last .1 .0) (r .kept .0 ∙ k .kept .1 .1 .1 .0) (r .kept .1 .0 ∙ k .kept .1 .1 .1 .1 .0) (s .pre .1))
-      (r .ensures .1)
-      e,
+          (room-kept (a .offsets .now) (a .colors .now) (r .last .0) (r .last .1 .0) (r .kept .0 ∙ k .kept .1 .1 .1 .0) (r .kept .1 .0 ∙ k .kept .1 .1 .1 .1 .0) (s .pre .1))
+          (r .ensures .1)
+          e,
     )
 
 pub build-ramp-spec : {M : Type 1} → statement M

@@ -15,11 +15,10 @@ use Rattle.paint.proofs.build.close_ramp.Tie as tie
 
 returns : tie.Need-returns
 returns c =
-    let a = c .before .before .before .before .before .before .before .before .before .before .before .before .args in
-    (
+    let a = c .before .before .before .before .before .before .before .before .before .before .before .before .args in (
       c .before .before .before .before .two-stops .ensures
-      ∙ ap₂ (λ (p q : Pixel). stop 0 p ∷ stop one q ∷ []) (c .before .before .before .before .before .before .gray .ensures) (c .before .before .before .before .before .gray2 .ensures)
-      ∙ sym (closed-none (a .offsets .now) (a .colors .now) (a .count) (c .before .before .before .before .before .before .before .before .before .if1 .taken)),
+          ∙ ap₂ (λ (p q : Pixel). stop 0 p ∷ stop one q ∷ []) (c .before .before .before .before .before .before .gray .ensures) (c .before .before .before .before .before .gray2 .ensures)
+          ∙ sym (closed-none (a .offsets .now) (a .colors .now) (a .count) (c .before .before .before .before .before .before .before .before .before .if1 .taken)),
       omega arith,
     )
 
@@ -30,11 +29,10 @@ returns-2 c =
 
 returns-3 : tie.Need-returns-3
 returns-3 c =
-    let a = c .before .before .before .before .before .before .before .before .before .before .before .before .before .before .args in
-    (
+    let a = c .before .before .before .before .before .before .before .before .before .before .before .before .before .before .args in (
       c .before .before .before .before .push .ensures
-      ∙ ap (λ (q : Pixel). stopsIn (a .offsets .now) (a .colors .now) (a .count) ++ (stop one q ∷ [])) (c .before .before .before .before .before .before .before .pixel .ensures)
-      ∙ sym (closed-more (a .offsets .now) (a .colors .now) (a .count) (a .count - 1) (omega (arith, c .before .before .before .before .before .before .before .before .before .before .before .if1 .left)) (c .before .before .before .before .before .before .before .before .before .if2 .left)),
+          ∙ ap (λ (q : Pixel). stopsIn (a .offsets .now) (a .colors .now) (a .count) ++ (stop one q ∷ [])) (c .before .before .before .before .before .before .before .pixel .ensures)
+          ∙ sym (closed-more (a .offsets .now) (a .colors .now) (a .count) (a .count - 1) (omega (arith, c .before .before .before .before .before .before .before .before .before .before .before .if1 .left)) (c .before .before .before .before .before .before .before .before .before .if2 .left)),
       omega arith,
     )
 

@@ -33,30 +33,27 @@ before-it c = stopsIn (start c .args .offsets .now) (start c .args .colors .now)
 returns : tie.Need-returns
 returns c =
     let a = c .before .before .before .before .before .args in
-    let r = c .before .offset-at in
-    (
+    let r = c .before .offset-at in (
       sym (ap (λ (l : List Stop). grown (stopsIn (a .offsets .now) (a .colors .now) (a .count)) (map (prepared (a .premultiply)) l))
-      (kept-none (a .stops .now) (a .i) (r .result) (r .ensures) (no-offset-arm (r .result) (c .match .keys2)))),
+          (kept-none (a .stops .now) (a .i) (r .result) (r .ensures) (no-offset-arm (r .result) (c .match .keys2)))),
       omega arith,
     )
 
 returns-2 : tie.Need-returns-2
 returns-2 c =
     let d = c .before .before .before .before .before .before .before .before in
-    let a = start d .args in
-    (
+    let a = start d .args in (
       c .before .before .before .before .first-stop .ensures .0
-      ∙ sym (ap (grown (before-it d)) (kept-is d) ∙ grown-first (a .offsets .now) (a .colors .now) (a .count) (kept d) (c .before .before .before .before .before .before .before .if1 .taken)),
+          ∙ sym (ap (grown (before-it d)) (kept-is d) ∙ grown-first (a .offsets .now) (a .colors .now) (a .count) (kept d) (c .before .before .before .before .before .before .before .if1 .taken)),
       omega (arith, c .before .before .before .before .first-stop .ensures .1),
     )
 
 returns-3 : tie.Need-returns-3
 returns-3 c =
     let d = c .before .before .before .before .before .before .before .before in
-    let a = start d .args in
-    (
+    let a = start d .args in (
       c .before .before .before .before .push .ensures
-      ∙ sym (ap (grown (before-it d)) (kept-is d) ∙ grown-more (a .offsets .now) (a .colors .now) (a .count) (a .count - 1) (kept d) (omega (arith, c .before .before .before .before .before .before .before .if1 .left))),
+          ∙ sym (ap (grown (before-it d)) (kept-is d) ∙ grown-more (a .offsets .now) (a .colors .now) (a .count) (a .count - 1) (kept d) (omega (arith, c .before .before .before .before .before .before .before .if1 .left))),
       omega arith,
     )
 

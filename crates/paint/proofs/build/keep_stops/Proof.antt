@@ -29,8 +29,7 @@ abbrev μ-loop : tie.MeasureT-loop
 keep-stop-requires : tie.Need-keep-stop-requires Inv-loop μ-loop
 keep-stop-requires c κs =
     let l = c .before .before .before .loop in
-    let s = c .before .before .before .before .before .before .before in
-    (
+    let s = c .before .before .before .before .before .before .before in (
       (omega arith, omega arith, l .inv .1),
       room-kept (s .args .offsets .now) (s .args .colors .now) (l .offsets) (l .colors) (l .inv .2) (l .inv .3) (s .pre .1),
     )
@@ -40,16 +39,15 @@ loop-again c =
     let l = c .before .before .before .before .before .before .before .before .loop in
     let a = c .before .before .before .before .before .before .before .before .before .before .before .before .args in
     let k = c .before .before .before .before .keep-stop in
-    let kept = upto (l .i) (keptAt (a .stops .now)) in
-    (
+    let kept = upto (l .i) (keptAt (a .stops .now)) in (
       omega arith,
       omega (arith, k .ensures .1),
       k .kept .1 .1 .1 .0 ∙ l .inv .2,
       k .kept .1 .1 .1 .1 .0 ∙ l .inv .3,
       k .ensures .0
-      ∙ ap (λ (r : List Stop). grown r (map (prepared (a .premultiply)) (keptAt (a .stops .now) (l .i)))) (l .inv .4)
-      ∙ kept-turn (a .premultiply) (a .stops .now) (l .i) kept
-      ∙ ap (λ (r : List Stop). withFirst (map (prepared (a .premultiply)) r)) (sym (upto-more (l .i) (keptAt (a .stops .now)))),
+          ∙ ap (λ (r : List Stop). grown r (map (prepared (a .premultiply)) (keptAt (a .stops .now) (l .i)))) (l .inv .4)
+          ∙ kept-turn (a .premultiply) (a .stops .now) (l .i) kept
+          ∙ ap (λ (r : List Stop). withFirst (map (prepared (a .premultiply)) r)) (sym (upto-more (l .i) (keptAt (a .stops .now)))),
     )
 
 returns : tie.Need-returns Inv-loop μ-loop

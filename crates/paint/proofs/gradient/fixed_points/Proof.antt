@@ -14,8 +14,7 @@ returns c =
     let a = clean w64 1048576 (x0 .result) tt (x0 .ensures .1) in
     let b = clean w64 1048576 (y0 .result) tt (y0 .ensures .1) in
     let d = clean w64 1048576 (x1 .result) tt (x1 .ensures .1) in
-    let e = clean w64 1048576 (y1 .result) tt (y1 .ensures .1) in
-    (
+    let e = clean w64 1048576 (y1 .result) tt (y1 .ensures .1) in (
       λ i. record { x0 = (a ∙ x0 .ensures .0) i; y0 = (b ∙ y0 .ensures .0) i; x1 = (d ∙ x1 .ensures .0) i; y1 = (e ∙ y1 .ensures .0) i },
       record { x0 = rw a (x0 .ensures .1); y0 = rw b (y0 .ensures .1); x1 = rw d (x1 .ensures .1); y1 = rw e (y1 .ensures .1) },
     )
