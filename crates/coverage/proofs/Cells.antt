@@ -144,7 +144,7 @@ module _ (s v : List ℤ) (p : ℕ) (now : v ≡ over (zeros (p * 16)) s) where
 
   -- what an unmarked pixel has
   module _ (cover : List ℕ) (marks : Marked cover (at s)) (here : p < length cover) (mark : ℕ) (is : mark ≡ getD cover p 0) where
-    pub nothing-begins : mark ≡ 0 → (j : ℕ) → j < 16 → at s (p * 16 + j) ≡ pos 0
+    nothing-begins : mark ≡ 0 → (j : ℕ) → j < 16 → at s (p * 16 + j) ≡ pos 0
     nothing-begins e j h = marks .none (p * 16 + j) (omega arith) (ap (λ (n : ℕ). getD cover n 0) (pixel p j h) ∙ sym is ∙ e)
       where
         pixel : (p j : ℕ) → j < 16 → (p * 16 + j) / 16 ≡ p

@@ -12,7 +12,7 @@ use lib.IntN.{ℤ, pos, _+ℤ_, +ℤ-idr}
 use lib.ListN.{length, getD, set, take, drop, length-set, List·getD-append}
 use lib.Seq.{length-take-le, getD-append-add, getD-take, getD-set-same, getD-set-other, set-append-left, take-at, drop-at}
 use Rattle.lists.specs.Lists.{tab}
-use Rattle.lists.proofs.Laws.{tab-length, tab-at, tab-ext}
+use Rattle.lists.proofs.Laws.{tab-length, tab-at, tab-ext, upto-same}
 use Rattle.coverage.specs.Engine.{laid}
 
 set-append-right : {A : Type 0} (xs ys : List A) (n : ℕ) (a : A) → set (xs ++ ys) (length xs + n) a ≡ xs ++ set ys n a
@@ -56,3 +56,6 @@ tab-bump m f p v h = tab-ext (pos 0) (set (tab m f) p (f p +ℤ v)) m (λ j. f j
     by k l (no d) =
         getD-set-other (tab m f) p k (f p +ℤ v) (pos 0) d ∙ tab-at m f k (pos 0) l
         ∙ sym (ap (λ (t : Bool). f k +ℤ cond t v (pos 0)) (ne-eqb p k (λ q. d (sym q))) ∙ +ℤ-idr (f k))
+
+pub tab-same : {A : Type 0} (n : ℕ) (f g : ℕ → A) → ((k : ℕ) → k < n → f k ≡ g k) → tab n f ≡ tab n g
+tab-same n f g h = upto-same n (λ k. f k ∷ []) (λ k. g k ∷ []) (λ k m. ap (λ x. x ∷ []) (h k m))

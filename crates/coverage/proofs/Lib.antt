@@ -3,6 +3,7 @@ pub mod Crossing
 pub mod Sums
 pub mod Begin
 pub mod Laid
+pub mod Starts
 pub mod Turn
 pub mod Tally
 pub mod Zeros
@@ -10,5 +11,6 @@ pub mod Cells
 pub mod Window
 pub mod Limits
 pub mod Telescope
+pub mod Sides
 pub mod Outside
 pub mod Rectangles

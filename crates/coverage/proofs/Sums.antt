@@ -19,7 +19,7 @@ use Rattle.fixed.proofs.Tests.{both-left, both-right}
 use Rattle.coverage.proofs.Crossing.{first-column-law, place-law}
 
 -- ---- sums over edges
-pub sum-append : (f : Edge → ℤ) (a b : List Edge) → sumOf f (a ++ b) ≡ sumOf f a +ℤ sumOf f b
+sum-append : (f : Edge → ℤ) (a b : List Edge) → sumOf f (a ++ b) ≡ sumOf f a +ℤ sumOf f b
 sum-append f [] b = sym (+ℤ-idl (sumOf f b))
 sum-append f (e ∷ a) b = rw (sum-append f a b, +ℤ-assoc)
 
@@ -37,16 +37,16 @@ sum-small f (e ∷ a) h =
 swap : (a b c d : ℤ) → a +ℤ b +ℤ (c +ℤ d) ≡ a +ℤ c +ℤ (b +ℤ d)
 swap a b c d = eq (var a ⊕ var b ⊕ (var c ⊕ var d)) (var a ⊕ var c ⊕ (var b ⊕ var d)) (omega arith)
 
-pub run-add : (f g : ℕ → ℤ) (n : ℕ) → running (λ i. f i +ℤ g i) n ≡ running f n +ℤ running g n
+run-add : (f g : ℕ → ℤ) (n : ℕ) → running (λ i. f i +ℤ g i) n ≡ running f n +ℤ running g n
 run-add f g zero = refl
 run-add f g (suc n) = ap (λ (z : ℤ). z +ℤ (f n +ℤ g n)) (run-add f g n) ∙ swap (running f n) (running g n) (f n) (g n)
 
-pub run-zero : (n : ℕ) → running (λ i. pos 0) n ≡ pos 0
+run-zero : (n : ℕ) → running (λ i. pos 0) n ≡ pos 0
 run-zero zero = refl
 run-zero (suc n) = ap (λ (z : ℤ). z +ℤ pos 0) (run-zero n)
 
 -- a lone number v at p
-pub run-lone : (p : ℕ) (v : ℤ) (n : ℕ) → running (λ i. cond (eqb p i) v (pos 0)) n ≡ cond (ltb p n) v (pos 0)
+run-lone : (p : ℕ) (v : ℤ) (n : ℕ) → running (λ i. cond (eqb p i) v (pos 0)) n ≡ cond (ltb p n) v (pos 0)
 run-lone p v zero = ap (λ (t : Bool). cond t v (pos 0)) (sym (le-ltb p 0 (omega arith)))
 run-lone p v (suc n) = ap (λ (z : ℤ). z +ℤ cond (eqb p n) v (pos 0)) (run-lone p v n) ∙ by (ℕ-discrete p n)
   where
@@ -69,7 +69,7 @@ none : (t : Bool) → cond t (pos 0) (pos 0) ≡ pos 0
 none true = refl
 none false = refl
 
-pub counts-law : (c k : ℕ) (Y : ℤ) (e : Edge) (j : ℕ) → j < k → counts (sample (c + j)) Y e ≡ cond (leb (startAt c k Y e) j) (weight Y e) (pos 0)
+counts-law : (c k : ℕ) (Y : ℤ) (e : Edge) (j : ℕ) → j < k → counts (sample (c + j)) Y e ≡ cond (leb (startAt c k Y e) j) (weight Y e) (pos 0)
 unfolding counts weight startAt spans atOrLeft
 counts-law c k Y e j h = by (spansUp (upward e) Y) refl
   where

@@ -3,32 +3,18 @@ use mathlib.Core.Path.{_≡_, refl, ap, ap₂, _∙_}
 use mathlib.Core.List.{List, [], _∷_}
 use mathlib.Core.Bool.{Bool, true, false, not, cond, _&&_}
 use native.Mathlib.Omega.{arith}
-use lib.Dec.{T, not-T}
+use lib.Dec.{T}
 use lib.IntN.{ℤ, pos, negsuc, _+ℤ_, _-ℤ_}
-use lib.Signed.{leZ, ltZ, leZ-yes, ltZ-yes, ltZ-no, clashℤ}
+use lib.Signed.{leZ, leZ-yes, ltZ-yes, ltZ-no}
 use Rattle.fixed.proofs.Poly.{var, le, from-le, from-lt}
-use Rattle.fixed.proofs.Tests.{same-test}
 use Rattle.path.specs.declared.Edge.{Edge}
 use Rattle.path.specs.Closed.{Closed, fall}
+use Rattle.coverage.proofs.Crossing.{above}
 use Rattle.coverage.specs.Winding.{rises, turned, upward, spansUp, spans, sign, sumOf, weight}
 
 -- 1 where y is at or below Y
 abbrev pub below : ℤ → ℤ → ℤ
 below Y y = cond (leZ y Y) (pos 1) (pos 0)
-
--- not at or below is above
-above : (y Y : ℤ) → ltZ Y y ≡ not (leZ y Y)
-above y Y =
-    same-test (ltZ Y y) (not (leZ y Y)) (λ t. not-T (leZ y Y) (λ h. clashℤ {a = Y} {b = y} (ltZ-yes t) (leZ-yes h)))
-    (λ t. back (ltZ Y y) (λ h. absurd (no (leZ y Y) t (ltZ-no {a = Y} {b = y} h .le))))
-  where
-    no : (b : Bool) → T (not b) → T b → ⊥
-    no true s t = s
-    no false s t = t
-
-    back : (b : Bool) → (T (not b) → T b) → T b
-    back true f = tt
-    back false f = f tt
 
 -- four flags: does it rise, and are its ends at or below
 core : (r a b : Bool) → (T r → T b → T a) → (T (not r) → T a → T b)

@@ -1,92 +1,36 @@
 -- Turns of the loops that add the edges of a row of pixels to the sums.
 use mathlib.Core.Path.{_≡_, refl, sym, ap, ap₂, subst, _∙_}
 use mathlib.Core.List.{List, [], _∷_, _++_}
-use mathlib.Core.Bool.{Bool, true, false, cond, _&&_}
-use Prim.Native.Nat.{ℕ, _+_, _*_, _-_, _/_, _%_, _≤_, _<_}
+use mathlib.Core.Bool.{Bool, true, false, cond}
+use Prim.Native.Nat.{ℕ, _+_, _*_, _/_, _≤_, _<_}
 use native.Mathlib.Omega.{arith}
 use native.Mathlib.Numerals.{add-one}
 use native.Mathlib.Decide.{ℕ-discrete}
-use lib.Dec.{T, eqb, leb, ltb}
-use borrow.Author.Tests.{leb-false, ltb-true, ltb-false, lt-ltb, le-ltb, eq-eqb, ne-eqb}
-use lib.IntN.{ℤ, pos, negsuc, natAbs, _+ℤ_, _-ℤ_, +ℤ-idr}
-use lib.Signed.{leZ, ltZ, leZ-yes, ltZ-yes}
+use lib.Dec.{eqb, ltb}
+use borrow.Author.Tests.{ltb-true, ltb-false, ne-eqb}
+use lib.IntN.{ℤ, pos, natAbs, _+ℤ_, +ℤ-idr}
 use lib.ListN.{length, getD, set, length-set}
 use lib.Seq.{getD-set-same, getD-set-other}
 use Rattle.lists.specs.Lists.{tab}
-use Rattle.lists.proofs.Laws.{tab-length, tab-at, upto-same}
-use Rattle.fixed.proofs.Within.{abs-add}
-use Rattle.fixed.proofs.Poly.{var, num, le, from-le, from-lt}
-use Rattle.fixed.proofs.Tests.{is-true, is-false, both-left, both-right}
+use Rattle.lists.proofs.Laws.{tab-length, tab-at}
 use Rattle.path.specs.declared.Edge.{Edge}
 use Rattle.path.specs.Stored.{edgeAt, edgesOf, Small}
 use Rattle.coverage.specs.declared.Start.{Start}
-use Rattle.coverage.specs.Winding.{upward, spans, rises, sign, weight, sample}
-use Rattle.coverage.specs.Engine.{laid, zeros, place, firstColumn, startAt, starts, startOf, sumsAt, missed, bumped, withSums, Edges, Marked}
-use Rattle.coverage.proofs.Sums.{sum-more, sum-small}
-use Rattle.coverage.proofs.Telescope.{below, weight-law}
+use Rattle.coverage.specs.Winding.{sample}
+use Rattle.coverage.specs.Engine.{laid, zeros, place, starts, startOf, sumsAt, missed, bumped, withSums, Edges, Marked}
 use Rattle.coverage.proofs.Laid.{laid-at, laid-before, laid-set, laid-again, tab-bump}
-
-place-le : (c k : ℕ) (z : ℤ) → place c k z ≤ k
-unfolding place
-place-le c k (negsuc n) = omega arith
-place-le c k (pos n) = by (leb n c) (leb (c + k) n) refl
-  where
-    by : (s t : Bool) → leb (c + k) n ≡ t → cond s 0 (cond t k (n - c)) ≤ k
-    by true t e = omega arith
-    by false true e = omega arith
-    by false false e = omega (arith, leb-false (c + k) n e)
-
-pub start-le : (c k : ℕ) (Y : ℤ) (e : Edge) → startAt c k Y e ≤ k
-unfolding startAt
-start-le c k Y e = by (spans e Y)
-  where
-    by : (t : Bool) → cond t (place c k (firstColumn (upward e) Y)) k ≤ k
-    by true = place-le c k (firstColumn (upward e) Y)
-    by false = omega arith
-
-pub weight-small : (Y : ℤ) (e : Edge) → natAbs (weight Y e) ≤ 1
-unfolding weight sign
-weight-small Y e = by (spans e Y) (rises e)
-  where
-    by : (s t : Bool) → natAbs (cond s (cond t (pos 1) (negsuc 0)) (pos 0)) ≤ 1
-    by true true = omega arith
-    by true false = omega arith
-    by false t = omega arith
-
-pub cond-small : (t : Bool) (v : ℤ) → natAbs v ≤ 1 → natAbs (cond t v (pos 0)) ≤ 1
-cond-small true v h = h
-cond-small false v h = omega arith
-
--- no column has more beginnings than there are edges
-pub starts-small : (c k : ℕ) (Y : ℤ) (es : List Edge) (j : ℕ) → natAbs (starts c k Y es j) ≤ length es
-unfolding starts
-starts-small c k Y es j = sum-small (λ e. cond (eqb (startAt c k Y e) j) (weight Y e) (pos 0)) es (λ e. cond-small (eqb (startAt c k Y e) j) (weight Y e) (weight-small Y e))
-
-pub starts-more : (c k : ℕ) (Y : ℤ) (es : List Edge) (e : Edge) (j : ℕ)
-    → starts c k Y (es ++ (e ∷ [])) j ≡ starts c k Y es j +ℤ cond (eqb (startAt c k Y e) j) (weight Y e) (pos 0)
-unfolding starts
-starts-more c k Y es e j = sum-more (λ d. cond (eqb (startAt c k Y d) j) (weight Y d) (pos 0)) es e
-
-pub tab-same : {A : Type 0} (n : ℕ) (f g : ℕ → A) → ((k : ℕ) → k < n → f k ≡ g k) → tab n f ≡ tab n g
-tab-same n f g h = upto-same n (λ k. f k ∷ []) (λ k. g k ∷ []) (λ k m. ap (λ x. x ∷ []) (h k m))
-
--- a number's column and sample row
-number-of : (s i : ℕ) → eqb (s * 4 + i % 4) i ≡ eqb s (i / 4)
-number-of s i = by (ℕ-discrete s (i / 4))
-  where
-    by : Dec (s ≡ i / 4) → eqb (s * 4 + i % 4) i ≡ eqb s (i / 4)
-    by (yes p) = eq-eqb (s * 4 + i % 4) i (omega arith) ∙ sym (eq-eqb s (i / 4) p)
-    by (no p) = ne-eqb (s * 4 + i % 4) i (λ q. p (omega arith)) ∙ sym (ne-eqb s (i / 4) p)
+use Rattle.coverage.proofs.Laid.{tab-same}
+use Rattle.coverage.proofs.Starts.{partly, partly-none, partly-more, partly-all, partly-small, missed-more}
 
 -- ---- one number more in the sums
 module _ (b m : ℕ) (l : List ℤ) (fit : b + m ≤ length l) (f : ℕ → ℤ) (r : List ℤ) (now : r ≡ laid b m l (tab m f)) where
-  pub stands : (p : ℕ) → p < m → getD r (b + p) (pos 0) ≡ f p
+  stands : (p : ℕ) → p < m → getD r (b + p) (pos 0) ≡ f p
   stands p h =
       ap (λ (t : List ℤ). getD t (b + p) (pos 0)) now
       ∙ laid-at b m l (tab m f) fit (tab-length m f) p (pos 0) h
       ∙ tab-at m f p (pos 0) h
 
-  pub put-turn : (w a q : ℕ) (v : ℤ) → m ≡ w * 16 → q < 4 → (t : List ℤ) → t ≡ cond (ltb (a / 4) w) (bumped r (b + (a * 4 + q)) v) r
+  put-turn : (w a q : ℕ) (v : ℤ) → m ≡ w * 16 → q < 4 → (t : List ℤ) → t ≡ cond (ltb (a / 4) w) (bumped r (b + (a * 4 + q)) v) r
       → t ≡ laid b m l (tab m (λ i. f i +ℤ cond (eqb (a * 4 + q) i) v (pos 0)))
   put-turn w a q v e h t o = o ∙ by (ltb (a / 4) w) refl
     where
@@ -103,7 +47,7 @@ module _ (b m : ℕ) (l : List ℤ) (fit : b + m ≤ length l) (f : ℕ → ℤ)
           (tab-same m f (λ i. f i +ℤ cond (eqb (a * 4 + q) i) v (pos 0))
           (λ i k. sym (ap (λ (s : Bool). f i +ℤ cond s v (pos 0)) (ne-eqb (a * 4 + q) i (λ z. omega (arith, ltb-false (a / 4) w p, z))) ∙ +ℤ-idr (f i))))
 
-pub mark-turn : (d t : List ℕ) (f : ℕ → ℤ) (a q : ℕ) (v : ℤ) → q < 4 → t ≡ set d (a / 4) 1 → Marked d f → Marked t (λ i. f i +ℤ cond (eqb (a * 4 + q) i) v (pos 0))
+mark-turn : (d t : List ℕ) (f : ℕ → ℤ) (a q : ℕ) (v : ℤ) → q < 4 → t ≡ set d (a / 4) 1 → Marked d f → Marked t (λ i. f i +ℤ cond (eqb (a * 4 + q) i) v (pos 0))
 mark-turn d t f a q v h o k = record { none = λ i l z. by i l z (ℕ-discrete (i / 16) (a / 4)) }
   where
     wide : length t ≡ length d
@@ -120,111 +64,20 @@ mark-turn d t f a q v h o k = record { none = λ i l z. by i l z (ℕ-discrete (
 pub mark-same : (d : List ℕ) (f g : ℕ → ℤ) → ((i : ℕ) → i < length d * 16 → f i ≡ g i) → Marked d f → Marked d g
 mark-same d f g h k = record { none = λ i l z. sym (h i l) ∙ k .none i l z }
 
--- ---- an edge, sample row after sample row
-module _ (c k y : ℕ) where
-  abbrev pub begun : Edge → ℕ → ℤ
-  begun e i = cond (eqb (startAt c k (sample (4 * y + i % 4)) e) (i / 4)) (weight (sample (4 * y + i % 4)) e) (pos 0)
-
-  -- with what the edge e begins in the first r sample rows
-  abbrev pub partly : List Edge → Edge → ℕ → ℕ → ℤ
-  partly es e r i = sumsAt c k y es i +ℤ cond (ltb (i % 4) r) (begun e i) (pos 0)
-
-  module _ (es : List Edge) (e : Edge) where
-    pub partly-none : (i : ℕ) → sumsAt c k y es i ≡ partly es e 0 i
-    partly-none i = sym (ap (λ (t : Bool). sumsAt c k y es i +ℤ cond t (begun e i) (pos 0)) (le-ltb (i % 4) 0 (omega arith)) ∙ +ℤ-idr (sumsAt c k y es i))
-
-    pub partly-more : (r i : ℕ) → r < 4
-        → partly es e r i +ℤ cond (eqb (startAt c k (sample (4 * y + r)) e * 4 + r) i) (weight (sample (4 * y + r)) e) (pos 0) ≡ partly es e (r + 1) i
-    partly-more r i h = by (ℕ-discrete (i % 4) r)
-      where
-        by : Dec (i % 4 ≡ r) → partly es e r i +ℤ cond (eqb (startAt c k (sample (4 * y + r)) e * 4 + r) i) (weight (sample (4 * y + r)) e) (pos 0) ≡ partly es e (r + 1) i
-        by (yes p) =
-            let s = startAt c k (sample (4 * y + i % 4)) e in
-            ap (λ (q : ℕ). partly es e r i +ℤ cond (eqb (startAt c k (sample (4 * y + q)) e * 4 + q) i) (weight (sample (4 * y + q)) e) (pos 0)) (sym p)
-            ∙ ap₂ (λ (t : Bool) (u : Bool). sumsAt c k y es i +ℤ cond t (begun e i) (pos 0) +ℤ cond u (weight (sample (4 * y + i % 4)) e) (pos 0)) (le-ltb (i % 4) r (omega arith)) (number-of s i)
-            ∙ ap (λ (z : ℤ). z +ℤ begun e i) (+ℤ-idr (sumsAt c k y es i))
-            ∙ sym (ap (λ (t : Bool). sumsAt c k y es i +ℤ cond t (begun e i) (pos 0)) (lt-ltb (i % 4) (r + 1) (omega arith)))
-        by (no p) =
-            ap₂ (λ (t : Bool) (u : Bool). sumsAt c k y es i +ℤ cond t (begun e i) (pos 0) +ℤ cond u (weight (sample (4 * y + r)) e) (pos 0)) (later (ltb (i % 4) r) refl)
-            (ne-eqb (startAt c k (sample (4 * y + r)) e * 4 + r) i (λ q. p (row-of (startAt c k (sample (4 * y + r)) e) q)))
-            ∙ +ℤ-idr (partly es e (r + 1) i)
-          where
-            later : (t : Bool) → ltb (i % 4) r ≡ t → ltb (i % 4) r ≡ ltb (i % 4) (r + 1)
-            later true q = q ∙ sym (lt-ltb (i % 4) (r + 1) (omega (arith, ltb-true (i % 4) r q)))
-            later false q = q ∙ sym (le-ltb (i % 4) (r + 1) (omega (arith, ltb-false (i % 4) r q, p)))
-
-            row-of : (s : ℕ) → s * 4 + r ≡ i → i % 4 ≡ r
-            row-of s q = omega arith
-
-    pub partly-all : (i : ℕ) → partly es e 4 i ≡ sumsAt c k y (es ++ (e ∷ [])) i
-    partly-all i =
-        ap (λ (t : Bool). sumsAt c k y es i +ℤ cond t (begun e i) (pos 0)) (lt-ltb (i % 4) 4 (omega arith))
-        ∙ sym (starts-more c k (sample (4 * y + i % 4)) es e (i / 4))
-
-    pub partly-small : (r i : ℕ) → natAbs (partly es e r i) ≤ length es + 1
-    partly-small r i =
-        omega (
-          arith,
-          abs-add (sumsAt c k y es i) (cond (ltb (i % 4) r) (begun e i) (pos 0)),
-          starts-small c k (sample (4 * y + i % 4)) es (i / 4),
-          cond-small (ltb (i % 4) r) (begun e i) (cond-small (eqb (startAt c k (sample (4 * y + i % 4)) e) (i / 4)) (weight (sample (4 * y + i % 4)) e) (weight-small (sample (4 * y + i % 4)) e)),
-        )
-
--- an edge that misses the row of pixels begins nothing in it
-missed-weight : (e : Edge) (y r : ℕ) → r < 4 → missed (e .y0) (e .y1) y ≡ true → weight (sample (4 * y + r)) e ≡ pos 0
-missed-weight e y r h q = weight-law e Y ∙ by (leZ (e .y0) (sample (4 * y))) refl (is-set q)
-  where
-    Y : ℤ
-    Y = sample (4 * y + r)
-
-    is-set : missed (e .y0) (e .y1) y ≡ true → T (missed (e .y0) (e .y1) y)
-    is-set p = subst T (sym p) tt
-
-    low : (z : ℤ) → T (leZ z (sample (4 * y))) → leZ z Y ≡ true
-    low z t = is-true (leZ z Y) (le (var z) (num (64 * (4 * y + r) + 32)) (omega (arith, from-le (var z) (num (64 * (4 * y) + 32)) (leZ-yes t))) .le)
-
-    high : (z : ℤ) → T (ltZ (sample (4 * y + 3)) z) → leZ z Y ≡ false
-    high z t =
-        is-false (leZ z Y)
-        (λ u. omega (arith, from-lt (num (64 * (4 * y + 3) + 32)) (var z) (ltZ-yes t), from-le (var z) (num (64 * (4 * y + r) + 32)) (leZ-yes u)))
-
-    by : (t : Bool) → leZ (e .y0) (sample (4 * y)) ≡ t
-        → T (cond t (leZ (e .y1) (sample (4 * y))) (ltZ (sample (4 * y + 3)) (e .y0) && ltZ (sample (4 * y + 3)) (e .y1)))
-        → below Y (e .y0) -ℤ below Y (e .y1) ≡ pos 0
-    by true p u = ap₂ (λ (a b : Bool). cond a (pos 1) (pos 0) -ℤ cond b (pos 1) (pos 0)) (low (e .y0) (subst T (sym p) tt)) (low (e .y1) u)
-    by false p u =
-        ap₂ (λ (a b : Bool). cond a (pos 1) (pos 0) -ℤ cond b (pos 1) (pos 0)) (high (e .y0) (both-left (ltZ (sample (4 * y + 3)) (e .y0)) (ltZ (sample (4 * y + 3)) (e .y1)) u))
-        (high (e .y1) (both-right (ltZ (sample (4 * y + 3)) (e .y0)) (ltZ (sample (4 * y + 3)) (e .y1)) u))
-
-pub missed-more : (c k y : ℕ) (es : List Edge) (e : Edge) (i : ℕ) → missed (e .y0) (e .y1) y ≡ true → sumsAt c k y es i ≡ sumsAt c k y (es ++ (e ∷ [])) i
-missed-more c k y es e i q =
-    let Y = sample (4 * y + i % 4) in
-    sym (starts-more c k Y es e (i / 4)
-    ∙ ap (λ (v : ℤ). starts c k Y es (i / 4) +ℤ cond (eqb (startAt c k Y e) (i / 4)) v (pos 0)) (missed-weight e y (i % 4) (omega arith) q)
-    ∙ ap (λ (v : ℤ). starts c k Y es (i / 4) +ℤ v) (none (eqb (startAt c k Y e) (i / 4))) ∙ +ℤ-idr (starts c k Y es (i / 4)))
-  where
-    none : (t : Bool) → cond t (pos 0) (pos 0) ≡ pos 0
-    none true = refl
-    none false = refl
-
 -- ---- the edges stand where they stood
 module _ (n m : ℕ) (l q : List ℤ) (fit : n * 4 + m ≤ length l) (e : length q ≡ m) where
-  pub edge-stays : (i : ℕ) → i < n → edgeAt (laid (n * 4) m l q) i ≡ edgeAt l i
+  edge-stays : (i : ℕ) → i < n → edgeAt (laid (n * 4) m l q) i ≡ edgeAt l i
   edge-stays i h =
       let s : (j : ℕ) → j < n * 4 → getD (laid (n * 4) m l q) j (pos 0) ≡ getD l j (pos 0) = λ j k. laid-before (n * 4) m l q fit e j (pos 0) k in
       rw (s (i * 4) (omega arith), s (i * 4 + 1) (omega arith), s (i * 4 + 2) (omega arith), s (i * 4 + 3) (omega arith))
 
-  pub edges-stay : (i : ℕ) → i ≤ n → edgesOf (laid (n * 4) m l q) i ≡ edgesOf l i
+  edges-stay : (i : ℕ) → i ≤ n → edgesOf (laid (n * 4) m l q) i ≡ edgesOf l i
   edges-stay i h = tab-same i (edgeAt (laid (n * 4) m l q)) (edgeAt l) (λ j k. edge-stays j (omega arith))
-
-pub by-small : (c k : ℕ) (Y : ℤ) (e : Edge) (s : Start) → s ≡ startOf c k Y e → natAbs (s .by) ≤ 1
-unfolding startOf
-by-small c k Y e s q = subst (λ (z : Start). natAbs (z .by) ≤ 1) (sym q) (weight-small Y e)
 
 -- ---- the ith edge, for w pixels from column c on in the pixel row y
 module _ (n w c y : ℕ) (l : List ℤ) (fit : n * 4 + w * 16 ≤ length l) (i : ℕ) where
   -- the sums while it is added: with what it begins in the first r sample rows
-  abbrev pub sumsUpTo : ℕ → ℕ → ℤ
+  abbrev sumsUpTo : ℕ → ℕ → ℤ
   sumsUpTo r = partly c (w * 4) y (edgesOf l i) (edgeAt l i) r
 
   with-more : (f : ℕ → ℤ) → ((j : ℕ) → f j ≡ sumsAt c (w * 4) y (edgesOf l i ++ (edgeAt l i ∷ [])) j)

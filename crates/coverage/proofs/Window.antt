@@ -15,8 +15,9 @@ use Rattle.path.specs.declared.Edge.{Edge}
 use Rattle.coverage.specs.Winding.{atOrLeft, weight, counts, winding, sample, one, inside, tally, coverage}
 use Rattle.coverage.specs.Engine.{at, laid, starts, running, sumsAt, rowOf, pixelOf, Tame, Marked}
 use Rattle.coverage.proofs.Sums.{sum-small, running-starts}
-use Rattle.coverage.proofs.Laid.{laid-part, laid-again}
-use Rattle.coverage.proofs.Turn.{starts-small, weight-small, cond-small, tab-same, mark-same}
+use Rattle.coverage.proofs.Laid.{laid-part, laid-again, tab-same}
+use Rattle.coverage.proofs.Starts.{starts-small, weight-small, cond-small}
+use Rattle.coverage.proofs.Turn.{mark-same}
 
 run-same : (f g : ℕ → ℤ) (n : ℕ) → ((i : ℕ) → i < n → f i ≡ g i) → running f n ≡ running g n
 run-same f g zero h = refl

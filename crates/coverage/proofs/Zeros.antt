@@ -58,7 +58,7 @@ module _ (l : List ℤ) (n : ℕ) (h : n * 4 ≤ length l) where
   cleared-at : (j : ℕ) → j < n * 4 → getD (cleared l n) j (pos 0) ≡ getD l j (pos 0)
   cleared-at j k = List·getD-append (take (n * 4) l) (zeros (length l - n * 4)) (pos 0) j (rw front k) ∙ getD-take (n * 4) l j (pos 0) k
 
-  pub cleared-edge : (i : ℕ) → i < n → edgeAt (cleared l n) i ≡ edgeAt l i
+  cleared-edge : (i : ℕ) → i < n → edgeAt (cleared l n) i ≡ edgeAt l i
   cleared-edge i k =
       rw (cleared-at (i * 4) (omega arith), cleared-at (i * 4 + 1) (omega arith), cleared-at (i * 4 + 2) (omega arith), cleared-at (i * 4 + 3) (omega arith))
 

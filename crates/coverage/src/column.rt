@@ -3,36 +3,37 @@ use crate::Start;
 use path::Edge;
 ghost use mathlib.Core.Path.{_≡_};
 ghost use Prim.Native.Nat.{_+_, _*_, _^_, _<_, _≤_};
-ghost use lib.IntN.{natAbs};
+ghost use lib.IntN.{pos, natAbs};
 ghost use lib.Signed.{ltZ, leZ, _<ℤ_};
 ghost use mathlib.Core.Bool.{_&&_};
 ghost use Rattle.path.specs.Stored.{Small};
-ghost use Rattle.coverage.specs.Engine.{firstColumn, place, edge, startOf};
+ghost use Rattle.coverage.specs.Engine.{ceilDiv, firstColumn, place, edge, startOf};
 
-// The first column whose sample is at or right of the crossing with the row y, of an edge that goes up.
-pub fn first_column(x0: i32, y0: i32, x1: i32, y1: i32, y: i32) -> i64
+// Of an edge that goes up: the first column whose sample is at or right of its crossing with the row y, in the window of k columns from c on.
+fn column_in(x0: i32, y0: i32, x1: i32, y1: i32, y: i32, c: usize, k: usize) -> usize
     requires { ⌜ y0 <ℤ y1 ⌝ }
     requires { ⌜ (natAbs x0 ≤ 8388608) × (natAbs y0 ≤ 8388608) × (natAbs x1 ≤ 8388608) × (natAbs y1 ≤ 8388608) × (natAbs y ≤ 8388608) ⌝ }
-    ensures { λ r. ⌜ r ≡ firstColumn (edge x0 y0 x1 y1) y ⌝ }
+    requires { ⌜ c + k < 2 ^ 31 ⌝ }
+    ensures { λ r. ⌜ r ≡ place c k (firstColumn (edge x0 y0 x1 y1) y) ⌝ }
 {
     let d = (y1 as i64) - (y0 as i64);
     let n = ((y as i64) - (y0 as i64)) * ((x1 as i64) - (x0 as i64)) + ((x0 as i64) - 32) * d;
-    let w = 64 * d;
-    fixed::floor_div(n + w - 1, w)
+    column_of(n, d, c, k)
 }
 
-// The column z in a window of k columns from c on.
-pub fn place_in(c: usize, k: usize, z: i64) -> usize
-    requires { ⌜ c + k < 2 ^ 31 ⌝ }
-    ensures { λ r. ⌜ r ≡ place c k z ⌝ }
+// The first column at or right of n / 64 d, in the window of k columns from c on. Only inside the window is there a division.
+fn column_of(n: i64, d: i64, c: usize, k: usize) -> usize
+    requires { ⌜ (pos 0 <ℤ d) × (natAbs d ≤ 16777216) × (natAbs n ≤ 562949953421312) × (c + k < 2 ^ 31) ⌝ }
+    ensures { λ r. ⌜ r ≡ place c k (ceilDiv n (64 * natAbs d)) ⌝ }
 {
-    if z <= c as i64 {
+    let w = 64 * d;
+    if n <= (c as i64) * w {
         return 0;
     }
-    if (c + k) as i64 <= z {
+    if ((c + k) as i64 - 1) * w < n {
         return k;
     }
-    z as usize - c
+    (n + w - 1) as usize / 64 / (d as usize) - c
 }
 
 // Whether a row lies from lo on and below hi.
@@ -54,13 +55,13 @@ pub fn start(e: Edge, y: i32, c: usize, k: usize) -> Start
     let y1 = e.y1;
     if between(y0, y1, y) {
         return Start {
-            at: place_in(c, k, first_column(x0, y0, x1, y1, y)),
+            at: column_in(x0, y0, x1, y1, y, c, k),
             by: 1,
         };
     }
     if between(y1, y0, y) {
         return Start {
-            at: place_in(c, k, first_column(x1, y1, x0, y0, y)),
+            at: column_in(x1, y1, x0, y0, y, c, k),
             by: -1,
         };
     }

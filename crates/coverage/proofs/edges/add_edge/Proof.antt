@@ -15,7 +15,8 @@ use Rattle.path.specs.Stored.{edgeAt, edgesOf, Small}
 use Rattle.coverage.specs.Engine.{laid, missed, bumped, startOf, Marked}
 use Rattle.coverage.specs.Winding.{sample}
 use Rattle.coverage.proofs.Begin.{clean}
-use Rattle.coverage.proofs.Turn.{partly, miss-sums, miss-marks, first-sums, first-marks, next-sums, next-marks, last-sums, last-marks, sums-small, by-small}
+use Rattle.coverage.proofs.Starts.{partly, by-small}
+use Rattle.coverage.proofs.Turn.{miss-sums, miss-marks, first-sums, first-marks, next-sums, next-marks, last-sums, last-marks, sums-small}
 use borrow.Author.Needs.{needs}
 use Rattle.coverage.proofs.edges.add_edge.Statement.{statement}
 use Rattle.coverage.proofs.edges.add_edge.Tie as tie
