@@ -4,15 +4,15 @@
 -- operation, and `keep w` where the result goes into a local of w bits. `need` answers what an operation asks, and `.same` what the
 -- function returns.
 use mathlib.Core.Path.{_≡_, refl, sym, ap, ap₂, _∙_, subst}
-use Prim.Native.Nat.{ℕ, zero, suc, _+_, _*_, _-_, _/_, _^_, _≤_, _<_}
-use lib.Dec.{T, leb, ltb, ltb→lt}
-use lib.IntN.{ℤ, pos, negsuc, negℤ, natAbs, _+ℤ_, _-ℤ_, _*ℤ_}
+use Prim.Native.Nat.{ℕ, suc, _+_, _*_, _^_, _≤_}
+use lib.Dec.{T, ltb, ltb→lt}
+use lib.IntN.{ℤ, pos, negsuc, _+ℤ_, _-ℤ_, _*ℤ_}
 use native.Mathlib.Nat.{le-refl, lt-of-le-of-lt}
-use lib.Signed.{mag, shrZ, quotZ, remZ}
-use mir.Syntax.{Width, w8, w16, w32, w64}
+use lib.Signed.{shrZ, quotZ, remZ}
+use mir.Syntax.{Width}
 use mir.Val.{SFits, hbits, toZ, ofZ}
 use mir.Facts.{toZ-ofZ, toZ-pos}
-use Rattle.fixed.proofs.Within.{Within, within-pos, within-neg, within-add, within-sub, within-mul, within-shr, within-quot, within-rem, within-widen, of-fits, fits}
+use Rattle.fixed.proofs.Within.{Within, within-pos, within-add, within-sub, within-mul, within-shr, within-quot, within-rem, of-fits, fits}
 
 pub record Num : Type 0 where
   pub bound : ℕ

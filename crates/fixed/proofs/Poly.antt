@@ -1,13 +1,12 @@
 -- An expression of integers as a difference of two natural numbers, so that `omega` proves an equation or an order of two expressions: it
 -- multiplies products out. A `Poly` is put together along the expression: `var z`, `num n`, `_⊕_`, `_⊖_`, `_⊗_`, `neg`. So
 -- `eq (var a ⊗ (var b ⊕ num 1)) (var a ⊗ var b ⊕ var a) (omega arith) : a *ℤ (b +ℤ pos 1) ≡ a *ℤ b +ℤ a`.
-use mathlib.Core.Path.{_≡_, refl, sym, ap, _∙_, subst}
+use mathlib.Core.Path.{_≡_, refl, ap}
 use Prim.Native.Nat.{ℕ, zero, suc, _+_, _*_, _-_, _^_, _≤_, _<_}
 use native.Mathlib.Omega.{arith}
-use native.Mathlib.Nat.{le-refl}
 use mathlib.Core.Bool.{Bool, true, false, not, cond}
-use lib.Dec.{T, leb, ltb, leb→le, le→leb, ltb→lt, lt→ltb, nltb→le}
-use lib.IntN.{ℤ, pos, negsuc, negℤ, natAbs, subℕ, _+ℤ_, _-ℤ_, _*ℤ_}
+use lib.Dec.{T, ltb, leb→le, le→leb, ltb→lt, lt→ltb, nltb→le}
+use lib.IntN.{ℤ, pos, negsuc, negℤ, natAbs, subℕ, _+ℤ_, _*ℤ_}
 use lib.Signed.{mag, leZ, ltZ, _≤ℤ_, _<ℤ_}
 use mir.Syntax.{Width}
 use mir.Val.{SFits, hbits}

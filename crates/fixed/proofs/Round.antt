@@ -1,6 +1,6 @@
 -- The laws of `floorDiv`: d q ≤ z < d q + d, as facts that `omega` reads, and what a rounded quotient's size is.
-use mathlib.Core.Path.{_≡_, refl, sym, ap, subst}
-use Prim.Native.Nat.{ℕ, zero, suc, _+_, _*_, _/_, _%_, _≤_, _<_}
+use mathlib.Core.Path.{_≡_, sym, ap, subst}
+use Prim.Native.Nat.{ℕ, suc, _+_, _*_, _/_, _≤_, _<_}
 use native.Mathlib.Nat.{div-add-mod, mod-lt, mul-lt-mul-of-pos-right, lt-of-le-of-lt, lt-of-mul-lt-mul-right, div-mul-le-self, lt-suc-self, mul-right-comm, le-div-iff-mul-le, le-antisymm, mul-pos, zero-lt-suc}
 use lib.Ieee.Nearest.{div-same}
 use native.Mathlib.Omega.{arith}

@@ -1,14 +1,14 @@
 -- Bounds on the size of an integer, put together along a sum of products: `within-add (within-mul h k) l`. The bound is a
 -- numeral that antt computes, so that an operation does not overflow is `fits tt (..)` and needs no `omega`.
-use mathlib.Core.Path.{_≡_, refl, sym, ap, subst}
+use mathlib.Core.Path.{_≡_, refl, sym, subst}
 use Prim.Native.Nat.{ℕ, zero, suc, _+_, _*_, _-_, _/_, _%_, _^_, _≤_, _<_}
 use native.Mathlib.Nat.{le-trans, le-refl, add-le-add, mul-le-mul, le-of-eq, lt-of-le-of-lt, div-le-self, mod-le}
 use native.Mathlib.Omega.{arith}
 use mathlib.Core.Bool.{Bool, true, false, not, cond}
 use lib.Dec.{T, leb, ltb, leb→le, ltb→lt, nltb→le}
 use lib.IntN.{ℤ, pos, negsuc, negℤ, natAbs, subℕ, _+ℤ_, _-ℤ_, _*ℤ_}
-use lib.Signed.{mag, shrZ, quotZ, remZ}
-use mir.Syntax.{Width, w8, w16, w32, w64}
+use lib.Signed.{shrZ, quotZ, remZ}
+use mir.Syntax.{Width}
 use mir.Val.{SFits, hbits}
 
 -- -n ≤ z ≤ n

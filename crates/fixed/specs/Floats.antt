@@ -1,9 +1,9 @@
 -- f32 numbers in a list of bytes, and the exact whole number that a float becomes ("Floats to whole numbers").
 use Prim.Native.Nat.{ℕ, _*_}
 use mathlib.Core.List.{List}
-use mathlib.Core.Bool.{Bool, true, false, _&&_, cond}
-use lib.IntN.{ℤ, pos, negℤ, _+ℤ_}
-use lib.Ieee.{Float, nan, inf, fin, up, down, binary32, ofBits, nanBits, isNan}
+use mathlib.Core.Bool.{Bool, true, false}
+use lib.IntN.{ℤ, pos, negℤ, natAbs, _+ℤ_}
+use lib.Ieee.{Float, nan, inf, fin, up, down, binary32, ofBits, nanBits}
 use lib.Dec.{leb}
 use Rattle.fixed.specs.Floor.{floorDiv}
 use Rattle.fixed.specs.Little.{u32At}
@@ -11,6 +11,8 @@ use Rattle.fixed.specs.declared.Real.{Real}
 use Rattle.fixed.specs.declared.Real.the-variants.{Number, Nan}
 use Rattle.fixed.specs.declared.Fixed.{Fixed}
 use Rattle.fixed.specs.declared.Fixed.the-variants.{Value, TooLarge, Infinite, NotANumber}
+use Rattle.fixed.specs.declared.Offset.{Offset}
+use Rattle.fixed.specs.declared.Offset.the-variants as offset
 
 -- the float whose four bytes start at a place
 abbrev pub f32At : List ℕ → ℕ → Float
@@ -61,3 +63,13 @@ abbrev pub fixedIn : ℕ → ℕ → Float → Fixed
 fixedIn scale limit nan = NotANumber
 fixedIn scale limit (inf s) = Infinite
 fixedIn scale limit (fin s m e) = pickFixed (leb (m * up e) (limit * down e)) (Value (nearestOf s (scale * (m * up e)) (down e))) TooLarge
+
+abbrev pub pickOffset : Bool → Offset → Offset → Offset
+pickOffset true a b = a
+pickOffset false a b = b
+
+-- what the offset of a stop becomes: its 65,536ths if it is from 0 to 1
+abbrev pub offsetIn : Float → Offset
+offsetIn nan = offset.NotANumber
+offsetIn (inf s) = offset.Outside
+offsetIn (fin s m e) = pickOffset (inUnit (fin s m e)) (offset.At (natAbs (scaled 65536 (fin s m e)))) offset.Outside

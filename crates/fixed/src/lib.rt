@@ -1,7 +1,14 @@
 // Whole numbers: floor division, little-endian reads, and the exact whole number that a float becomes.
+pub mod convert;
+pub mod floats;
 pub mod floor;
 pub mod little;
 
+pub use crate::convert::gradient_point;
+pub use crate::convert::linear_entry;
+pub use crate::convert::stop_offset;
+pub use crate::convert::translation;
+pub use crate::floats::f32_at;
 pub use crate::floor::floor_div;
 pub use crate::floor::floor_mod;
 pub use crate::little::i16_at;
@@ -20,5 +27,12 @@ pub enum Fixed {
     Value(i64),
     TooLarge,
     Infinite,
+    NotANumber,
+}
+
+// What the offset of a stop becomes, in 65,536ths.
+pub enum Offset {
+    At(u32),
+    Outside,
     NotANumber,
 }

@@ -62,7 +62,7 @@ point x y = record { x = x; y = y }
 abbrev pub origin : Point
 origin = point (pos 0) (pos 0)
 
--- in -32,768..32,767 on both axes
+-- a coordinate in -32,768..32,767, and a point with both
 abbrev pub inSixteenBits : ℤ → Bool
 inSixteenBits z = leZ (negsuc 32767) z && leZ z (pos 32767)
 
@@ -70,8 +70,11 @@ abbrev pub inRange : Point → Bool
 inRange p = inSixteenBits (p .x) && inSixteenBits (p .y)
 
 -- ---- the pen: start s, current o and control p begin at (0, 0)
+abbrev pub penAt : Point → Point → Point → Pen
+penAt s o p = record { start = s; current = o; control = p }
+
 abbrev pub firstPen : Pen
-firstPen = record { start = origin; current = origin; control = origin }
+firstPen = penAt origin origin origin
 
 -- 2o - p, the first control of a smooth segment
 abbrev pub reflected : Pen → Point
@@ -91,7 +94,7 @@ quadTo c e = record { degree = 2; p1 = c; p2 = e; p3 = e }
 abbrev pub cubicTo : Point → Point → Point → Curve
 cubicTo c d e = record { degree = 3; p1 = c; p2 = d; p3 = e }
 
--- the absolute points of a segment: coordinate j of it is c j
+-- the absolute points of a segment, whose coordinate j is c j; the last case is that of move and line
 abbrev pub pairAt : Point → (ℕ → ℤ) → ℕ → Point
 pairAt o c j = point (o .x +ℤ c j) (o .y +ℤ c (j + 1))
 
@@ -115,11 +118,7 @@ abbrev pub lastControl : Curve → Point
 lastControl curve = cond (eqb (curve .degree) 2) (curve .p1) (curve .p2)
 
 unfoldable pub penAfter : Pen → ℕ → Curve → Pen
-penAfter pen byte curve = record {
-  start = cond (eqb (number byte) numberMove) (curve .p3) (pen .start);
-  current = curve .p3;
-  control = lastControl curve;
-}
+penAfter pen byte curve = penAt (cond (eqb (number byte) numberMove) (curve .p3) (pen .start)) (curve .p3) (lastControl curve)
 
 -- ---- the walk: the pen and the number of coordinates used after the first n segments
 abbrev pub coordinateFrom : List ℕ → ℕ → ℕ → ℤ
@@ -134,11 +133,14 @@ walkOn coordinates walk byte = record {
   used = walk .used + coordinatesTaken byte;
 }
 
+abbrev pub firstWalk : Walk
+firstWalk = record { pen = firstPen; used = 0 }
+
 abbrev pub walkTo : List ℕ → List ℕ → ℕ → Walk
-walkTo segments coordinates zero = record { pen = firstPen; used = 0 }
+walkTo segments coordinates zero = firstWalk
 walkTo segments coordinates (suc n) = walkOn coordinates (walkTo segments coordinates n) (getD segments n 0)
 
--- ---- the rules of a segment: 0, or the code of its refusal
+-- ---- the rules of a segment: 0, or the code of its refusal. A 567th coordinate is one past the 1,132 bytes that a scene has for them
 abbrev pub curveInRange : Curve → Bool
 curveInRange c = inRange (c .p1) && (inRange (c .p2) && inRange (c .p3))
 

@@ -10,7 +10,7 @@ use lib.Seq.{ext-getD, getD-append-add, getD-drop, getD-take}
 use Rattle.lists.specs.Lists.{over, tab}
 use Rattle.lists.proofs.Laws.{upto-length, run-fits, tab-ext}
 use Rattle.color.specs.declared.Pixel.{Pixel}
-use Rattle.raster.specs.Surface.{bytesOf, run, raster, pixelIn, pixelOf, channelOf}
+use Rattle.raster.specs.Surface.{bytesOf, run, raster, pixelIn, pixelOf}
 
 pub run-length : (n : ℕ) (f : ℕ → Pixel) → length (run n f) ≡ n * 4
 run-length n f = upto-length 4 n (λ i. bytesOf (f i)) (λ k. refl)
@@ -112,23 +112,3 @@ pub run-read : (f : ℕ → Pixel) (s d : List ℕ) (i : ℕ) → s ≡ over (ru
 run-read f s d i o =
     rw (o, run-length i f)
     (pixel-after (run i f) (drop (i * 4) d) i 0 i (run-length i f) (omega arith) ∙ pixel-drop d i 0 i (omega arith))
-
--- ---- the same by bytes: byte j is the channel j % 4 of the pixel (j / 4 % w, j / 4 / w)
-byte-is : (s : List ℕ) (i c j : ℕ) → c < 4 → j ≡ i * 4 + c → getD s j 0 ≡ channelOf (pixelIn s i) c
-byte-is s i zero j h e = rw (e, add-zero (i * 4))
-byte-is s i (suc zero) j h e = rw e
-byte-is s i (suc (suc zero)) j h e = rw e
-byte-is s i (suc (suc (suc zero))) j h e = rw e
-byte-is s i (suc (suc (suc (suc c)))) j h e = absurd (omega arith)
-
-pub raster-bytes : (w h : ℕ) (f : ℕ → ℕ → Pixel) → raster w h f ≡ tab (h * (w * 4)) (λ j. channelOf (f (j / 4 % w) (j / 4 / w)) (j % 4))
-raster-bytes w h f =
-    tab-ext 0 (raster w h f) (h * (w * 4)) _ (raster-length w h f)
-    (λ j l.
-    let i = j / 4 in
-    let z : 0 < w = positive w h i (omega arith) in
-    let e : i / w * w + i % w ≡ i = div-add-mod' i w in
-    let k : i / w < h = div-lt-iff-lt-mul z .1 (omega arith) in
-    byte-is (raster w h f) i (j % 4) j (omega arith) (omega arith)
-    ∙ ap (λ (n : ℕ). channelOf (pixelIn (raster w h f) n) (j % 4)) (sym e)
-    ∙ ap (λ (p : Pixel). channelOf p (j % 4)) (raster-at w h f (i % w) (i / w) (mod-lt i z) k))

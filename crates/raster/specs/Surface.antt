@@ -1,23 +1,19 @@
--- A surface of w by h pixels: rows one after the other, four bytes to a pixel.
+-- A surface of w by h pixels: rows one after the other, row 0 first and lowest, four bytes to a pixel: R, G, B, A.
 --     run n f            the bytes of the pixels f 0, .., f (n - 1)
 --     raster w h f       the bytes of the pixels f x y, row 0 first
 --     pixelOf w s x y    the pixel (x, y) that stands in s
---     overlay w h a f s  s, with the pixels f x y in the rectangle a
+--     overlay w h a f s  s, of 4·w·h bytes, with the pixels f x y in the rectangle a
 use mathlib.Core.List.{List, [], _∷_}
 use mathlib.Core.Bool.{cond}
 use Prim.Native.Nat.{ℕ, _+_, _*_}
 use lib.ListN.{getD}
 use Rattle.lists.specs.Lists.{upto}
 use Rattle.rect.specs.declared.Rect.{Rect}
-use Rattle.rect.specs.Rects.{inside, inAny}
+use Rattle.rect.specs.Rects.{inside}
 use Rattle.color.specs.declared.Pixel.{Pixel}
 
 abbrev pub bytesOf : Pixel → List ℕ
 bytesOf p = p .r ∷ p .g ∷ p .b ∷ p .a ∷ []
-
--- the byte c of a pixel, 0 to 3
-abbrev pub channelOf : Pixel → ℕ → ℕ
-channelOf p c = getD (bytesOf p) c 0
 
 abbrev pub run : ℕ → (ℕ → Pixel) → List ℕ
 run n f = upto n (λ i. bytesOf (f i))
@@ -35,10 +31,6 @@ pixelOf w s x y = pixelIn s (y * w + x)
 unfoldable pub overlay : ℕ → ℕ → Rect → (ℕ → ℕ → Pixel) → List ℕ → List ℕ
 overlay w h a f s = raster w h (λ x y. cond (inside a x y) (f x y) (pixelOf w s x y))
 
--- the same in any rectangle of a list
-unfoldable pub overlays : ℕ → ℕ → List Rect → (ℕ → ℕ → Pixel) → List ℕ → List ℕ
-overlays w h rs f s = raster w h (λ x y. cond (inAny rs x y) (f x y) (pixelOf w s x y))
-
--- the rows of a below y
+-- the rows of a below y: how far a loop over rows has come. A reviewer of the paper need not read it
 abbrev pub rowsTo : Rect → ℕ → Rect
 rowsTo a y = record { x0 = a .x0; y0 = a .y0; x1 = a .x1; y1 = y }

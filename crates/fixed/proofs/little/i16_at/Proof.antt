@@ -1,7 +1,6 @@
 -- `fixed::little::i16_at` meets its contract.
 use mathlib.Core.Path.{ap, _∙_}
 use borrow.Author.Needs.{needs, sfits-of}
-use native.Mathlib.Omega.{arith}
 use mir.Syntax.{w16, w64}
 use mir.Val.{SFits}
 use Rattle.fixed.specs.Little.{signed}
@@ -9,10 +8,6 @@ use Rattle.fixed.proofs.Means.{Num, need-as, keep-as, param, said}
 use Rattle.fixed.proofs.Twos.{signed-fits}
 use Rattle.fixed.proofs.little.i16_at.Statement.{statement}
 use Rattle.fixed.proofs.little.i16_at.Tie as tie
-use Rattle.fixed.proofs.little.i16_at.Reads as reads
-use Rattle.fixed.proofs.little.i16_at.Lts as lts
-use Rattle.fixed.proofs.little.twos_complement.Reads as twos-complement-reads
-use Rattle.fixed.proofs.little.u16_at.Reads as u16-at-reads
 
 abbrev number : tie.After-twos-complement → Num
 number c = said (param w64 (c .twos-complement .result) (sfits-of (c .twos-complement .ok))) (signed 32768 (c .before .u16-at .result)) (c .twos-complement .ensures)

@@ -9,10 +9,6 @@ use Rattle.fixed.proofs.Means.{Num, need-as, keep-as, param, said}
 use Rattle.fixed.proofs.Twos.{signed-fits}
 use Rattle.fixed.proofs.little.i32_at.Statement.{statement}
 use Rattle.fixed.proofs.little.i32_at.Tie as tie
-use Rattle.fixed.proofs.little.i32_at.Reads as reads
-use Rattle.fixed.proofs.little.i32_at.Lts as lts
-use Rattle.fixed.proofs.little.twos_complement.Reads as twos-complement-reads
-use Rattle.fixed.proofs.little.u32_at.Reads as u32-at-reads
 
 abbrev number : tie.After-twos-complement → Num
 number c = said (param w64 (c .twos-complement .result) (sfits-of (c .twos-complement .ok))) (signed 2147483648 (c .before .u32-at .result)) (c .twos-complement .ensures)

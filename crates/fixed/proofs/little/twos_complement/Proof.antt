@@ -3,9 +3,7 @@ use mathlib.Core.Path.{_∙_}
 use borrow.Author.Needs.{needs}
 use borrow.Author.Tests.{lt-ltb, le-ltb}
 use native.Mathlib.Omega.{arith}
-use lib.Dec.{lit≤}
 use mir.Syntax.{w64}
-use mir.Facts.{toZ-pos}
 use Rattle.fixed.proofs.Means.{Num, need, keep, of-nat, lit, sub, mul}
 use Rattle.fixed.proofs.little.twos_complement.Statement.{statement}
 use Rattle.fixed.proofs.little.twos_complement.Tie as tie

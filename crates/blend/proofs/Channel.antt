@@ -1,0 +1,27 @@
+-- The arithmetic of one channel of the step.
+use mathlib.Core.Path.{_≡_}
+use Prim.Native.Nat.{ℕ, min, _+_, _-_, _*_, _/_, _≤_, _<_}
+use native.Mathlib.Nat.{mul-le-mul-right}
+use native.Mathlib.Omega.{arith}
+use Rattle.blend.specs.PorterDuff.{blended, stored}
+
+-- up to 65,280 the quotient by 255 is had by sums and shifts, and what is cut there is 255
+pub by-shifts : (p q m : ℕ) → p ≤ 65025 → m ≡ min q (65280 - (p + 128)) → (p + 128 + m + (p + 128 + m) / 256) / 256 ≡ min 255 ((p + q + 127) / 255)
+by-shifts p q m h e = omega arith
+
+-- what is divided by 16
+pub stored-small : (k b d : ℕ) → k ≤ 16 → b < 256 → d < 256 → b * k + d * (16 - k) ≤ 4080
+stored-small k b d h1 h2 h3 =
+    let hb : b ≤ 255 = omega arith in
+    let hd : d ≤ 255 = omega arith in
+    omega (arith, mul-le-mul-right k hb, mul-le-mul-right (16 - k) hd)
+
+-- the byte stored where nothing is covered, where B is all, and where B is the source's own byte
+pub uncovered-byte : (b d : ℕ) → stored 0 b d ≡ d
+uncovered-byte b d = omega arith
+
+pub covered-byte : (b d : ℕ) → stored 16 b d ≡ b
+covered-byte b d = omega arith
+
+pub replaced-byte : (s d : ℕ) → s < 256 → stored 16 (blended s 255 d 0) d ≡ s
+replaced-byte s d h = omega arith

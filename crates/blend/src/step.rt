@@ -1,0 +1,111 @@
+// The step on one pixel: the paint blended with what stands there, then stored by its coverage.
+use crate::Composited;
+use crate::factor::destination_factor;
+use crate::factor::hides;
+use crate::factor::is_mode;
+use crate::factor::source_factor;
+use color::Pixel;
+ghost use mathlib.Core.Path.{_≡_};
+ghost use mathlib.Core.Bool.{_&&_};
+ghost use Prim.Native.Nat.{min, _≤_};
+ghost use lib.Dec.{leb};
+ghost use Rattle.blend.specs.PorterDuff.{isMode, blended, stored, composite, compositeAnswer};
+ghost use Rattle.blend.specs.Spans.{blendedPixel};
+
+// OpenVG's code for a mode or a coverage that is none.
+const ILLEGAL_ARGUMENT: u16 = 0x1001;
+
+// The step called alone, on any bytes.
+pub fn composite(mode: u16, coverage: u8, src: Pixel, dst: Pixel) -> Composited
+    ensures { λ r. ⌜ r ≡ compositeAnswer mode coverage src dst ⌝ }
+{
+    if accepts(mode, coverage) {
+        Composited {
+            code: 0,
+            pixel: composite_pixel(mode, coverage, src, dst),
+        }
+    } else {
+        Composited {
+            code: ILLEGAL_ARGUMENT,
+            pixel: dst,
+        }
+    }
+}
+
+// The step, with what needs no arithmetic first: no sample covered keeps the pixel, and the whole of the paint replaces it.
+pub fn composite_pixel(mode: u16, coverage: u8, src: Pixel, dst: Pixel) -> Pixel
+    requires { ⌜ coverage ≤ 16 ⌝ }
+    ensures { λ r. ⌜ r ≡ composite mode coverage src dst ⌝ }
+{
+    if coverage == 0 {
+        return dst;
+    }
+    if coverage == 16 {
+        if hides(mode, src.a) {
+            return src;
+        }
+    }
+    blend_pixel(mode, coverage, src, dst)
+}
+
+// The step's four bytes.
+pub fn blend_pixel(mode: u16, coverage: u8, src: Pixel, dst: Pixel) -> Pixel
+    requires { ⌜ coverage ≤ 16 ⌝ }
+    ensures { λ r. ⌜ r ≡ composite mode coverage src dst ⌝ }
+{
+    let fs = source_factor(mode, dst.a);
+    let fd = destination_factor(mode, src.a);
+    let b = blended_pixel(src, fs, dst, fd);
+    Pixel {
+        r: stored_byte(coverage, b.r, dst.r),
+        g: stored_byte(coverage, b.g, dst.g),
+        b: stored_byte(coverage, b.b, dst.b),
+        a: stored_byte(coverage, b.a, dst.a),
+    }
+}
+
+// B of each channel.
+pub fn blended_pixel(src: Pixel, fs: u8, dst: Pixel, fd: u8) -> Pixel
+    ensures { λ r. ⌜ r ≡ blendedPixel src fs dst fd ⌝ }
+{
+    Pixel {
+        r: blended_byte(src.r, fs, dst.r, fd),
+        g: blended_byte(src.g, fs, dst.g, fd),
+        b: blended_byte(src.b, fs, dst.b, fd),
+        a: blended_byte(src.a, fs, dst.a, fd),
+    }
+}
+
+// What the step called alone takes.
+fn accepts(mode: u16, coverage: u8) -> bool
+    ensures { λ r. ⌜ r ≡ (isMode mode && leb coverage 16) ⌝ }
+{
+    if is_mode(mode) {
+        return coverage <= 16;
+    }
+    false
+}
+
+// B, divided by 255 with sums and shifts: up to 65,280, where B is 255, (n + n / 256) / 256 is (n - 1) / 255. So n is cut there, and 16 bits hold it.
+fn blended_byte(s: u8, fs: u8, d: u8, fd: u8) -> u8
+    ensures { λ r. ⌜ r ≡ blended s fs d fd ⌝ }
+{
+    let p = (s as u16) * (fs as u16) + 128;
+    let n = p + least((d as u16) * (fd as u16), 65280 - p);
+    ((n + (n >> 8)) >> 8) as u8
+}
+
+fn least(a: u16, b: u16) -> u16
+    ensures { λ r. ⌜ r ≡ min a b ⌝ }
+{
+    if a < b { a } else { b }
+}
+
+// What is stored of B over d.
+fn stored_byte(coverage: u8, b: u8, d: u8) -> u8
+    requires { ⌜ coverage ≤ 16 ⌝ }
+    ensures { λ r. ⌜ r ≡ stored coverage b d ⌝ }
+{
+    let k = coverage as u16;
+    (((b as u16) * k + (d as u16) * (16 - k) + 8) >> 4) as u8
+}

@@ -1,0 +1,2 @@
+-- The bench cases' inputs and the paper's numbers.
+pub mod Bench

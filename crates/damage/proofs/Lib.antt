@@ -1,0 +1,4 @@
+pub mod Changes
+pub mod Members
+pub mod Smallest
+pub mod Redraw

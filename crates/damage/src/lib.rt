@@ -1,0 +1,1 @@
+// The redrawn area of a change from one scene to another.

@@ -1,0 +1,1 @@
+// Drawing a scene inside a rectangle of the surface: the background, then every draw in order.

@@ -1,0 +1,102 @@
+-- What holds where nothing is refused, and how refusals are chained.
+use mathlib.Core.Path.{_≡_, refl, sym, _∙_}
+use mathlib.Core.List.{List}
+use mathlib.Core.Bool.{Bool, true, false, cond, not}
+use Prim.Native.Nat.{ℕ, _+_, _*_, _≤_}
+use native.Mathlib.Omega.{arith}
+use lib.Dec.{eqb, ltb}
+use borrow.Author.Tests.{eq-eqb, ne-eqb, eqb-false, eqb-true, ltb-false, le-ltb, not-false}
+use Rattle.rect.proofs.Laws.{either, both}
+use Rattle.scene.specs.Header.{widthOf, heightOf}
+use Rattle.scene.specs.Rules.{sceneFault}
+use Rattle.render.specs.declared.Refusal.{Refusal}
+use Rattle.render.specs.Answers.{nothing, refuse, orElse, sceneRefusal, lentRefusal, drawRefusal, sizeRefusal, redrawRefusal, choose}
+
+-- ---- a chain of refusals
+pub else-first : (f g : Refusal) → (f .code ≡ 0 → ⊥) → orElse f g ≡ f
+else-first f g n = rw (ne-eqb (f .code) 0 n)
+
+pub else-second : (f g : Refusal) → f .code ≡ 0 → orElse f g ≡ g
+else-second f g e = rw (eq-eqb (f .code) 0 e)
+
+pub else-fine : (f g : Refusal) → orElse f g .code ≡ 0 → (f .code ≡ 0) × (g .code ≡ 0)
+else-fine f g e =
+    either (eqb (f .code) 0)
+    (λ z. (eqb-true _ _ z, rw z at e))
+    (λ z. absurd (eqb-false _ _ z (rw z at e)))
+
+pass : (b : Bool) (f g : Refusal) → eqb (f .code) 0 ≡ false → (cond b f g) .code ≡ 0 → (b ≡ false) × (g .code ≡ 0)
+pass true f g n e = absurd (eqb-false (f .code) 0 n e)
+pass false f g n e = (refl, e)
+
+-- ---- each rule, where it holds
+pub scene-fine : (s : List ℕ) (k : ℕ) → sceneRefusal s k .code ≡ 0 → sceneFault s .code ≡ 0
+unfolding sceneRefusal
+scene-fine s k e = either (eqb (sceneFault s .code) 0) (λ z. eqb-true _ _ z) (λ z. rw z at e)
+
+pub scene-passes : (s : List ℕ) (k : ℕ) → sceneFault s .code ≡ 0 → sceneRefusal s k ≡ nothing
+unfolding sceneRefusal
+scene-passes s k e = rw (eq-eqb (sceneFault s .code) 0 e)
+
+pub scene-refused : (s : List ℕ) (k : ℕ) → (sceneFault s .code ≡ 0 → ⊥) → sceneRefusal s k ≡ refuse (sceneFault s .code) (sceneFault s .draw) k
+unfolding sceneRefusal
+scene-refused s k n = rw (ne-eqb (sceneFault s .code) 0 n)
+
+pub lent-fine : (w h surface scratch : ℕ) → lentRefusal w h surface scratch .code ≡ 0 → (surface ≡ 4 * (w * h)) × (12300 ≤ scratch)
+unfolding lentRefusal
+lent-fine w h surface scratch e =
+    let p = pass (not (eqb surface (4 * (w * h)))) (refuse 0x1004 64 0) _ refl e in
+    let q = pass (ltb scratch 12300) (refuse 0x1002 64 0) _ refl (p .1) in
+    (eqb-true _ _ (not-false _ (p .0)), ltb-false _ _ (q .0))
+
+pub lent-passes : (w h surface scratch : ℕ) → surface ≡ 4 * (w * h) → 12300 ≤ scratch → lentRefusal w h surface scratch ≡ nothing
+unfolding lentRefusal
+lent-passes w h surface scratch e l = rw (eq-eqb surface (4 * (w * h)) e, le-ltb scratch 12300 l)
+
+pub size-fine : (old new : List ℕ) → sizeRefusal old new .code ≡ 0 → (widthOf old ≡ widthOf new) × (heightOf old ≡ heightOf new)
+unfolding sizeRefusal
+size-fine old new e =
+    either (eqb (widthOf old) (widthOf new))
+    (λ z.
+    either (eqb (heightOf old) (heightOf new))
+    (λ y. (eqb-true _ _ z, eqb-true _ _ y))
+    (λ y. absurd (eqb-false 0x1001 0 refl (rw (z, y) at e))))
+    (λ z. absurd (eqb-false 0x1001 0 refl (rw z at e)))
+
+pub size-passes : (old new : List ℕ) → widthOf old ≡ widthOf new → heightOf old ≡ heightOf new → sizeRefusal old new ≡ nothing
+unfolding sizeRefusal
+size-passes old new e f = rw (eq-eqb (widthOf old) (widthOf new) e, eq-eqb (heightOf old) (heightOf new) f)
+
+-- ---- what an accepted call has
+pub record Ready (s : List ℕ) (surface scratch : ℕ) : Type 0 where
+  pub scene : sceneFault s .code ≡ 0
+  pub size : surface ≡ 4 * (widthOf s * heightOf s)
+  pub space : 12300 ≤ scratch
+
+pub draw-ready : (s : List ℕ) (surface scratch : ℕ) → drawRefusal s surface scratch .code ≡ 0 → Ready s surface scratch
+unfolding drawRefusal
+draw-ready s surface scratch e =
+    let p = else-fine (sceneRefusal s 0) (lentRefusal (widthOf s) (heightOf s) surface scratch) e in
+    let q = lent-fine (widthOf s) (heightOf s) surface scratch (p .1) in
+    record { scene = scene-fine s 0 (p .0); size = q .0; space = q .1 }
+
+pub record ReadyBoth (old new : List ℕ) (surface scratch : ℕ) : Type 0 where
+  pub before : sceneFault old .code ≡ 0
+  pub after : Ready new surface scratch
+  pub width : widthOf old ≡ widthOf new
+  pub height : heightOf old ≡ heightOf new
+
+pub redraw-ready : (old new : List ℕ) (surface scratch : ℕ) → redrawRefusal old new surface scratch .code ≡ 0 → ReadyBoth old new surface scratch
+unfolding redrawRefusal
+redraw-ready old new surface scratch e =
+    let p = else-fine (sceneRefusal old 0) _ e in
+    let q = else-fine (sceneRefusal new 1) _ (p .1) in
+    let r = else-fine (sizeRefusal old new) _ (q .1) in
+    let t = lent-fine (widthOf new) (heightOf new) surface scratch (r .1) in
+    let z = size-fine old new (r .0) in
+    record {
+      before = scene-fine old 0 (p .0);
+      after = record { scene = scene-fine new 1 (q .0); size = t .0; space = t .1 };
+      width = z .0;
+      height = z .1;
+    }

@@ -1,0 +1,88 @@
+-- A draw's fields, of its 2,032 bytes d.
+use Prim.Native.Nat.{ℕ, _+_, _*_, _/_, _%_, _-_, _^_}
+use mathlib.Core.List.{List}
+use mathlib.Core.Bool.{Bool, true, false}
+use lib.ListN.{getD, take, drop}
+use lib.Dec.{eqb}
+use Rattle.fixed.specs.Little.{u16At}
+use Rattle.fixed.specs.Floats.{f32At}
+use Rattle.path.specs.declared.Matrix.{Matrix}
+use Rattle.color.specs.declared.Color.{Color}
+use Rattle.paint.specs.declared.LinearPoints.{LinearPoints}
+use Rattle.paint.specs.declared.Paint.{Paint}
+use Rattle.paint.specs.declared.Paint.the-variants.{Solid, Linear}
+use Rattle.paint.specs.Paints.{paintLinear}
+use Rattle.scene.specs.Layout.{flagsAt, blendAt, paintTypeAt, spreadAt, segmentCountAt, scissorCountAt, stopCountAt, matrixAt, translationAt, colorAt, linearAt, scissorsAt, stopsAt, segmentsAt, coordinatesAt, drawBytes}
+
+abbrev pub flagsOf : List ℕ → ℕ
+flagsOf d = u16At d flagsAt
+
+-- bit 0 fill rule, bit 1 scissoring on, bit 2 ramp premultiplied
+abbrev pub bit : ℕ → ℕ → Bool
+bit n flags = eqb (flags / 2 ^ n % 2) 1
+
+abbrev pub nonZeroRule : List ℕ → Bool
+nonZeroRule d = bit 0 (flagsOf d)
+
+abbrev pub scissoring : List ℕ → Bool
+scissoring d = bit 1 (flagsOf d)
+
+abbrev pub rampPremultiplied : List ℕ → Bool
+rampPremultiplied d = bit 2 (flagsOf d)
+
+abbrev pub blendOf : List ℕ → ℕ
+blendOf d = u16At d blendAt
+
+abbrev pub paintTypeOf : List ℕ → ℕ
+paintTypeOf d = u16At d paintTypeAt
+
+abbrev pub spreadOf : List ℕ → ℕ
+spreadOf d = u16At d spreadAt
+
+abbrev pub segmentCount : List ℕ → ℕ
+segmentCount d = getD d segmentCountAt 0
+
+abbrev pub scissorCount : List ℕ → ℕ
+scissorCount d = getD d scissorCountAt 0
+
+abbrev pub stopCount : List ℕ → ℕ
+stopCount d = getD d stopCountAt 0
+
+abbrev pub matrixOf : List ℕ → Matrix
+matrixOf d = record {
+  sx = f32At d matrixAt;
+  shy = f32At d (matrixAt + 4);
+  shx = f32At d (matrixAt + 8);
+  sy = f32At d (matrixAt + 12);
+  tx = f32At d translationAt;
+  ty = f32At d (translationAt + 4);
+}
+
+abbrev pub colorOf : List ℕ → Color
+colorOf d = record { r = f32At d colorAt; g = f32At d (colorAt + 4); b = f32At d (colorAt + 8); a = f32At d (colorAt + 12) }
+
+abbrev pub linearOf : List ℕ → LinearPoints
+linearOf d = record { x0 = f32At d linearAt; y0 = f32At d (linearAt + 4); x1 = f32At d (linearAt + 8); y1 = f32At d (linearAt + 12) }
+
+abbrev pub pickPaint : Bool → Paint → Paint → Paint
+pickPaint true a b = a
+pickPaint false a b = b
+
+unfoldable pub paintOf : List ℕ → Paint
+paintOf d = pickPaint (eqb (paintTypeOf d) paintLinear) (Linear (linearOf d)) (Solid (colorOf d))
+
+-- the bytes of the scissors, the stops, the segments and the coordinates
+abbrev pub part : ℕ → ℕ → List ℕ → List ℕ
+part from to d = take (to - from) (drop from d)
+
+abbrev pub scissorsOf : List ℕ → List ℕ
+scissorsOf d = part scissorsAt stopsAt d
+
+abbrev pub stopsOf : List ℕ → List ℕ
+stopsOf d = part stopsAt segmentsAt d
+
+abbrev pub segmentsOf : List ℕ → List ℕ
+segmentsOf d = part segmentsAt coordinatesAt d
+
+abbrev pub coordinatesOf : List ℕ → List ℕ
+coordinatesOf d = part coordinatesAt drawBytes d

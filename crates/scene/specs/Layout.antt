@@ -1,0 +1,125 @@
+-- The scene file's sizes, limits and places ("The scene file"): each number of the paper stands here once, under its name.
+use Prim.Native.Nat.{ℕ}
+
+-- blocks of 512 bytes: 508 of payload, then the check of two 16-bit numbers
+abbrev pub blockBytes : ℕ
+blockBytes = 512
+
+abbrev pub payloadBytes : ℕ
+payloadBytes = 508
+
+abbrev pub payloadWords : ℕ
+payloadWords = 254
+
+abbrev pub checkModulus : ℕ
+checkModulus = 65521
+
+-- a draw has four blocks, whose payloads joined are 2,032 bytes
+abbrev pub drawBlocks : ℕ
+drawBlocks = 4
+
+abbrev pub drawBytes : ℕ
+drawBytes = 2032
+
+-- block 0
+abbrev pub widthAt : ℕ
+widthAt = 0
+
+abbrev pub heightAt : ℕ
+heightAt = 2
+
+abbrev pub countAt : ℕ
+countAt = 4
+
+abbrev pub reservedAt : ℕ
+reservedAt = 6
+
+abbrev pub backgroundAt : ℕ
+backgroundAt = 8
+
+abbrev pub headerEnd : ℕ
+headerEnd = 12
+
+abbrev pub sideLimit : ℕ
+sideLimit = 1024
+
+abbrev pub drawLimit : ℕ
+drawLimit = 64
+
+-- the draw number of what is not in a draw
+abbrev pub noDraw : ℕ
+noDraw = 64
+
+-- a draw
+abbrev pub flagsAt : ℕ
+flagsAt = 0
+
+abbrev pub blendAt : ℕ
+blendAt = 2
+
+abbrev pub paintTypeAt : ℕ
+paintTypeAt = 4
+
+abbrev pub spreadAt : ℕ
+spreadAt = 6
+
+abbrev pub segmentCountAt : ℕ
+segmentCountAt = 8
+
+abbrev pub scissorCountAt : ℕ
+scissorCountAt = 9
+
+abbrev pub stopCountAt : ℕ
+stopCountAt = 10
+
+abbrev pub paddingAt : ℕ
+paddingAt = 11
+
+abbrev pub matrixAt : ℕ
+matrixAt = 12
+
+abbrev pub translationAt : ℕ
+translationAt = 28
+
+abbrev pub colorAt : ℕ
+colorAt = 36
+
+abbrev pub linearAt : ℕ
+linearAt = 52
+
+abbrev pub scissorsAt : ℕ
+scissorsAt = 68
+
+abbrev pub stopsAt : ℕ
+stopsAt = 132
+
+abbrev pub segmentsAt : ℕ
+segmentsAt = 772
+
+abbrev pub coordinatesAt : ℕ
+coordinatesAt = 900
+
+abbrev pub segmentLimit : ℕ
+segmentLimit = 128
+
+abbrev pub scissorLimit : ℕ
+scissorLimit = 4
+
+abbrev pub stopLimit : ℕ
+stopLimit = 32
+
+abbrev pub scissorBytes : ℕ
+scissorBytes = 16
+
+abbrev pub stopBytes : ℕ
+stopBytes = 20
+
+-- codes
+abbrev pub badChecksum : ℕ
+badChecksum = 0xB001
+
+abbrev pub badLength : ℕ
+badLength = 0xB002
+
+abbrev pub illegalArgument : ℕ
+illegalArgument = 0x1001

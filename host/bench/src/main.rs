@@ -1,0 +1,117 @@
+//! Times full drawings and quick redraws through libwayramesh.a, and prints a table.
+//!
+//!     cargo run --offline --release -p bench [SECONDS [WORKLOAD]]
+//!
+//! Each workload is a scene and its next frame, for about SECONDS (2); all are timed, or the named one. Full drawings
+//! and redraws take turns in one run: a frame is drawn, then redrawn to the other. The buffers are not cleared between
+//! calls. A redraw's time includes the rules on both scenes, a full drawing's those on one.
+#![forbid(unsafe_code)]
+
+mod workloads;
+
+use std::env;
+use std::time::{Duration, Instant};
+
+use workloads::Workload;
+
+/// A part of a drawing that the library exports by itself.
+struct Stage {
+    name: &'static str,
+    run: fn(&Workload),
+}
+
+/// The stages to time on every workload. The library exports none so far: only the whole calls below.
+const STAGES: [Stage; 0] = [];
+
+fn main() {
+    let seconds = env::args().nth(1).map_or(2.0, |text| text.parse().expect("a number of seconds"));
+    let chosen = env::args().nth(2);
+    println!(
+        "{:<14} {:>10} {:>10} {:>10} {:>10} {:>8} {:>7}",
+        "", "full", "median", "redraw", "median", "area", "ratio"
+    );
+    for workload in workloads::all().into_iter().filter(|w| chosen.as_deref().is_none_or(|name| name == w.name)) {
+        let times = whole_calls(&workload, Duration::from_secs_f64(seconds));
+        print_line(&workload, times);
+        for stage in STAGES {
+            let times = repeat(Duration::from_secs_f64(seconds), || (stage.run)(&workload));
+            println!("  {:<12} {} {}", stage.name, micros(best(&times)), micros(median(&times)));
+        }
+    }
+    println!("Times in microseconds, the best and the median. Area: the redrawn share of the surface. Ratio: redraw to full.");
+}
+
+struct Times {
+    full: Vec<Duration>,
+    redraw: Vec<Duration>,
+    /// The share of the surface that the redraw writes.
+    area: f64,
+}
+
+/// Full drawings and redraws in turn; at least a few, however long they take.
+fn whole_calls(workload: &Workload, budget: Duration) -> Times {
+    let frames = &workload.frames;
+    let mut surface = vec![0; workload.surface_bytes];
+    let mut scratch = vec![0; library::SCRATCH_NUMBERS];
+    let mut times = Times { full: Vec::new(), redraw: Vec::new(), area: 0.0 };
+    let begin = Instant::now();
+    while times.full.len() < 4 || begin.elapsed() < budget {
+        for (from, to) in [(0, 1), (1, 0)] {
+            let (answer, time) = timed(|| library::draw(&frames[from], &mut surface, &mut scratch));
+            assert_eq!(answer.code, 0, "{}", workload.name);
+            times.full.push(time);
+            let whole = f64::from(answer.width) * f64::from(answer.height);
+            let (answer, time) = timed(|| library::redraw(&frames[from], &frames[to], &mut surface, &mut scratch));
+            assert_eq!(answer.code, 0, "{}", workload.name);
+            times.redraw.push(time);
+            times.area = f64::from(answer.width) * f64::from(answer.height) / whole;
+        }
+    }
+    let shown = surface.clone();
+    library::draw(&frames[0], &mut surface, &mut scratch);
+    assert!(surface == shown, "{}: the redraw left another picture than the full drawing", workload.name);
+    times
+}
+
+fn repeat(budget: Duration, mut run: impl FnMut()) -> Vec<Duration> {
+    let begin = Instant::now();
+    let mut times = Vec::new();
+    while times.len() < 4 || begin.elapsed() < budget {
+        times.push(timed(&mut run).1);
+    }
+    times
+}
+
+fn timed<T>(run: impl FnOnce() -> T) -> (T, Duration) {
+    let begin = Instant::now();
+    let result = run();
+    (result, begin.elapsed())
+}
+
+fn print_line(workload: &Workload, times: Times) {
+    let (full, redraw) = (best(&times.full), best(&times.redraw));
+    println!(
+        "{:<14} {} {} {} {} {:>7.2}% {:>7.3}",
+        workload.name,
+        micros(full),
+        micros(median(&times.full)),
+        micros(redraw),
+        micros(median(&times.redraw)),
+        100.0 * times.area,
+        redraw.as_secs_f64() / full.as_secs_f64(),
+    );
+}
+
+fn micros(time: Duration) -> String {
+    format!("{:>10.1}", 1e6 * time.as_secs_f64())
+}
+
+fn best(times: &[Duration]) -> Duration {
+    times.iter().copied().min().unwrap_or_default()
+}
+
+fn median(times: &[Duration]) -> Duration {
+    let mut sorted = times.to_vec();
+    sorted.sort();
+    sorted[sorted.len() / 2]
+}

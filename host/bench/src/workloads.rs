@@ -1,0 +1,58 @@
+//! What is timed: a scene and its next frame each.
+
+use generate::{scenes, Random};
+use panel::Readings;
+use scene::Scene;
+
+pub struct Workload {
+    pub name: &'static str,
+    pub frames: [Vec<u8>; 2],
+    pub surface_bytes: usize,
+}
+
+impl Workload {
+    fn new(name: &'static str, frames: [Scene; 2]) -> Workload {
+        Workload { name, surface_bytes: frames[0].surface_bytes(), frames: frames.map(|scene| scene.bytes()) }
+    }
+}
+
+pub fn all() -> Vec<Workload> {
+    vec![panel_at("panel", 1.0), panel_at("panel small", 0.25), largest()]
+}
+
+/// The panel, with the speed needle moved in the next frame.
+fn panel_at(name: &'static str, scale: f64) -> Workload {
+    let at_speed = |speed| panel::panel(&Readings { speed, ..Readings::default() }, scale);
+    Workload::new(name, [at_speed(87.0), at_speed(92.0)])
+}
+
+/// 64 draws of 128 curves on 1,024 by 1,024 pixels. All but the last cover the surface; the last, an eighth of it
+/// each way, moves by a pixel.
+fn largest() -> Workload {
+    let mut scene = scenes::largest(&mut Random::new(1), 1_024, 1_024);
+    let moving = scenes::largest(&mut Random::new(2), 128, 128).draws.swap_remove(0);
+    let at_column = |tx: f32| {
+        let mut draw = moving.clone();
+        draw.matrix[4..].copy_from_slice(&[tx, 448.0]);
+        draw
+    };
+    scene.draws[63] = at_column(448.0);
+    let mut next = scene.clone();
+    next.draws[63] = at_column(449.0);
+    Workload::new("largest", [scene, next])
+}
+
+#[cfg(test)]
+mod tests {
+    const OUT_OF_MEMORY: u32 = 0x1002;
+
+    /// With no scratch a call gets as far as the scratch only if its scenes are accepted.
+    #[test]
+    fn the_frames_are_accepted() {
+        for workload in super::all() {
+            let [old, new] = &workload.frames;
+            let answer = library::redraw(old, new, &mut vec![0; workload.surface_bytes], &mut []);
+            assert_eq!(answer.code, OUT_OF_MEMORY, "{}", workload.name);
+        }
+    }
+}

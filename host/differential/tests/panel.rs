@@ -1,0 +1,73 @@
+//! The panel of the folder scenes, drawn and redrawn, and the C example on it.
+
+use std::path::{Path, PathBuf};
+use std::process::Command;
+use std::{env, fs};
+
+use differential::{compare, Buffers, Call};
+use generate::Random;
+use reference::picture::SCRATCH_NUMBERS;
+
+fn repository() -> PathBuf {
+    Path::new(env!("CARGO_MANIFEST_DIR")).join("../..")
+}
+
+fn scene(name: &str) -> Vec<u8> {
+    let path = repository().join("scenes").join(name);
+    fs::read(&path).unwrap_or_else(|error| panic!("{}: {error}", path.display()))
+}
+
+fn draw_and_redraw(old: &str, new: &str, pixels: usize) {
+    let (old, new) = (scene(old), scene(new));
+    let rubbish = Buffers::rubbish(&mut Random::new(6), 4 * pixels, SCRATCH_NUMBERS);
+    let (answer, drawn) = compare("panel", Call::Draw(&old), &rubbish);
+    assert_eq!(answer.code, 0);
+    let (answer, redrawn) = compare("panel redrawn", Call::Redraw(&old, &new), &drawn);
+    assert_eq!(answer.code, 0);
+    let (_, full) = compare("next panel", Call::Draw(&new), &rubbish);
+    assert!(redrawn.surface == full.surface);
+}
+
+#[test]
+fn panel() {
+    draw_and_redraw("panel.scene", "panel-next.scene", 1_024 * 600);
+}
+
+#[test]
+fn small_panel() {
+    draw_and_redraw("panel-small.scene", "panel-small-next.scene", 256 * 150);
+}
+
+/// examples/panel.c compiles as it stands, and its picture of the small panel's next frame is the reference's.
+#[test]
+fn c_example() {
+    let root = repository();
+    let archive = env::var_os("WAYRAMESH_LIB_DIR").map_or(root.join("target/staticlib"), PathBuf::from);
+    let program = Path::new(env!("CARGO_TARGET_TMPDIR")).join("panel-example");
+    let compiled = Command::new("cc")
+        .args(["-std=c99", "-Wall", "-Wextra", "-Wpedantic", "-Werror", "-I"])
+        .arg(root.join("include"))
+        .arg(root.join("examples/panel.c"))
+        .arg(archive.join("libwayramesh.a"))
+        .arg("-o")
+        .arg(&program)
+        .status()
+        .expect("a C compiler");
+    assert!(compiled.success());
+
+    let scenes = ["panel-small.scene", "panel-small-next.scene"].map(|name| root.join("scenes").join(name));
+    let output = Command::new(&program).args(&scenes).output().expect("the example runs");
+    assert!(output.status.success());
+    let header = b"P7\nWIDTH 256\nHEIGHT 150\nDEPTH 4\nMAXVAL 255\nTUPLTYPE RGB_ALPHA\nENDHDR\n";
+    let pixels = output.stdout.strip_prefix(header).expect("a PAM header");
+    let mut surface = vec![0; 4 * 256 * 150];
+    reference::draw(&scene("panel-small-next.scene"), &mut surface, &mut vec![0; SCRATCH_NUMBERS]);
+    // The panel is opaque, so straight and premultiplied colours are the same; images have their top row first.
+    let expected: Vec<u8> = surface.chunks(4 * 256).rev().flatten().copied().collect();
+    assert!(pixels == expected);
+
+    let alone = Command::new(&program).output().expect("the example runs");
+    let report = String::from_utf8_lossy(&alone.stderr);
+    assert!(alone.status.success() && alone.stdout.len() > 64 * 24 * 4);
+    assert_eq!(report, "draw: x 0, y 0, width 64, height 24\nredraw: x 13, y 2, width 35, height 21\n");
+}

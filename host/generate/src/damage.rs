@@ -1,0 +1,117 @@
+//! Random scenes spoiled in a few places. Most have fresh checks, so that the rules behind the checks are met.
+
+use scene::{file_offset, seal_block, Scene, BLOCK};
+
+use crate::Random;
+
+/// The scene's file, spoiled in one to three places.
+pub fn damaged(random: &mut Random, scene: &Scene) -> Vec<u8> {
+    let mut bytes = scene.bytes();
+    for _ in 0..random.pick(&[1, 1, 1, 2, 3]) {
+        spoil(random, &mut bytes);
+    }
+    bytes
+}
+
+fn spoil(random: &mut Random, bytes: &mut Vec<u8>) {
+    if bytes.len() < BLOCK {
+        return;
+    }
+    match random.range(0, 24) {
+        0 => {
+            let length = random.pick(&[0, 1, 511, 512, bytes.len() - 1, bytes.len() - 512, bytes.len() + 512]);
+            bytes.resize(length, 0);
+        }
+        // A byte anywhere, checks included, with no fresh check.
+        1 => {
+            let at = random.index(bytes.len());
+            bytes[at] ^= 1 << random.range(0, 7);
+        }
+        // Two blocks exchanged: their checks hold.
+        2 => {
+            let count = bytes.len() / BLOCK;
+            let (a, b) = (random.index(count), random.index(count));
+            for i in 0..BLOCK {
+                bytes.swap(BLOCK * a + i, BLOCK * b + i);
+            }
+        }
+        3 => spoil_header(random, bytes),
+        _ => spoil_draw(random, bytes),
+    }
+}
+
+fn spoil_header(random: &mut Random, bytes: &mut [u8]) {
+    match random.range(0, 3) {
+        0 => put(bytes, random.pick(&[0, 2]), &random.pick(&[0_u16, 1, 1_024, 1_025, 65_535]).to_le_bytes()),
+        1 => put(bytes, 4, &random.pick(&[0_u16, 1, 2, 64, 65, 256]).to_le_bytes()),
+        2 => put(bytes, 6, &[random.byte()]),
+        _ => put(bytes, random.range(8, 507) as usize, &[random.byte()]),
+    }
+}
+
+fn spoil_draw(random: &mut Random, bytes: &mut [u8]) {
+    let draws = (bytes.len() / BLOCK - 1) / 4;
+    if draws == 0 {
+        return;
+    }
+    let draw = random.index(draws);
+    let count = |bytes: &[u8], place| usize::from(bytes[file_offset(draw, place)]);
+    let mut put_in_draw = |place: usize, value: &[u8]| put(bytes, file_offset(draw, place), value);
+    match random.range(0, 11) {
+        0 => {
+            let place = random.pick(&[0, 2, 4, 6]);
+            put_in_draw(place, &[random.byte() & 7]);
+        }
+        1 => {
+            let place = random.range(0, 7) as usize;
+            put_in_draw(place, &[random.byte()]);
+        }
+        2 => {
+            let (place, value) = random.pick(&[(8, 128), (8, 129), (9, 4), (9, 5), (10, 32), (10, 33), (11, 1)]);
+            put_in_draw(place, &[value]);
+        }
+        3 => put_in_draw(random.range(8, 10) as usize, &[random.range(0, 40) as u8]),
+        4 | 5 => {
+            let place = 12 + 4 * random.index(14);
+            put_in_draw(place, &special_float(random).to_le_bytes());
+        }
+        6 => {
+            let place = 132 + 4 * random.index(160);
+            put_in_draw(place, &special_float(random).to_le_bytes());
+        }
+        7 | 8 => {
+            let used = count(bytes, 8).clamp(1, 128);
+            let place = 772 + random.index(used);
+            put(bytes, file_offset(draw, place), &[random.range(0, 40) as u8]);
+        }
+        9 | 10 => {
+            let place = 900 + 2 * random.index(40);
+            let any = random.bits() as i16;
+            let value = random.pick(&[0, 1, -1, i16::MAX, i16::MIN, any]);
+            put_in_draw(place, &value.to_le_bytes());
+        }
+        _ => put_in_draw(random.index(2_032), &[random.byte()]),
+    }
+}
+
+/// Values about the limits of the fields, and those that are no numbers.
+fn special_float(random: &mut Random) -> f32 {
+    let limit = random.pick(&[1.0, 256.0, 4_096.0, 32_768.0, 0.0, 1e-40, f32::MAX, f32::INFINITY, f32::NAN]);
+    let value = match random.range(0, 3) {
+        0 => f32::from_bits(limit.to_bits() + 1),
+        1 => f32::from_bits(limit.to_bits().saturating_sub(1)),
+        _ => limit,
+    };
+    if random.once_in(2) {
+        -value
+    } else {
+        value
+    }
+}
+
+/// Writes a value and makes the check of its block fresh.
+fn put(bytes: &mut [u8], at: usize, value: &[u8]) {
+    bytes[at..at + value.len()].copy_from_slice(value);
+    let block = at / BLOCK * BLOCK;
+    seal_block(&mut bytes[block..block + BLOCK]);
+}

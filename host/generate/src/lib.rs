@@ -1,0 +1,14 @@
+//! Scenes for tests, the same in every run.
+//!
+//! - [`scenes`]: random scenes that the rules mostly accept, and pairs of them for a redraw.
+//! - [`damage`]: random scenes spoiled in a few bytes, with their checks made fresh or not.
+//! - [`rules`]: both sides of every rule, with the answer that the paper gives.
+#![forbid(unsafe_code)]
+
+pub mod damage;
+pub mod paths;
+pub mod random;
+pub mod rules;
+pub mod scenes;
+
+pub use random::Random;

@@ -1,0 +1,77 @@
+//! The C interface of include/wayramesh.h, declared again for Rust, behind safe functions.
+//!
+//! Nothing checks these declarations against the library: they are the header's, and the tests compare results.
+
+/// The answer of a call; the header says what its numbers mean.
+#[repr(C)]
+#[derive(Clone, Copy, Debug, PartialEq, Eq)]
+pub struct Answer {
+    pub code: u32,
+    pub draw: u32,
+    pub scene: u32,
+    pub x: u32,
+    pub y: u32,
+    pub width: u32,
+    pub height: u32,
+}
+
+/// The numbers that a scratch must have at least.
+pub const SCRATCH_NUMBERS: usize = 12_300;
+
+mod ffi {
+    use super::Answer;
+
+    extern "C" {
+        pub fn wayramesh_draw(
+            scene: *const u8,
+            scene_len: usize,
+            surface: *mut u8,
+            surface_len: usize,
+            scratch: *mut i32,
+            scratch_len: usize,
+        ) -> Answer;
+
+        pub fn wayramesh_redraw(
+            old: *const u8,
+            old_len: usize,
+            new: *const u8,
+            new_len: usize,
+            surface: *mut u8,
+            surface_len: usize,
+            scratch: *mut i32,
+            scratch_len: usize,
+        ) -> Answer;
+    }
+}
+
+/// Draws a scene in full.
+pub fn draw(scene: &[u8], surface: &mut [u8], scratch: &mut [i32]) -> Answer {
+    // SAFETY: each pointer comes with its slice's length, and no two of the slices overlap. The function asks no more.
+    unsafe {
+        ffi::wayramesh_draw(
+            scene.as_ptr(),
+            scene.len(),
+            surface.as_mut_ptr(),
+            surface.len(),
+            scratch.as_mut_ptr(),
+            scratch.len(),
+        )
+    }
+}
+
+/// Redraws a surface from the old scene to the new.
+pub fn redraw(old: &[u8], new: &[u8], surface: &mut [u8], scratch: &mut [i32]) -> Answer {
+    // SAFETY: as in `draw`; the two scenes are only read and may overlap.
+    unsafe {
+        ffi::wayramesh_redraw(
+            old.as_ptr(),
+            old.len(),
+            new.as_ptr(),
+            new.len(),
+            surface.as_mut_ptr(),
+            surface.len(),
+            scratch.as_mut_ptr(),
+            scratch.len(),
+        )
+    }
+}

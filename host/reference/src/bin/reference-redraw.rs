@@ -1,0 +1,23 @@
+//! The redraw program by the reference: draws the old scene file, redraws to the new, and prints area and picture.
+
+use std::io::Write;
+use std::{env, fs, io, process};
+
+fn main() {
+    let arguments: Vec<String> = env::args().skip(1).collect();
+    let [old, new] = &arguments[..] else {
+        eprintln!("usage: reference-redraw OLD NEW");
+        process::exit(2);
+    };
+    let read = |path: &String| {
+        fs::read(path).unwrap_or_else(|e| {
+            eprintln!("{path}: {e}");
+            process::exit(2);
+        })
+    };
+    let text = reference::print::redrawing(&read(old), &read(new));
+    if let Err(error) = io::stdout().write_all(text.as_bytes()) {
+        eprintln!("{error}");
+        process::exit(2);
+    }
+}

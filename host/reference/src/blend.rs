@@ -1,0 +1,48 @@
+//! Blending: the Porter-Duff factors of document 001, Table 15, and the stored byte at a coverage.
+
+use crate::paint::Pixel;
+
+const ALPHA: usize = 3;
+
+#[derive(Clone, Copy, Debug, PartialEq, Eq)]
+pub enum Blend {
+    Src,
+    SrcOver,
+    DstOver,
+    SrcIn,
+    DstIn,
+}
+
+impl Blend {
+    pub fn from_number(number: u16) -> Option<Blend> {
+        match number {
+            0x2000 => Some(Blend::Src),
+            0x2001 => Some(Blend::SrcOver),
+            0x2002 => Some(Blend::DstOver),
+            0x2003 => Some(Blend::SrcIn),
+            0x2004 => Some(Blend::DstIn),
+            _ => None,
+        }
+    }
+
+    /// Fs and Fd in 255ths for the source's and the destination's alpha.
+    fn factors(self, source: i64, destination: i64) -> (i64, i64) {
+        match self {
+            Blend::Src => (255, 0),
+            Blend::SrcOver => (255, 255 - source),
+            Blend::DstOver => (255 - destination, 255),
+            Blend::SrcIn => (destination, 0),
+            Blend::DstIn => (0, source),
+        }
+    }
+}
+
+/// The four bytes stored over `destination`, both premultiplied, at a coverage of 0 to 16.
+pub fn composite(mode: Blend, source: Pixel, destination: Pixel, coverage: i64) -> Pixel {
+    let (fs, fd) = mode.factors(source[ALPHA].into(), destination[ALPHA].into());
+    std::array::from_fn(|channel| {
+        let (s, d) = (i64::from(source[channel]), i64::from(destination[channel]));
+        let blended = ((s * fs + d * fd + 127) / 255).min(255);
+        ((blended * coverage + d * (16 - coverage) + 8) / 16) as u8
+    })
+}

@@ -1,0 +1,253 @@
+//! The scene rules in their order: a file is decoded, or the fault that they meet first is named.
+
+use crate::answer::{Fault, BAD_CHECKSUM, BAD_LENGTH, ILLEGAL_ARGUMENT, NO_DRAW, UNSUPPORTED_PATH_FORMAT};
+use crate::blend::Blend;
+use crate::coverage::{FillRule, Scissor};
+use crate::file::{self, draw, header};
+use crate::number::{f32_at, i16_at, i32_at, u16_at};
+use crate::paint::{LinearGradient, Paint, Ramp, Spread, Stop};
+use crate::path::{self, Edge, Matrix, SegmentFault};
+
+const MAX_SIDE: u16 = 1_024;
+const MAX_DRAWS: u16 = 64;
+const MAX_SCALE: f32 = 256.0;
+const MAX_TRANSLATION: f32 = 32_768.0;
+const MAX_LINEAR: f32 = 4_096.0;
+
+const FLAG_NON_ZERO: u16 = 1;
+const FLAG_SCISSORING: u16 = 2;
+const FLAG_PREMULTIPLIED: u16 = 4;
+
+/// An accepted scene.
+#[derive(Debug)]
+pub struct Scene {
+    pub width: u32,
+    pub height: u32,
+    /// As given, not premultiplied.
+    pub background: [u8; 4],
+    pub draws: Vec<Draw>,
+}
+
+impl Scene {
+    pub fn surface_bytes(&self) -> usize {
+        4 * self.width as usize * self.height as usize
+    }
+}
+
+/// An accepted draw.
+#[derive(Debug)]
+pub struct Draw {
+    /// The joined payloads, by which a redraw compares.
+    pub bytes: Vec<u8>,
+    pub fill_rule: FillRule,
+    /// None with scissoring off.
+    pub scissors: Option<Vec<Scissor>>,
+    pub blend: Blend,
+    pub paint: Paint,
+    pub edges: Vec<Edge>,
+}
+
+/// A fault within a draw: its code, and its place in the joined payloads.
+#[derive(Clone, Copy, Debug, PartialEq, Eq)]
+pub struct DrawFault {
+    pub code: u32,
+    pub place: usize,
+}
+
+/// The scene in a file, or its first fault.
+pub fn scene(bytes: &[u8]) -> Result<Scene, Fault> {
+    let fault = |code, offset| Fault { code, draw: NO_DRAW, offset };
+    if !bytes.len().is_multiple_of(file::BLOCK) || bytes.len() < file::BLOCK {
+        return Err(fault(BAD_LENGTH, 0));
+    }
+    if !file::check_holds(bytes, 0) {
+        return Err(fault(BAD_CHECKSUM, file::check_offset(0)));
+    }
+    let header = header(bytes).map_err(|offset| fault(ILLEGAL_ARGUMENT, offset))?;
+    if bytes.len() != file::length(header.draws) {
+        return Err(fault(BAD_LENGTH, 0));
+    }
+    let draws = (0..header.draws).map(|i| numbered_draw(bytes, i)).collect::<Result<_, _>>()?;
+    Ok(Scene { width: header.width, height: header.height, background: header.background, draws })
+}
+
+struct Header {
+    width: u32,
+    height: u32,
+    draws: usize,
+    background: [u8; 4],
+}
+
+/// The fields of block 0, or the offset of the first that breaks a rule.
+fn header(bytes: &[u8]) -> Result<Header, usize> {
+    let number = |at| u16_at(bytes, at);
+    require((1..=MAX_SIDE).contains(&number(header::WIDTH)), header::WIDTH)?;
+    require((1..=MAX_SIDE).contains(&number(header::HEIGHT)), header::HEIGHT)?;
+    require(number(header::DRAWS) <= MAX_DRAWS, header::DRAWS)?;
+    require(number(header::ZERO) == 0, header::ZERO)?;
+    require_zeros(bytes, header::ZEROS, file::PAYLOAD)?;
+    Ok(Header {
+        width: number(header::WIDTH).into(),
+        height: number(header::HEIGHT).into(),
+        draws: number(header::DRAWS).into(),
+        background: std::array::from_fn(|channel| bytes[header::BACKGROUND + channel]),
+    })
+}
+
+/// The four checks of draw `index`, then the rules on its bytes.
+fn numbered_draw(bytes: &[u8], index: usize) -> Result<Draw, Fault> {
+    let fault = |code, offset| Fault { code, draw: index as u32, offset };
+    for block in file::first_block(index)..file::first_block(index + 1) {
+        if !file::check_holds(bytes, block) {
+            return Err(fault(BAD_CHECKSUM, file::check_offset(block)));
+        }
+    }
+    draw(file::draw_bytes(bytes, index)).map_err(|found| fault(found.code, file::offset(index, found.place)))
+}
+
+/// A draw from its joined payloads: fields to the end of the stops, the path, unused segments and coordinates.
+pub fn draw(bytes: Vec<u8>) -> Result<Draw, DrawFault> {
+    let illegal = |place| DrawFault { code: ILLEGAL_ARGUMENT, place };
+    let fields = fields(&bytes).map_err(illegal)?;
+
+    let segments = &bytes[draw::SEGMENTS..][..fields.segments];
+    let coordinates: Vec<i16> = (0..draw::MAX_COORDINATES).map(|i| i16_at(&bytes, draw::COORDINATES + 2 * i)).collect();
+    let path = path::walk(segments, &coordinates, &fields.matrix).map_err(|(fault, segment)| DrawFault {
+        code: match fault {
+            SegmentFault::Arc => UNSUPPORTED_PATH_FORMAT,
+            SegmentFault::Illegal => ILLEGAL_ARGUMENT,
+        },
+        place: draw::SEGMENTS + segment,
+    })?;
+
+    let segments_end = draw::SEGMENTS + fields.segments;
+    require_zeros(&bytes, segments_end, draw::COORDINATES).map_err(illegal)?;
+    let coordinates_end = draw::COORDINATES + 2 * path.coordinates_used;
+    require_zeros(&bytes, coordinates_end, file::DRAW_BYTES).map_err(illegal)?;
+
+    Ok(Draw {
+        fill_rule: fields.fill_rule,
+        scissors: fields.scissors,
+        blend: fields.blend,
+        paint: fields.paint,
+        edges: path.edges,
+        bytes,
+    })
+}
+
+/// All that a draw has besides its path.
+struct Fields {
+    fill_rule: FillRule,
+    scissors: Option<Vec<Scissor>>,
+    blend: Blend,
+    paint: Paint,
+    matrix: Matrix,
+    segments: usize,
+}
+
+/// The fields in layout order to the end of the stops, or the first place that breaks a rule.
+fn fields(bytes: &[u8]) -> Result<Fields, usize> {
+    let flags = u16_at(bytes, draw::FLAGS);
+    let known = FLAG_NON_ZERO | FLAG_SCISSORING | FLAG_PREMULTIPLIED;
+    require(flags & !known == 0, draw::FLAGS)?;
+    let blend = Blend::from_number(u16_at(bytes, draw::BLEND)).ok_or(draw::BLEND)?;
+    let paint_type = u16_at(bytes, draw::PAINT);
+    require(matches!(paint_type, 0x1B00 | 0x1B01), draw::PAINT)?;
+    let spread = Spread::from_number(u16_at(bytes, draw::SPREAD)).ok_or(draw::SPREAD)?;
+
+    let segments = count(bytes, draw::SEGMENT_COUNT, draw::MAX_SEGMENTS)?;
+    let scissor_count = count(bytes, draw::SCISSOR_COUNT, draw::MAX_SCISSORS)?;
+    let stop_count = count(bytes, draw::STOP_COUNT, draw::MAX_STOPS)?;
+    require(bytes[draw::ZERO] == 0, draw::ZERO)?;
+
+    let matrix = matrix(bytes)?;
+    let color = floats(bytes, draw::COLOR, |v| !v.is_nan())?;
+    let linear = floats(bytes, draw::LINEAR, |v| v.abs() <= MAX_LINEAR)?;
+    let scissors = scissors(bytes, scissor_count)?;
+    let stops = stops(bytes, stop_count)?;
+
+    let paint = if paint_type == 0x1B00 {
+        Paint::color(color)
+    } else {
+        Paint::Linear {
+            gradient: LinearGradient::new(linear),
+            spread,
+            ramp: Ramp::new(&stops, flags & FLAG_PREMULTIPLIED != 0),
+        }
+    };
+    Ok(Fields {
+        fill_rule: if flags & FLAG_NON_ZERO != 0 { FillRule::NonZero } else { FillRule::EvenOdd },
+        scissors: (flags & FLAG_SCISSORING != 0).then_some(scissors),
+        blend,
+        paint,
+        matrix,
+        segments,
+    })
+}
+
+/// A count byte that is at most `most`.
+fn count(bytes: &[u8], place: usize, most: usize) -> Result<usize, usize> {
+    let count = usize::from(bytes[place]);
+    require(count <= most, place)?;
+    Ok(count)
+}
+
+/// The six matrix entries within their limits; a NaN is within none.
+fn matrix(bytes: &[u8]) -> Result<Matrix, usize> {
+    let scales: [f32; 4] = floats(bytes, draw::MATRIX, |v| v.abs() <= MAX_SCALE)?;
+    let translations: [f32; 2] = floats(bytes, draw::MATRIX + 16, |v| v.abs() <= MAX_TRANSLATION)?;
+    let [sx, shy, shx, sy] = scales;
+    let [tx, ty] = translations;
+    Ok(Matrix::new([sx, shy, shx, sy, tx, ty]))
+}
+
+/// The floats from a place on, or the place of the first that is not allowed.
+fn floats<const N: usize>(bytes: &[u8], place: usize, allowed: impl Fn(f32) -> bool) -> Result<[f32; N], usize> {
+    let mut values = [0.0; N];
+    for (i, value) in values.iter_mut().enumerate() {
+        *value = f32_at(bytes, place + 4 * i);
+        require(allowed(*value), place + 4 * i)?;
+    }
+    Ok(values)
+}
+
+/// The used scissors, whatever their numbers; unused ones are zero.
+fn scissors(bytes: &[u8], count: usize) -> Result<Vec<Scissor>, usize> {
+    let used_end = draw::SCISSORS + draw::SCISSOR_BYTES * count;
+    require_zeros(bytes, used_end, draw::STOPS)?;
+    let number = |i: usize, field: usize| {
+        let place = draw::SCISSORS + draw::SCISSOR_BYTES * i + 4 * field;
+        i64::from(i32_at(bytes, place))
+    };
+    Ok((0..count)
+        .map(|i| Scissor { x: number(i, 0), y: number(i, 1), width: number(i, 2), height: number(i, 3) })
+        .collect())
+}
+
+/// The used stops, none with a NaN; unused ones are zero.
+fn stops(bytes: &[u8], count: usize) -> Result<Vec<Stop>, usize> {
+    let mut used = Vec::new();
+    for i in 0..count {
+        let place = draw::STOPS + draw::STOP_BYTES * i;
+        let [offset, r, g, b, a] = floats(bytes, place, |v| !v.is_nan())?;
+        used.push(Stop { offset, color: [r, g, b, a] });
+    }
+    let used_end = draw::STOPS + draw::STOP_BYTES * count;
+    require_zeros(bytes, used_end, draw::SEGMENTS)?;
+    Ok(used)
+}
+
+fn require(holds: bool, place: usize) -> Result<(), usize> {
+    if holds {
+        Ok(())
+    } else {
+        Err(place)
+    }
+}
+
+fn require_zeros(bytes: &[u8], from: usize, end: usize) -> Result<(), usize> {
+    match file::first_nonzero(bytes, from, end) {
+        Some(place) => Err(place),
+        None => Ok(()),
+    }
+}

@@ -1,0 +1,84 @@
+//! What must hold of every scene, tried on generated ones.
+
+use generate::{damage, scenes, Random};
+use reference::coverage::coverage;
+use reference::picture::SCRATCH_NUMBERS;
+use reference::{draw, redraw, rules};
+
+/// The full drawing over a surface and scratch of rubbish, or None if it is refused.
+fn drawn(random: &mut Random, scene: &scene::Scene) -> Option<Vec<u8>> {
+    let mut surface = vec![0; scene.surface_bytes()];
+    let mut scratch = vec![0; SCRATCH_NUMBERS];
+    random.fill_bytes(&mut surface);
+    random.fill_numbers(&mut scratch);
+    let answer = draw(&scene.bytes(), &mut surface, &mut scratch);
+    (answer.code == 0).then_some(surface)
+}
+
+/// The picture takes nothing from the buffers, and a redraw from the old picture gives the new one.
+#[test]
+fn a_redraw_ends_in_the_new_picture() {
+    let mut accepted = 0;
+    for seed in 0..600 {
+        let mut random = Random::new(seed);
+        let old = scenes::scene(&mut random, 24, 6);
+        let new = scenes::next_scene(&mut random, &old);
+        let Some(mut surface) = drawn(&mut random, &old) else { continue };
+        let Some(expected) = drawn(&mut random, &new) else { continue };
+        assert_eq!(drawn(&mut random, &new), Some(expected.clone()), "seed {seed}");
+        let mut scratch = vec![1; SCRATCH_NUMBERS];
+        let answer = redraw(&old.bytes(), &new.bytes(), &mut surface, &mut scratch);
+        assert_eq!(answer.code, 0, "seed {seed}");
+        assert_eq!(surface, expected, "seed {seed}");
+        accepted += 1;
+    }
+    assert!(accepted > 400, "{accepted} pairs accepted");
+}
+
+/// A pixel that no edge end reaches, on either side, has no sample inside.
+#[test]
+fn outside_the_bounds_nothing_is_covered() {
+    let mut tried = 0;
+    for seed in 0..300 {
+        let mut random = Random::new(seed);
+        let Ok(scene) = rules::scene(&scenes::scene(&mut random, 24, 6).bytes()) else { continue };
+        for draw in &scene.draws {
+            let ends = || draw.edges.iter().flat_map(|e| [e.from, e.to]);
+            let columns = (ends().map(|p| p.x >> 8).min(), ends().map(|p| p.x >> 8).max());
+            let rows = (ends().map(|p| p.y >> 8).min(), ends().map(|p| p.y >> 8).max());
+            let ((Some(left), Some(right)), (Some(bottom), Some(top))) = (columns, rows) else { continue };
+            for y in -3..i64::from(scene.height) + 3 {
+                for x in -3..i64::from(scene.width) + 3 {
+                    if !(left..=right).contains(&x) || !(bottom..=top).contains(&y) {
+                        assert_eq!(coverage(&draw.edges, draw.fill_rule, x, y), 0, "seed {seed}");
+                        tried += 1;
+                    }
+                }
+            }
+        }
+    }
+    assert!(tried > 50_000, "{tried} pixels tried");
+}
+
+/// A refused call changes neither surface nor scratch.
+#[test]
+fn a_refusal_changes_nothing() {
+    let mut refused = 0;
+    for seed in 0..600 {
+        let mut random = Random::new(seed);
+        let scene = scenes::scene(&mut random, 12, 4);
+        let bytes = damage::damaged(&mut random, &scene);
+        let mut surface = vec![0; scene.surface_bytes()];
+        let mut scratch = vec![0; random.pick(&[0, 12_299, 12_300, 12_301])];
+        random.fill_bytes(&mut surface);
+        random.fill_numbers(&mut scratch);
+        let before = (surface.clone(), scratch.clone());
+        if draw(&bytes, &mut surface, &mut scratch).code != 0 {
+            assert_eq!((surface, scratch), before, "seed {seed}");
+            refused += 1;
+        } else {
+            assert!(scratch.iter().all(|&number| number == 0), "seed {seed}");
+        }
+    }
+    assert!(refused > 300, "{refused} refused");
+}

@@ -1,0 +1,84 @@
+//! The vectors of tests/vectors: what the two programs print, and the offset of each edge case's fault.
+
+use std::fs;
+use std::path::{Path, PathBuf};
+
+use reference::{print, rules};
+
+fn vectors() -> PathBuf {
+    Path::new(env!("CARGO_MANIFEST_DIR")).join("../../tests/vectors")
+}
+
+/// The files of a folder with this extension, in order.
+fn files(folder: &str, extension: &str) -> Vec<PathBuf> {
+    let mut files: Vec<PathBuf> = fs::read_dir(vectors().join(folder))
+        .expect("the folder of vectors")
+        .map(|entry| entry.expect("an entry").path())
+        .filter(|path| path.extension().is_some_and(|e| e == extension))
+        .collect();
+    files.sort();
+    files
+}
+
+fn read(path: &Path) -> Vec<u8> {
+    fs::read(path).unwrap_or_else(|e| panic!("{}: {e}", path.display()))
+}
+
+fn check(path: &Path, printed: &str) {
+    let expected = fs::read_to_string(path.with_extension("out")).expect("an expected output");
+    let differs = printed.lines().zip(expected.lines()).position(|(a, b)| a != b);
+    assert!(printed == expected, "{}: printed text differs, first at line {differs:?}", path.display());
+}
+
+#[test]
+fn draws() {
+    let scenes = files("draw", "scene");
+    assert_eq!(scenes.len(), 264);
+    for scene in scenes {
+        check(&scene, &print::drawing(&read(&scene)));
+    }
+}
+
+#[test]
+fn redraws() {
+    let pairs = files("redraw", "old");
+    assert_eq!(pairs.len(), 56);
+    for old in pairs {
+        let new = read(&old.with_extension("new"));
+        check(&old, &print::redrawing(&read(&old), &new));
+    }
+}
+
+/// INDEX.md has a line for each edge case: number, code, draw, "offset", the offset.
+#[test]
+fn faults_of_the_edge_cases() {
+    let index = fs::read_to_string(vectors().join("INDEX.md")).expect("the index");
+    let mut cases = 0;
+    for line in index.lines().filter(|line| line.contains(" offset ")) {
+        let words: Vec<&str> = line.split_whitespace().collect();
+        let [number, code, draw, "offset", offset, ..] = words[..] else {
+            continue;
+        };
+        let Ok(code) = u32::from_str_radix(code, 16) else {
+            continue;
+        };
+        let scene = read(&vectors().join(format!("draw/edge-{number}.scene")));
+        let found = rules::scene(&scene).map(|_| ());
+        let expected = match code {
+            0 => Ok(()),
+            code => Err(reference::Fault {
+                code,
+                draw: draw.parse().expect("a draw number"),
+                offset: offset.parse().expect("an offset"),
+            }),
+        };
+        assert_eq!(found, expected, "{line}");
+        cases += 1;
+    }
+    assert_eq!(cases, files_with_prefix("edge-"));
+}
+
+fn files_with_prefix(prefix: &str) -> usize {
+    let named = |path: &&PathBuf| path.file_name().is_some_and(|name| name.to_string_lossy().starts_with(prefix));
+    files("draw", "scene").iter().filter(named).count()
+}

@@ -1,0 +1,147 @@
+/*
+ * wayramesh.h: the C interface of Wayramesh, a verified renderer for instrument panels.
+ *
+ * A scene file goes in, and pixels come out. wayramesh_draw draws a scene in full. wayramesh_redraw takes a surface
+ * from one scene to the next and writes only the area in which they may differ.
+ *
+ * Link with libwayramesh.a. The library allocates nothing, keeps nothing between calls, does no input or output, and
+ * always returns. Calls that share no writable buffer may run at the same time. examples/panel.c is a whole program.
+ *
+ * What is proved of both functions, for every input:
+ *
+ *   1. A refused call writes neither the surface nor the scratch. An accepted call leaves every number of the scratch
+ *      zero.
+ *   2. An accepted wayramesh_draw leaves the picture of the scene in the surface, whatever surface and scratch held.
+ *   3. An accepted wayramesh_redraw leaves the new scene's picture in the area that it answers, and every byte outside
+ *      that area as it was. If the surface held the old scene's picture, it holds the whole of the new one's.
+ *
+ * The scenes are never written. What the proof takes for granted is what C cannot check: that each pointer comes with
+ * the number of items that lie there, and that surface and scratch overlap neither each other nor a scene.
+ */
+
+#ifndef WAYRAMESH_H
+#define WAYRAMESH_H
+
+#include <stddef.h>
+#include <stdint.h>
+
+#ifdef __cplusplus
+extern "C" {
+#endif
+
+/*
+ * Codes. Every call returns one of these and no other. A scene is judged from its start to its end, and the first rule
+ * that it breaks decides; then come the surface and the scratch, in this order:
+ *
+ *   the length of the file, as far as it can be judged without reading    WAYRAMESH_BAD_LENGTH
+ *   the check of block 0                                                  WAYRAMESH_BAD_CHECKSUM
+ *   the fields of block 0, in order                                       WAYRAMESH_ILLEGAL_ARGUMENT
+ *   the length that the number of draws asks for                          WAYRAMESH_BAD_LENGTH
+ *   each draw in turn: the checks of its four blocks                      WAYRAMESH_BAD_CHECKSUM
+ *                      its fields, to the end of the stops                WAYRAMESH_ILLEGAL_ARGUMENT
+ *                      its path, segment by segment                       WAYRAMESH_UNSUPPORTED_PATH_FORMAT for an arc,
+ *                                                                         else WAYRAMESH_ILLEGAL_ARGUMENT
+ *                      unused segments, then unused coordinates           WAYRAMESH_ILLEGAL_ARGUMENT
+ *   (a redraw judges the old scene, then the new one, then compares
+ *   their sizes                                                           WAYRAMESH_ILLEGAL_ARGUMENT)
+ *   the surface                                                           WAYRAMESH_UNSUPPORTED_IMAGE_FORMAT
+ *   the scratch                                                           WAYRAMESH_OUT_OF_MEMORY
+ */
+
+/* The call was accepted and has drawn. */
+#define WAYRAMESH_ACCEPTED 0u
+
+/* The scene's length is below 512, not a multiple of 512, or not 512 * (1 + 4 * draws). */
+#define WAYRAMESH_BAD_LENGTH 0xB002u
+
+/* The check of a block is not the one of its payload. */
+#define WAYRAMESH_BAD_CHECKSUM 0xB001u
+
+/* A field, float, segment or coordinate breaks a rule, or the two scenes of a redraw differ in width or height. */
+#define WAYRAMESH_ILLEGAL_ARGUMENT 0x1001u
+
+/* A segment is an arc. */
+#define WAYRAMESH_UNSUPPORTED_PATH_FORMAT 0x1005u
+
+/* surface_len is not 4 * width * height. */
+#define WAYRAMESH_UNSUPPORTED_IMAGE_FORMAT 0x1004u
+
+/* scratch_len is below WAYRAMESH_SCRATCH_NUMBERS. */
+#define WAYRAMESH_OUT_OF_MEMORY 0x1002u
+
+/* The numbers that a scratch must have at least; more do no harm. */
+#define WAYRAMESH_SCRATCH_NUMBERS 12300u
+
+/* The bytes of a block of a scene file, and of the longest scene file, which has 64 draws. */
+#define WAYRAMESH_BLOCK_BYTES 512u
+#define WAYRAMESH_MAX_SCENE_BYTES 131584u
+
+/* The greatest width and the greatest height of a surface; both are at least 1. */
+#define WAYRAMESH_MAX_SIDE 1024u
+
+/* The number in wayramesh_answer.draw that stands for no draw. */
+#define WAYRAMESH_NO_DRAW 64u
+
+/*
+ * What a call answers.
+ *
+ *   code     WAYRAMESH_ACCEPTED, or why the call was refused.
+ *   draw     The number, from 0, of the draw that broke a rule. WAYRAMESH_NO_DRAW if the call was accepted, or what was
+ *            wrong is in no draw.
+ *   scene    1 if the new scene of a redraw broke a rule or its size differs from the old one's; else 0.
+ *   x, y, width, height
+ *            The pixels that an accepted call has drawn: columns x to x + width - 1 and rows y to y + height - 1, where
+ *            row 0 is the lowest. A full drawing answers the whole surface. A redraw answers the smallest rectangle
+ *            round the old and new bounds of every changed draw, or the whole surface if the background changed; all
+ *            four are 0 where nothing was to be drawn, and in every refusal.
+ */
+typedef struct wayramesh_answer {
+    uint32_t code;
+    uint32_t draw;
+    uint32_t scene;
+    uint32_t x;
+    uint32_t y;
+    uint32_t width;
+    uint32_t height;
+} wayramesh_answer;
+
+/*
+ * Draws a scene in full.
+ *
+ *   scene, scene_len      The scene file. Any bytes may be given: those that are no scene are refused.
+ *   surface, surface_len  Where the picture goes. Pixel (x, y) is the four bytes R, G, B, A at 4 * (y * width + x), the
+ *                         colours premultiplied by alpha; row 0 is the lowest. The scene's block 0 has width and height
+ *                         as its first two 16-bit numbers, little-endian; surface_len must be 4 * width * height.
+ *   scratch, scratch_len  Working memory of at least WAYRAMESH_SCRATCH_NUMBERS numbers. What it holds before the call
+ *                         does not matter.
+ *
+ * No pointer may be NULL. A pointer to a run of length 0 is not read or written.
+ */
+wayramesh_answer wayramesh_draw(const uint8_t *scene, size_t scene_len,
+                                uint8_t *surface, size_t surface_len,
+                                int32_t *scratch, size_t scratch_len);
+
+/*
+ * Redraws a surface that holds the picture of the old scene, so that it holds that of the new one.
+ *
+ *   old, old_len          The scene file that the surface was drawn from.
+ *   new_scene, new_len    The scene file to show next, of the same width and height. The two may be the same bytes in
+ *                         memory.
+ *   surface, surface_len  As in wayramesh_draw. Only pixels of the answered area are written.
+ *   scratch, scratch_len  As in wayramesh_draw.
+ *
+ * Draws are compared by number and by bytes: a draw counts as changed if any byte of its fields or path differs, or only
+ * one scene has it. If the surface did not hold the old picture, the answered area still ends up as the new picture's,
+ * and the rest stays as it was. After a refusal the surface still holds what it held, and the next call may go on from
+ * the same old scene.
+ */
+wayramesh_answer wayramesh_redraw(const uint8_t *old, size_t old_len,
+                                  const uint8_t *new_scene, size_t new_len,
+                                  uint8_t *surface, size_t surface_len,
+                                  int32_t *scratch, size_t scratch_len);
+
+#ifdef __cplusplus
+}
+#endif
+
+#endif
