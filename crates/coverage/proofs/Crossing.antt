@@ -13,7 +13,7 @@ use Rattle.fixed.proofs.Poly.{up, dn, var, num, _⊕_, _⊖_, _⊗_, le, lt, fr
 use Rattle.fixed.proofs.Round.{from-floor}
 use Rattle.fixed.proofs.Sign.{is-positive, above-zero, zero-or-more}
 use Rattle.path.specs.declared.Edge.{Edge}
-use Rattle.coverage.specs.Winding.{leftUp, sample}
+use Rattle.coverage.specs.Winding.{leftUp}
 use Rattle.coverage.specs.Engine.{ceilDiv, firstColumn, place}
 use Rattle.fixed.proofs.Tests.{same-test, leZ-not}
 

@@ -12,7 +12,7 @@ use Rattle.fixed.proofs.Poly.{var, num, _⊖_, _⊗_, le, lt, from-le, from-lt}
 use Rattle.fixed.proofs.Tests.{is-true, is-false, both-left, both-right}
 use Rattle.path.specs.declared.Edge.{Edge}
 use Rattle.path.specs.Closed.{Closed}
-use Rattle.coverage.specs.Winding.{rises, turned, upward, spansUp, leftUp, spans, atOrLeft, sign, sumOf, weight, counts, winding, one, sample}
+use Rattle.coverage.specs.Winding.{rises, turned, upward, spansUp, leftUp, spans, atOrLeft, sign, sumOf, weight, counts, winding}
 use Rattle.coverage.proofs.Telescope.{weight-law, closed-path-cancels}
 
 -- ---- what holds of every edge

@@ -11,7 +11,7 @@ use mir.Val.{SFits, ofZ}
 use Rattle.fixed.proofs.Within.{fits}
 use Rattle.fixed.proofs.Signed.{zero-yes, zero-no}
 use Rattle.coverage.specs.Winding.{inside, one, tally}
-use Rattle.coverage.specs.Engine.{takenFrom, running, at}
+use Rattle.coverage.specs.Engine.{takenFrom, running}
 
 -- ---- an odd number, by its remainder
 abs-neg : (n : ℕ) → natAbs (negℤ (pos n)) ≡ n

@@ -17,7 +17,7 @@ use Rattle.path.specs.declared.Edge.{Edge}
 use Rattle.path.specs.Stored.{edgeAt, edgesOf, Small}
 use Rattle.coverage.specs.declared.Start.{Start}
 use Rattle.coverage.specs.Winding.{sample}
-use Rattle.coverage.specs.Engine.{laid, zeros, place, starts, startOf, sumsAt, missed, bumped, withSums, Edges, Marked}
+use Rattle.coverage.specs.Engine.{laid, zeros, starts, startOf, sumsAt, missed, bumped, withSums, Edges, Marked}
 use Rattle.coverage.proofs.Laid.{laid-at, laid-before, laid-set, laid-again, tab-bump}
 use Rattle.coverage.proofs.Laid.{tab-same}
 use Rattle.coverage.proofs.Starts.{partly, partly-none, partly-more, partly-all, partly-small, missed-more}

@@ -1,4 +1,4 @@
--- What the functions behind `coverage_row` compute, and what stands in the scratch. A reviewer of the paper need not read it.
+-- What the functions behind `coverage_row` and `scissor_row` compute, and what stands in the scratch. A reviewer of the paper need not read it.
 use Prim.Native.Nat.{ℕ, zero, suc, _+_, _*_, _-_, _/_, _%_, _≤_, _<_}
 use mathlib.Core.Path.{_≡_}
 use mathlib.Core.List.{List, _++_}

@@ -1,5 +1,5 @@
 // What begins at each column of a window, in the four rows of samples of one row of pixels. Number 4 j + r of the sums is for column j and
-// sample row r. The sums of an edge's row over the columns up to j are what it counts at column j.
+// sample row r, so that the 16 numbers of a pixel stand together.
 use crate::Start;
 use crate::column::start;
 use path::Edge;
@@ -10,7 +10,6 @@ ghost use lib.Dec.{ltb};
 ghost use lib.IntN.{pos, natAbs};
 ghost use lib.ListN.{length, getD, set};
 ghost use Rattle.path.specs.Stored.{edgeAt, edgesOf};
-ghost use Rattle.coverage.specs.Winding.{sample};
 ghost use Rattle.coverage.specs.Engine.{laid, zeros, missed, bumped, sumsAt, withSums, Edges, Marked};
 
 // The ith edge.

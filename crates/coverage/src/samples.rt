@@ -12,7 +12,7 @@ ghost use Rattle.lists.specs.Lists.{tab};
 ghost use Rattle.coverage.specs.Winding.{inside, one};
 ghost use Rattle.coverage.specs.Engine.{at, laid, zeros, takenFrom, fullOf, cellOf, cellFrom, cellAfter, pixelOf, Bounded, Marked, Tame};
 
-// 1 where the winding number is inside, by the nonzero (false: even-odd, true: non-zero).
+// 1 where the winding number is inside: not zero, or, by the even-odd rule, odd.
 fn one_inside(nonzero: bool, w: i32) -> u8
     ensures { λ r. ⌜ (r ≡ one (inside nonzero w)) × (r ≤ 1) ⌝ }
 {
@@ -23,7 +23,7 @@ fn one_inside(nonzero: bool, w: i32) -> u8
     }
 }
 
-// Four columns.
+// Four columns of a sample row, after the winding number z.
 fn take_four(nonzero: bool, z: i32, a: i32, b: i32, c: i32, d: i32) -> Taken
     requires { ⌜ (natAbs z ≤ 1000000) × (natAbs a ≤ 1000000) × (natAbs b ≤ 1000000) × (natAbs c ≤ 1000000) × (natAbs d ≤ 1000000) ⌝ }
     ensures { λ r. ⌜ (r ≡ takenFrom nonzero z a b c d) × (r .count ≤ 4) ⌝ }
