@@ -24,15 +24,15 @@ modeDstIn = 0x2004
 abbrev pub isMode : ℕ → Bool
 isMode mode = leb modeSrc mode && leb mode modeDstIn
 
--- Fs and Fd of Table 15, from the alphas of source and destination
-unfoldable pub sourceFactor : ℕ → ℕ → ℕ → ℕ
-sourceFactor mode sa da =
+-- Fs and Fd of Table 15: of the five, Fs goes by the destination's alpha at most, and Fd by the source's
+unfoldable pub sourceFactor : ℕ → ℕ → ℕ
+sourceFactor mode da =
     cond (eqb mode modeDstOver) (255 - da)
     (cond (eqb mode modeSrcIn) da
     (cond (eqb mode modeDstIn) 0 255))
 
-unfoldable pub destinationFactor : ℕ → ℕ → ℕ → ℕ
-destinationFactor mode sa da =
+unfoldable pub destinationFactor : ℕ → ℕ → ℕ
+destinationFactor mode sa =
     cond (eqb mode modeSrcOver) (255 - sa)
     (cond (eqb mode modeDstOver) 255
     (cond (eqb mode modeDstIn) sa 0))
@@ -47,7 +47,7 @@ stored k blend d = (blend * k + d * (16 - k) + 8) / 16
 
 -- one channel of the step on one pixel
 unfoldable pub compositeByte : ℕ → ℕ → ℕ → ℕ → ℕ → ℕ → ℕ
-compositeByte mode k sa da s d = stored k (blended s (sourceFactor mode sa da) d (destinationFactor mode sa da)) d
+compositeByte mode k sa da s d = stored k (blended s (sourceFactor mode da) d (destinationFactor mode sa)) d
 
 -- the step on one pixel: mode, k, the paint's premultiplied bytes, the bytes that stand there
 abbrev pub composite : ℕ → ℕ → Pixel → Pixel → Pixel

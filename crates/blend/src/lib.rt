@@ -1,4 +1,12 @@
 // Porter-Duff blending of premultiplied bytes under a coverage of 0 to 16 samples.
+pub mod factor;
+pub mod row;
+pub mod step;
+
+pub use crate::factor::is_mode;
+pub use crate::row::composite_row;
+pub use crate::row::composite_run;
+pub use crate::step::composite;
 use color::Pixel;
 
 // What the step on one pixel answers: 0 and the new pixel, or a refusal and the old one.

@@ -1,0 +1,28 @@
+-- `blend::source_factor` meets its contract: each way of its tests is a case of the definition. Assumes nothing.
+use borrow.Author.Needs.{needs}
+use borrow.Author.Tests.{eq-eqb, ne-eqb}
+use Rattle.blend.specs.PorterDuff.{sourceFactor}
+use Rattle.blend.proofs.factor.source_factor.Statement.{statement}
+use Rattle.blend.proofs.factor.source_factor.Tie as tie
+
+sub-result : tie.Need-sub-result
+sub-result c = search needs
+
+returns : tie.Need-returns
+unfolding sourceFactor
+returns c = rw (eq-eqb _ _ (c .if1 .taken))
+
+returns-2 : tie.Need-returns-2
+unfolding sourceFactor
+returns-2 c = rw (ne-eqb _ _ (c .before .if1 .left), eq-eqb _ _ (c .if2 .taken))
+
+returns-3 : tie.Need-returns-3
+unfolding sourceFactor
+returns-3 c = rw (ne-eqb _ _ (c .before .before .if1 .left), ne-eqb _ _ (c .before .if2 .left), eq-eqb _ _ (c .if3 .taken))
+
+returns-4 : tie.Need-returns-4
+unfolding sourceFactor
+returns-4 c = rw (ne-eqb _ _ (c .before .before .if1 .left), ne-eqb _ _ (c .before .if2 .left), ne-eqb _ _ (c .if3 .left))
+
+pub source-factor-spec : {M : Type 1} → statement M
+source-factor-spec = tie.close (tie.spec sub-result returns returns-2 returns-3 returns-4)

@@ -1,0 +1,25 @@
+-- `blend::composite_pixel` meets its contract: what it answers without arithmetic is the same by the channel's laws. Assumes nothing.
+use mathlib.Core.Path.{sym, _∙_}
+use native.Mathlib.Omega.{arith}
+use borrow.Author.Needs.{needs}
+use Rattle.blend.proofs.Channel.{uncovered-keeps, hiding-replaces}
+use Rattle.blend.proofs.step.composite_pixel.Statement.{statement}
+use Rattle.blend.proofs.step.composite_pixel.Tie as tie
+
+returns : tie.Need-returns
+returns c = rw (c .if1 .taken) (sym (uncovered-keeps (c .before .args .mode) (c .before .args .src) (c .before .args .dst)))
+
+returns-2 : tie.Need-returns-2
+returns-2 c =
+    let a = c .before .before .before .before .args in
+    rw (c .before .before .if2 .taken)
+    (sym (hiding-replaces (a .mode) (a .src) (a .dst) (omega arith) (omega arith) (omega arith) (omega arith) (sym (c .before .hides .ensures) ∙ c .if3 .taken)))
+
+blend-pixel-requires : tie.Need-blend-pixel-requires
+blend-pixel-requires c κs = search needs
+
+returns-3 : tie.Need-returns-3
+returns-3 c = c .blend-pixel .ensures
+
+pub composite-pixel-spec : {M : Type 1} → statement M
+composite-pixel-spec = tie.close (tie.spec returns (λ c κs. tt) returns-2 blend-pixel-requires returns-3)

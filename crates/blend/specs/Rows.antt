@@ -1,0 +1,15 @@
+-- The step at every pixel of a part of a row.
+use mathlib.Core.List.{List}
+use Prim.Native.Nat.{ℕ, _≤_, _<_}
+use lib.ListN.{length, getD}
+use Rattle.color.specs.declared.Pixel.{Pixel}
+use Rattle.raster.specs.Surface.{run, pixelIn}
+use Rattle.blend.specs.PorterDuff.{composite}
+
+-- each byte is a k of 0 to 16
+abbrev pub Coverage : List ℕ → Type 0
+Coverage ks = (i : ℕ) → i < length ks → getD ks i 0 ≤ 16
+
+-- of the ith pixel that stands in d, under the ith k, with the ith pixel of the paint
+abbrev pub compositeRow : ℕ → List ℕ → (ℕ → Pixel) → List ℕ → List ℕ
+compositeRow mode ks paint d = run (length ks) (λ i. composite mode (getD ks i 0) (paint i) (pixelIn d i))

@@ -1,0 +1,101 @@
+// The step along a part of a row, by its coverage bytes.
+use crate::factor::hides;
+use crate::step::blend_pixel;
+use crate::step::composite_pixel;
+use color::Pixel;
+ghost use mathlib.Core.Path.{_≡_};
+ghost use Prim.Native.Nat.{_+_, _*_, _≤_, _<_};
+ghost use lib.ListN.{length, getD};
+ghost use Rattle.raster.specs.Surface.{run, pixelIn};
+ghost use Rattle.blend.specs.PorterDuff.{composite};
+ghost use Rattle.blend.specs.Rows.{Coverage, compositeRow};
+ghost use Rattle.blend.specs.Spans.{Span};
+
+// A paint of one pixel for each pixel of the row.
+pub fn composite_row(mode: u16, coverage: &[u8], src: &[u8], row: &mut [u8])
+    requires { ⌜ (length (now src) ≡ length (now coverage) * 4) × (length (now row) ≡ length (now coverage) * 4) ⌝ }
+    requires { ⌜ Coverage (now coverage) ⌝ }
+    ensures { λ _. ⌜ now (row .exit) ≡ compositeRow mode (now (coverage .entry)) (pixelIn (now (src .entry))) (now (row .entry)) ⌝ }
+{
+    let mut i = 0;
+    while i < coverage.len() {
+        let p = composite_pixel(
+            mode,
+            coverage[i],
+            raster::pixel(src, i),
+            raster::pixel(row, i),
+        );
+        let at = i * 4;
+        row[at] = p.r;
+        row[at + 1] = p.g;
+        row[at + 2] = p.b;
+        row[at + 3] = p.a;
+        i += 1;
+    }
+}
+
+// A paint of one pixel for all of the row. Pixels with one coverage are taken together.
+pub fn composite_run(mode: u16, coverage: &[u8], src: Pixel, row: &mut [u8])
+    requires { ⌜ length (now row) ≡ length (now coverage) * 4 ⌝ }
+    requires { ⌜ Coverage (now coverage) ⌝ }
+    ensures { λ _. ⌜ now (row .exit) ≡ compositeRow mode (now (coverage .entry)) (λ i. src) (now (row .entry)) ⌝ }
+{
+    let mut i = 0;
+    while i < coverage.len() {
+        let e = span_end(coverage, i);
+        let from = i * 4;
+        let to = e * 4;
+        composite_span(mode, coverage[i], src, &mut row[from..to], e - i);
+        i = e;
+    }
+}
+
+// Where the pixels that are covered like the pixel at i end.
+fn span_end(coverage: &[u8], i: usize) -> usize
+    requires { ⌜ i < length (now coverage) ⌝ }
+    ensures { λ e. ⌜ Span (now (coverage .entry)) i e ⌝ }
+{
+    let k = coverage[i];
+    let mut e = i + 1;
+    while e < coverage.len() {
+        if coverage[e] != k {
+            return e;
+        }
+        e += 1;
+    }
+    e
+}
+
+// n pixels under one coverage: left as they are, filled, or blended.
+fn composite_span(mode: u16, coverage: u8, src: Pixel, row: &mut [u8], n: usize)
+    requires { ⌜ (coverage ≤ 16) × (length (now row) ≡ n * 4) ⌝ }
+    ensures { λ _. ⌜ now (row .exit) ≡ run n (λ i. composite mode coverage src (pixelIn (now (row .entry)) i)) ⌝ }
+{
+    if coverage == 0 {
+        return;
+    }
+    if coverage == 16 {
+        if hides(mode, src.a) {
+            raster::fill_row(row, n, src);
+            return;
+        }
+    }
+    blend_span(mode, coverage, src, row, n);
+}
+
+// n pixels under one coverage, each blended.
+fn blend_span(mode: u16, coverage: u8, src: Pixel, row: &mut [u8], n: usize)
+    requires { ⌜ (coverage ≤ 16) × (length (now row) ≡ n * 4) ⌝ }
+    ensures { λ _. ⌜ now (row .exit) ≡ run n (λ i. composite mode coverage src (pixelIn (now (row .entry)) i)) ⌝ }
+{
+    let mut i = 0;
+    while i < n {
+        let p = blend_pixel(mode, coverage, src, raster::pixel(row, i));
+        let at = i * 4;
+        row[at] = p.r;
+        row[at + 1] = p.g;
+        row[at + 2] = p.b;
+        row[at + 3] = p.a;
+        i += 1;
+    }
+}

@@ -1,0 +1,91 @@
+// The step on one pixel: the paint blended with what stands there, then stored by its coverage.
+use crate::Composited;
+use crate::factor::destination_factor;
+use crate::factor::hides;
+use crate::factor::is_mode;
+use crate::factor::source_factor;
+use color::Pixel;
+ghost use mathlib.Core.Path.{_≡_};
+ghost use mathlib.Core.Bool.{_&&_};
+ghost use Prim.Native.Nat.{_≤_};
+ghost use lib.Dec.{leb};
+ghost use Rattle.blend.specs.PorterDuff.{isMode, blended, stored, composite, compositeAnswer};
+
+// 0x1001.
+const ILLEGAL_ARGUMENT: u16 = 0x1001;
+
+// The step called alone, on any bytes.
+pub fn composite(mode: u16, coverage: u8, src: Pixel, dst: Pixel) -> Composited
+    ensures { λ r. ⌜ r ≡ compositeAnswer mode coverage src dst ⌝ }
+{
+    if accepts(mode, coverage) {
+        Composited {
+            code: 0,
+            pixel: composite_pixel(mode, coverage, src, dst),
+        }
+    } else {
+        Composited {
+            code: ILLEGAL_ARGUMENT,
+            pixel: dst,
+        }
+    }
+}
+
+// The step, with what needs no arithmetic first: no sample covered keeps the pixel, and the whole of the paint replaces it.
+pub fn composite_pixel(mode: u16, coverage: u8, src: Pixel, dst: Pixel) -> Pixel
+    requires { ⌜ coverage ≤ 16 ⌝ }
+    ensures { λ r. ⌜ r ≡ composite mode coverage src dst ⌝ }
+{
+    if coverage == 0 {
+        return dst;
+    }
+    if coverage == 16 {
+        if hides(mode, src.a) {
+            return src;
+        }
+    }
+    blend_pixel(mode, coverage, src, dst)
+}
+
+// The step's four bytes.
+pub fn blend_pixel(mode: u16, coverage: u8, src: Pixel, dst: Pixel) -> Pixel
+    requires { ⌜ coverage ≤ 16 ⌝ }
+    ensures { λ r. ⌜ r ≡ composite mode coverage src dst ⌝ }
+{
+    let fs = source_factor(mode, dst.a);
+    let fd = destination_factor(mode, src.a);
+    Pixel {
+        r: stored_byte(coverage, blended_byte(src.r, fs, dst.r, fd), dst.r),
+        g: stored_byte(coverage, blended_byte(src.g, fs, dst.g, fd), dst.g),
+        b: stored_byte(coverage, blended_byte(src.b, fs, dst.b, fd), dst.b),
+        a: stored_byte(coverage, blended_byte(src.a, fs, dst.a, fd), dst.a),
+    }
+}
+
+// What the step called alone takes.
+fn accepts(mode: u16, coverage: u8) -> bool
+    ensures { λ r. ⌜ r ≡ (isMode mode && leb coverage 16) ⌝ }
+{
+    if is_mode(mode) {
+        return coverage <= 16;
+    }
+    false
+}
+
+// B: a sum of two products in 255ths, to the nearest, divided by shifts: (n + n / 256) / 256 is n / 255, up to what is cut to 255.
+fn blended_byte(s: u8, fs: u8, d: u8, fd: u8) -> u8
+    ensures { λ r. ⌜ r ≡ blended s fs d fd ⌝ }
+{
+    let n = (s as u32) * (fs as u32) + (d as u32) * (fd as u32) + 128;
+    let q = (n + (n >> 8)) >> 8;
+    if q < 255 { q as u8 } else { 255 }
+}
+
+// What is stored of B over d.
+fn stored_byte(coverage: u8, b: u8, d: u8) -> u8
+    requires { ⌜ coverage ≤ 16 ⌝ }
+    ensures { λ r. ⌜ r ≡ stored coverage b d ⌝ }
+{
+    let k = coverage as u32;
+    (((b as u32) * k + (d as u32) * (16 - k) + 8) >> 4) as u8
+}
