@@ -3,3 +3,5 @@ pub mod Matrices
 pub mod Segments
 pub mod Curves
 pub mod Boxes
+pub mod Stored
+pub mod Closed

@@ -1,0 +1,86 @@
+// Scissors: k becomes 0 outside every rectangle.
+use crate::Span;
+ghost use mathlib.Core.Path.{_≡_};
+ghost use mathlib.Core.Bool.{true, cond, _||_};
+ghost use Prim.Native.Nat.{ℕ, _+_, _*_, _^_, _<_, _≤_};
+ghost use lib.ListN.{length, getD};
+ghost use Rattle.lists.specs.Lists.{tab};
+ghost use Rattle.coverage.specs.Scissors.{scissored};
+ghost use Rattle.coverage.specs.Engine.{spanOf, runOf, inSpan};
+
+// k of each pixel from (x, y) on, in one row, with scissoring on.
+pub fn scissor_row(scissors: &[u8], n: usize, x: usize, y: usize, cover: &mut [u8])
+    requires { ⌜ (n ≤ 4) × (16 * n ≤ length (now scissors)) ⌝ }
+    requires { ⌜ (y < 1024) × (x + length (now cover) ≤ 1024) ⌝ }
+    ensures { λ _. ⌜ now (cover .exit) ≡ tab (length (now (cover .entry))) (λ i. scissored true (now (scissors .entry)) n (x + i) y (getD (now (cover .entry)) i 0)) ⌝ }
+{
+    let a = span(scissors, n, 0, y);
+    let b = span(scissors, n, 1, y);
+    let c = span(scissors, n, 2, y);
+    let d = span(scissors, n, 3, y);
+    let mut i = 0;
+    while i < cover.len() {
+        cover[i] = kept(a, b, c, d, x + i, cover[i]);
+        i += 1;
+    }
+}
+
+// The columns that rectangle r of the n has in the row y.
+fn span(scissors: &[u8], n: usize, r: usize, y: usize) -> Span
+    requires { ⌜ (r < 4) × (16 * n ≤ length (now scissors)) × (y < 1024) ⌝ }
+    ensures { λ s. ⌜ s ≡ spanOf (now (scissors .entry)) n r y ⌝ }
+{
+    if n <= r {
+        return Span { start: 0, end: 0 };
+    }
+    let at = 16 * r;
+    let rows = run(
+        fixed::i32_at(scissors, at + 4),
+        fixed::i32_at(scissors, at + 12),
+    );
+    if in_span(rows, y) {
+        run(fixed::i32_at(scissors, at), fixed::i32_at(scissors, at + 8))
+    } else {
+        Span { start: 0, end: 0 }
+    }
+}
+
+// From start to start + size - 1, as whole numbers.
+fn run(start: i32, size: i32) -> Span
+    ensures { λ s. ⌜ s ≡ runOf start size ⌝ }
+{
+    Span {
+        start: start as i64,
+        end: start as i64 + size as i64,
+    }
+}
+
+fn in_span(s: Span, x: usize) -> bool
+    requires { ⌜ x < 2 ^ 31 ⌝ }
+    ensures { λ r. ⌜ r ≡ inSpan s x ⌝ }
+{
+    let start = s.start;
+    let end = s.end;
+    if start <= x as i64 {
+        (x as i64) < end
+    } else {
+        false
+    }
+}
+
+// k where the column x is in one of the spans, else 0.
+fn kept(a: Span, b: Span, c: Span, d: Span, x: usize, k: u8) -> u8
+    requires { ⌜ x < 2 ^ 31 ⌝ }
+    ensures { λ r. ⌜ r ≡ cond (inSpan a x || inSpan b x || inSpan c x || inSpan d x) k 0 ⌝ }
+{
+    if in_span(a, x) {
+        return k;
+    }
+    if in_span(b, x) {
+        return k;
+    }
+    if in_span(c, x) {
+        return k;
+    }
+    if in_span(d, x) { k } else { 0 }
+}
