@@ -1,0 +1,2 @@
+-- The definitions that contracts cite. A reviewer of the paper need not read them.
+pub mod Asked
