@@ -1,1 +1,10 @@
 // Drawing a scene inside a rectangle of the surface: the background, then every draw in order.
+pub mod rows;
+
+// How a draw is filled: its blend mode, its fill rule, whether scissoring is on, and the number of scissors.
+pub struct Style {
+    pub mode: u16,
+    pub nonzero: bool,
+    pub scissoring: bool,
+    pub scissors: usize,
+}

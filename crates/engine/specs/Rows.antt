@@ -1,0 +1,17 @@
+-- What the row functions compute of a draw that was taken apart. A reviewer of the paper need not read it.
+use Prim.Native.Nat.{ℕ}
+use mathlib.Core.List.{List}
+use Rattle.color.specs.declared.Pixel.{Pixel}
+use Rattle.path.specs.declared.Edge.{Edge}
+use Rattle.blend.specs.PorterDuff.{composite}
+use Rattle.coverage.specs.Winding.{coverage}
+use Rattle.coverage.specs.Scissors.{scissored}
+use Rattle.engine.specs.declared.Style.{Style}
+
+-- k at a pixel
+unfoldable pub coverageWith : Style → List Edge → List ℕ → ℕ → ℕ → ℕ
+coverageWith s es scissors x y = scissored (s .scissoring) scissors (s .scissors) x y (coverage es (s .nonzero) x y)
+
+-- what is stored there, under a paint
+unfoldable pub stepWith : Style → List Edge → List ℕ → (ℕ → ℕ → Pixel) → ℕ → ℕ → Pixel → Pixel
+stepWith s es scissors paint x y q = composite (s .mode) (coverageWith s es scissors x y) (paint x y) q
