@@ -1,3 +1,4 @@
+-- LEAD, to the author of crate path: edges, flatten, bounds and the laws on closed paths, sizes and counts (items 5, 6, 7) are being done in a crate of its own, `outline`, by the lead. Do only matrix, pen, walk step, check (items 1 to 4, 8) and report. Remove this line.
 -- A draw's box: the pixels from floor of the least X / 256 to floor of the greatest, and so for Y, over all edge ends, cut to the surface ("The redrawn area").
 use Prim.Native.Nat.{ℕ, min}
 use mathlib.Core.List.{List, [], _∷_, foldl}

@@ -1,5 +1,6 @@
+-- LEAD, to the author of crate path: edges, flatten, bounds and the laws on closed paths, sizes and counts (items 5, 6, 7) are being done in a crate of its own, `outline`, by the lead. Do only matrix, pen, walk step, check (items 1 to 4, 8) and report. Remove this line.
 -- Edges: curves cut in surface units, closing edges, and the list of a whole path's edges ("Paths").
-use Prim.Native.Nat.{ℕ, zero, suc, _+_, _-_, _*_, _/_, _^_}
+use Prim.Native.Nat.{ℕ, suc, _+_, _-_, _*_, _/_, _^_}
 use mathlib.Core.List.{List, [], _∷_, _++_}
 use mathlib.Core.Bool.{Bool, cond, _&&_}
 use lib.ListN.{getD}

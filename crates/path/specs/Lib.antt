@@ -5,3 +5,5 @@ pub mod Curves
 pub mod Boxes
 pub mod Stored
 pub mod Closed
+pub mod Limits
+pub mod Answers

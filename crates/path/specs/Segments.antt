@@ -70,8 +70,11 @@ abbrev pub inRange : Point → Bool
 inRange p = inSixteenBits (p .x) && inSixteenBits (p .y)
 
 -- ---- the pen: start s, current o and control p begin at (0, 0)
+abbrev pub penAt : Point → Point → Point → Pen
+penAt s o p = record { start = s; current = o; control = p }
+
 abbrev pub firstPen : Pen
-firstPen = record { start = origin; current = origin; control = origin }
+firstPen = penAt origin origin origin
 
 -- 2o - p, the first control of a smooth segment
 abbrev pub reflected : Pen → Point
@@ -115,11 +118,7 @@ abbrev pub lastControl : Curve → Point
 lastControl curve = cond (eqb (curve .degree) 2) (curve .p1) (curve .p2)
 
 unfoldable pub penAfter : Pen → ℕ → Curve → Pen
-penAfter pen byte curve = record {
-  start = cond (eqb (number byte) numberMove) (curve .p3) (pen .start);
-  current = curve .p3;
-  control = lastControl curve;
-}
+penAfter pen byte curve = penAt (cond (eqb (number byte) numberMove) (curve .p3) (pen .start)) (curve .p3) (lastControl curve)
 
 -- ---- the walk: the pen and the number of coordinates used after the first n segments
 abbrev pub coordinateFrom : List ℕ → ℕ → ℕ → ℤ
@@ -134,8 +133,11 @@ walkOn coordinates walk byte = record {
   used = walk .used + coordinatesTaken byte;
 }
 
+abbrev pub firstWalk : Walk
+firstWalk = record { pen = firstPen; used = 0 }
+
 abbrev pub walkTo : List ℕ → List ℕ → ℕ → Walk
-walkTo segments coordinates zero = record { pen = firstPen; used = 0 }
+walkTo segments coordinates zero = firstWalk
 walkTo segments coordinates (suc n) = walkOn coordinates (walkTo segments coordinates n) (getD segments n 0)
 
 -- ---- the rules of a segment: 0, or the code of its refusal

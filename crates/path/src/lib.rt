@@ -1,4 +1,9 @@
-// Paths: the matrix, the pen's walk over segments, and the edges that a path becomes.
+// Paths: the matrix, the pen's walk over segments, and their rules.
+pub mod curves;
+pub mod moves;
+pub mod rules;
+pub mod tracing;
+pub mod transform;
 
 // The matrix before conversion.
 pub struct Matrix {
@@ -18,6 +23,12 @@ pub struct FixedMatrix {
     pub sy: i64,
     pub tx: i64,
     pub ty: i64,
+}
+
+// What a matrix of floats becomes.
+pub enum Converted {
+    Within(FixedMatrix),
+    OutOfLimits,
 }
 
 // A point: of a path in its own units, or on the surface in 1/256 pixel.
@@ -55,8 +66,26 @@ pub struct Walk {
     pub used: usize,
 }
 
+// The walk after a segment, and the segment's points.
+pub struct Traced {
+    pub walk: Walk,
+    pub curve: Curve,
+}
+
+// The same, or the code of the segment's refusal.
+pub enum Step {
+    Drawn(Traced),
+    Refused(u16),
+}
+
 // A path's first refused segment and its code; code 0 where every segment is accepted.
 pub struct PathFault {
     pub code: u16,
     pub segment: usize,
+}
+
+// A path's fault, and the number of coordinates used where there is none.
+pub struct Checked {
+    pub fault: PathFault,
+    pub used: usize,
 }

@@ -1,0 +1,18 @@
+-- Laws of paths. Others may cite:
+--     Entries   a matrix within its limits has small entries
+--     Codes     the code of a segment, and what an accepted segment has
+--     Faults    the first fault of a path, and what a path without one has
+-- For this crate alone:
+--     Ands      two tests in a row
+--     Sizes     a size judged by two tests
+--     Axes      one axis of a transformed point
+--     Mirrors   one axis of a mirrored point
+--     Traces    the points of a segment and the pen after it, by its kind
+pub mod Entries
+pub mod Codes
+pub mod Faults
+mod Ands
+mod Sizes
+mod Axes
+mod Mirrors
+mod Traces
