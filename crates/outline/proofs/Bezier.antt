@@ -2,8 +2,8 @@
 -- the first of them and at 16 the last.
 use mathlib.Core.Path.{_≡_, refl, sym, ap, subst, _∙_}
 use mathlib.Core.Bool.{Bool, true, _&&_}
-use Prim.Native.Nat.{ℕ, _+_, _*_, _/_, _^_, _≤_, _<_}
-use native.Mathlib.Nat.{le-trans, lt-of-mul-lt-mul-right}
+use Prim.Native.Nat.{ℕ, _+_, _-_, _*_, _/_, _^_, _≤_, _<_}
+use native.Mathlib.Nat.{le-trans, le-refl, lt-of-mul-lt-mul-right, mul-le-mul, pow-le-pow-right}
 use native.Mathlib.Omega.{arith}
 use lib.Dec.{T, eqb, eqb→eq, lit<}
 use lib.IntN.{ℤ, pos, natAbs, _+ℤ_, _*ℤ_}
@@ -12,20 +12,68 @@ use Rattle.fixed.proofs.Within.{Within, within-pos, within-add, within-mul}
 use Rattle.fixed.proofs.Poly.{up, dn, var, num, _⊕_, _⊗_, eq, within, from-within}
 use Rattle.fixed.proofs.Round.{from-floor}
 use Rattle.fixed.proofs.Upto.{upto}
+use Rattle.fixed.proofs.Tests.{both-left, both-right}
 use Rattle.path.specs.Curves.{weight, cut}
+use Rattle.outline.specs.declared.Weights.{Weights}
+use Rattle.outline.specs.Asked.{Full, weightsOf, quadWeights, cubicWeights, summed, blended}
 
 -- ---- a curve's degree
 pub data Curved : ℕ → Type 0 where
   quad : Curved 2
   cubic : Curved 3
 
-full : ℕ → ℕ → Bool
-full degree k = eqb (weight degree k 0 + weight degree k 1 + weight degree k 2 + weight degree k 3) (16 ^ degree)
+-- they add up to 16 ^ degree: by a test of each k
+addUp : ℕ → ℕ → Bool
+addUp degree k = eqb (weight degree k 0 + weight degree k 1 + weight degree k 2 + weight degree k 3) (16 ^ degree)
 
-pub weights-full : {degree : ℕ} → Curved degree → (k : ℕ) → k ≤ 16 → weight degree k 0 + weight degree k 1 + weight degree k 2 + weight degree k 3 ≡ 16 ^ degree
-unfolding full
-weights-full quad k h = eqb→eq _ 256 (upto (full 2) 17 tt k (omega arith))
-weights-full cubic k h = eqb→eq _ 4096 (upto (full 3) 17 tt k (omega arith))
+pub weights-full : {degree : ℕ} → Curved degree → (k : ℕ) → k ≤ 16 → Full degree (weightsOf degree k)
+unfolding addUp
+weights-full quad k h = record { some = omega arith; most = omega arith; total = eqb→eq _ 256 (upto (addUp 2) 17 tt k (omega arith)) }
+weights-full cubic k h = record { some = omega arith; most = omega arith; total = eqb→eq _ 4096 (upto (addUp 3) 17 tt k (omega arith)) }
+
+pub weights-most : {degree : ℕ} {w : Weights} → Full degree w → (w .w0 ≤ 4096) × (w .w1 ≤ 4096) × (w .w2 ≤ 4096) × (w .w3 ≤ 4096)
+weights-most {degree} {w} f =
+    let l : 16 ^ degree ≤ 4096 = pow-le-pow-right {n = 16} (omega arith) {i = degree} {j = 3} (f .most) in
+    let e = f .total in
+    (omega arith, omega arith, omega arith, omega arith)
+
+-- multiplied out: by a test of each k
+agree : ℕ → Weights → ℕ → Bool
+agree degree w k = eqb (w .w0) (weight degree k 0) && (eqb (w .w1) (weight degree k 1) && (eqb (w .w2) (weight degree k 2) && eqb (w .w3) (weight degree k 3)))
+
+agreed : (degree : ℕ) (w : Weights) (k : ℕ) → T (agree degree w k) → w ≡ weightsOf degree k
+unfolding agree
+agreed degree w k t =
+    let a = eqb (w .w0) (weight degree k 0) in
+    let b = eqb (w .w1) (weight degree k 1) in
+    let c = eqb (w .w2) (weight degree k 2) in
+    let d = eqb (w .w3) (weight degree k 3) in
+    let t1 = both-right a (b && (c && d)) t in
+    let t2 = both-right b (c && d) t1 in
+    let e0 = eqb→eq (w .w0) (weight degree k 0) (both-left a (b && (c && d)) t) in
+    let e1 = eqb→eq (w .w1) (weight degree k 1) (both-left b (c && d) t1) in
+    let e2 = eqb→eq (w .w2) (weight degree k 2) (both-left c d t2) in
+    let e3 = eqb→eq (w .w3) (weight degree k 3) (both-right c d t2) in
+    λ i. record { w0 = e0 i; w1 = e1 i; w2 = e2 i; w3 = e3 i }
+
+pub quad-weights : (k : ℕ) → k ≤ 16 → quadWeights (16 - k) k ≡ weightsOf 2 k
+unfolding agree
+quad-weights k h = agreed 2 (quadWeights (16 - k) k) k (upto (λ j. agree 2 (quadWeights (16 - j) j) j) 17 tt k (omega arith))
+
+pub cubic-weights : (k : ℕ) → k ≤ 16 → cubicWeights (16 - k) k ≡ weightsOf 3 k
+unfolding agree
+cubic-weights k h = agreed 3 (cubicWeights (16 - k) k) k (upto (λ j. agree 3 (cubicWeights (16 - j) j) j) 17 tt k (omega arith))
+
+pub weights-told : {degree n : ℕ} {w : Weights} (k : ℕ) → k ≤ 16 → Curved n → degree ≡ n → w ≡ weightsOf n k → (w ≡ weightsOf degree k) × Full degree w
+weights-told {degree} {n} {w} k h c e f =
+    subst (λ (m : ℕ). (w ≡ weightsOf m k) × Full m w) (sym e) (f, subst (λ (v : Weights). Full n v) (sym f) (weights-full c k h))
+
+-- they fit
+pub square : (a b : ℕ) → a ≤ 16 → b ≤ 16 → a * b ≤ 256
+square a b h k = mul-le-mul {n₁ = a} {m₁ = b} {n₂ = 16} {m₂ = 16} h k
+
+pub cube : (a b c : ℕ) → a ≤ 16 → b ≤ 16 → c ≤ 16 → a * b * c ≤ 4096
+cube a b c h k l = mul-le-mul {n₁ = a * b} {m₁ = c} {n₂ = 256} {m₂ = 16} (square a b h k) l
 
 -- ---- the size of a cut point
 -- (z + m) / d rounded down, with m below d, is at most b in size if z is at most d b
@@ -48,20 +96,30 @@ exact d m z l =
     eq (var q) (var z) (omega (arith, lt-of-mul-lt-mul-right d above, lt-of-mul-lt-mul-right d below))
 
 module _ {b : ℕ} {p q r s : ℤ} (hp : Within b p) (hq : Within b q) (hr : Within b r) (hs : Within b s) where
-  sum-size : (u v w x d : ℕ) → u + v + w + x ≡ d → Within (d * b) (p *ℤ pos u +ℤ q *ℤ pos v +ℤ r *ℤ pos w +ℤ s *ℤ pos x)
-  sum-size u v w x d e =
+  summed-size : (w : Weights) (d : ℕ) → w .w0 + w .w1 + w .w2 + w .w3 ≡ d → Within (d * b) (summed w p q r s)
+  summed-size w d e =
       record {
         size =
             le-trans
-            (within-add (within-add (within-add (within-mul hp (within-pos u)) (within-mul hq (within-pos v))) (within-mul hr (within-pos w))) (within-mul hs (within-pos x)) .size)
+            (within-add
+            (within-add (within-add (within-mul hp (within-pos (w .w0))) (within-mul hq (within-pos (w .w1)))) (within-mul hr (within-pos (w .w2))))
+            (within-mul hs (within-pos (w .w3))) .size)
             (omega (arith, ap (λ (y : ℕ). b * y) e));
       }
 
+  pub summed-most : {degree : ℕ} {w : Weights} → Full degree w → Within (4096 * b) (summed w p q r s)
+  summed-most {degree} {w} f =
+      record { size = le-trans (summed-size w (16 ^ degree) (f .total) .size) (mul-le-mul (pow-le-pow-right {n = 16} (omega arith) {i = degree} {j = 3} (f .most)) (le-refl b)) }
+
   -- a cut point is no larger than the control points
+  pub blended-size : {degree : ℕ} {w : Weights} → Full degree w → Within b (blended degree w p q r s)
+  blended-size {degree} {w} f =
+      let l : 1 ≤ 16 ^ degree = pow-le-pow-right {n = 16} (omega arith) {i = 0} {j = degree} (omega arith) in
+      rounded (16 ^ degree) (16 ^ degree / 2) b (summed w p q r s) (omega arith) (summed-size w (16 ^ degree) (f .total))
+
   pub cut-size : {degree : ℕ} → Curved degree → (k : ℕ) → k ≤ 16 → Within b (cut degree k p q r s)
   unfolding cut
-  cut-size quad k h = rounded 256 128 b _ (omega arith) (sum-size (weight 2 k 0) (weight 2 k 1) (weight 2 k 2) (weight 2 k 3) 256 (weights-full quad k h))
-  cut-size cubic k h = rounded 4096 2048 b _ (omega arith) (sum-size (weight 3 k 0) (weight 3 k 1) (weight 3 k 2) (weight 3 k 3) 4096 (weights-full cubic k h))
+  cut-size c k h = blended-size (weights-full c k h)
 
 -- ---- the first and the last cut point
 -- one control point has all the weight

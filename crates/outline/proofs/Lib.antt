@@ -4,3 +4,4 @@ pub mod Counts
 pub mod Every
 pub mod Sizes
 pub mod Stores
+pub mod Outermost

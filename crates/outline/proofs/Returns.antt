@@ -134,12 +134,16 @@ module _ (g : ℤ → ℤ → ℤ) where
       where
         p : Pen
         p = w .pen
+
         e : Point
         e = curveAt coordinates w byte .p3
+
         closing : number byte ≤ 2 → (number byte ≡ 2 → ⊥) → number byte ≡ 0
         closing l n = omega arith
+
         over : 2 < number byte → number byte ≡ 2 → ⊥
         over l n = omega arith
+
         by : (t u : Bool) → leb (number byte) 2 ≡ t → eqb (number byte) 2 ≡ u
             → on (transform m (p .start)) -ℤ on (transform m (cond t (lineTo (p .start)) (curveAt coordinates w byte) .p3)) ≡ on (transform m (cond u e (p .start))) -ℤ on (transform m e)
         by false false f h = refl

@@ -89,6 +89,7 @@ on-grid m coordinates w byte e =
     arc : (t : Bool) (a : ℕ) → cond t 0x1005 a ≡ 0 → a ≡ 0
     arc true a h = absurd (eqb-false 0x1005 0 refl h)
     arc false a h = h
+
     last : _≡_ {A = ℕ} (cond (curveInRange (curveAt coordinates w byte) && curveOnGrid m (curveAt coordinates w byte)) 0 0x1001) 0 → curveOnGrid m (curveAt coordinates w byte) ≡ true
     last h =
         either (curveInRange (curveAt coordinates w byte) && curveOnGrid m (curveAt coordinates w byte))
@@ -133,8 +134,10 @@ module _ (m : FixedMatrix) (segments coordinates : List ℕ) (start : Near (tran
     where
       w′ : Walk
       w′ = walkTo segments coordinates n
+
       c′ : Curve
       c′ = curveAt coordinates w′ (getD segments n 0)
+
       by : (t : Bool) → Near (transform m (w′ .pen .start)) → Near (transform m (w′ .pen .current)) → Near (transform m (c′ .p1)) → Near (transform m (c′ .p2)) → Near (transform m (c′ .p3))
           → Every Small (curveEdges (transform m (w′ .pen .current)) (transformCurve m (cond t (lineTo (w′ .pen .start)) c′)))
       by true s o f g e = curve-small m (transform m (w′ .pen .current)) o (lineTo (w′ .pen .start)) (straight (w′ .pen .start)) s s s

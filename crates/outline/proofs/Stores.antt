@@ -1,15 +1,18 @@
 -- Edges stored in a run of numbers: they are read back, and nothing else changes.
 use mathlib.Core.Path.{_≡_, refl, sym, ap, ap₂, _∙_}
 use mathlib.Core.List.{List, [], _∷_, _++_}
+use mathlib.Core.Bool.{true, false, _&&_}
 use Prim.Native.Nat.{ℕ, zero, suc, _+_, _*_, _≤_, _<_}
 use native.Mathlib.Nat.{not-suc-le-zero, suc-add, add-suc, add-zero}
 use native.Mathlib.Omega.{arith}
-use lib.ListN.{getD, set, length, take, drop, length-set}
+use lib.ListN.{getD, set, length, take, drop, length-append, length-set}
 use lib.IntN.{ℤ, pos}
 use lib.Seq.{drop-set-lt}
 use Rattle.lists.specs.Lists.{tab}
 use Rattle.lists.proofs.Laws.{four-before, four-each, tab-ext}
+use Rattle.path.specs.declared.Point.{Point}
 use Rattle.path.specs.declared.Edge.{Edge}
+use Rattle.path.specs.Curves.{equal, edge, edgeBetween}
 use Rattle.path.specs.Stored.{edgeAt, edgesOf, putEdge, putEdges}
 
 -- ---- one edge
@@ -29,6 +32,15 @@ edge-put l n e h =
     let f = four-each l (n * 4) (e .x0) (e .y0) (e .x1) (e .y1) (pos 0) h in
     rw (f .0, f .1, f .2, f .3)
 
+-- ---- the edge between two points, unless they are equal
+pub none-put : (l : List ℤ) (n : ℕ) (a b : Point) → (equal (a .x) (b .x) && equal (a .y) (b .y)) ≡ true
+    → (l ≡ putEdges l n (edgeBetween a b)) × (n ≡ n + length (edgeBetween a b))
+none-put l n a b e = rw e (refl, sym (add-zero n))
+
+pub one-put : (l : List ℤ) (n : ℕ) (a b : Point) → (equal (a .x) (b .x) && equal (a .y) (b .y)) ≡ false
+    → (putEdge l n (edge a b) ≡ putEdges l n (edgeBetween a b)) × (n + 1 ≡ n + length (edgeBetween a b))
+one-put l n a b e = rw e (refl, refl)
+
 -- ---- a list of edges
 pub puts-length : (es : List Edge) (l : List ℤ) (i : ℕ) → length (putEdges l i es) ≡ length l
 puts-length [] l i = refl
@@ -37,6 +49,12 @@ puts-length (e ∷ es) l i = puts-length es (putEdge l i e) (suc i) ∙ put-leng
 pub puts-append : (es fs : List Edge) (l : List ℤ) (i : ℕ) → putEdges l i (es ++ fs) ≡ putEdges (putEdges l i es) (i + length es) fs
 puts-append [] fs l i = rw (add-zero i)
 puts-append (e ∷ es) fs l i = puts-append es fs (putEdge l i e) (suc i) ∙ ap (λ (n : ℕ). putEdges (putEdges (putEdge l i e) (suc i) es) n fs) (suc-add i (length es) ∙ sym (add-suc i (length es)))
+
+-- fs after es
+pub puts-more : (es fs : List Edge) (l p q : List ℤ) (n i j : ℕ) → p ≡ putEdges l n es → i ≡ n + length es → q ≡ putEdges p i fs → j ≡ i + length fs
+    → (q ≡ putEdges l n (es ++ fs)) × (j ≡ n + length (es ++ fs))
+puts-more es fs l p q n i j d e f g =
+    (f ∙ rw (d, e) (sym (puts-append es fs l n)), g ∙ rw (e, length-append es fs) (omega arith))
 
 puts-kept : (es : List Edge) (l : List ℤ) (i k : ℕ) → k < i → edgeAt (putEdges l i es) k ≡ edgeAt l k
 puts-kept [] l i k h = refl

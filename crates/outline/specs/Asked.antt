@@ -1,6 +1,9 @@
--- What the functions of this crate ask of their arguments, so that no step overflows. A reviewer of the paper need not read it.
-use Prim.Native.Nat.{ℕ, _≤_}
-use lib.IntN.{natAbs}
+-- What the functions of this crate ask of their arguments, so that no step overflows, and the parts of a cut point. A reviewer of the
+-- paper need not read it.
+use Prim.Native.Nat.{ℕ, _+_, _-_, _*_, _/_, _^_, _≤_}
+use mathlib.Core.Path.{_≡_}
+use lib.IntN.{ℤ, pos, natAbs, _+ℤ_, _*ℤ_}
+use Rattle.fixed.specs.Floor.{floorDiv}
 use Rattle.path.specs.declared.Point.{Point}
 use Rattle.path.specs.declared.Curve.{Curve}
 use Rattle.path.specs.Curves.{weight}
@@ -19,5 +22,26 @@ pub record Drawable (c : Curve) : Type 0 where
   pub p2 : OnGrid (c .p2)
   pub p3 : OnGrid (c .p3)
 
+-- ---- a cut point
 abbrev pub weightsOf : ℕ → ℕ → Weights
 weightsOf degree k = record { w0 = weight degree k 0; w1 = weight degree k 1; w2 = weight degree k 2; w3 = weight degree k 3 }
+
+-- the same, multiplied out: s is 16 - k
+abbrev pub quadWeights : ℕ → ℕ → Weights
+quadWeights s k = record { w0 = s * s; w1 = 2 * (k * s); w2 = k * k; w3 = 0 }
+
+abbrev pub cubicWeights : ℕ → ℕ → Weights
+cubicWeights s k = record { w0 = s * s * s; w1 = 3 * (k * s * s); w2 = 3 * (k * k * s); w3 = k * k * k }
+
+-- weights of a curve of degree 2 or 3, which add up to 16 ^ degree
+pub record Full (degree : ℕ) (w : Weights) : Type 0 where
+  pub some : 2 ≤ degree
+  pub most : degree ≤ 3
+  pub total : w .w0 + w .w1 + w .w2 + w .w3 ≡ 16 ^ degree
+
+-- one axis of a cut point: the weighted sum, and the number nearest to it over 16 ^ degree
+abbrev pub summed : Weights → ℤ → ℤ → ℤ → ℤ → ℤ
+summed w a b c d = a *ℤ pos (w .w0) +ℤ b *ℤ pos (w .w1) +ℤ c *ℤ pos (w .w2) +ℤ d *ℤ pos (w .w3)
+
+abbrev pub blended : ℕ → Weights → ℤ → ℤ → ℤ → ℤ → ℤ
+blended degree w a b c d = floorDiv (summed w a b c d +ℤ pos (16 ^ degree / 2)) (16 ^ degree)

@@ -3,8 +3,8 @@ use crate::store::load;
 use path::Edge;
 use rect::Rect;
 ghost use mathlib.Core.Path.{_≡_};
-ghost use Prim.Native.Nat.{_+_, _*_, _<_, _≤_};
-ghost use lib.IntN.{pos, _+ℤ_};
+ghost use Prim.Native.Nat.{_*_, _<_, _≤_};
+ghost use lib.IntN.{natAbs};
 ghost use lib.ListN.{length};
 ghost use Rattle.fixed.specs.Floor.{floorDiv};
 ghost use Rattle.path.specs.Boxes.{outer, endOf, outerOf, within, boxOf};
@@ -23,12 +23,23 @@ pub fn bounds(edges: &[i32], n: usize, width: usize, height: usize) -> Rect
             y1: 0,
         };
     }
+    let left = pixel(outer_end(edges, n, false, false));
+    let low = pixel(outer_end(edges, n, false, true));
+    let right = pixel(outer_end(edges, n, true, false));
+    let high = pixel(outer_end(edges, n, true, true));
     Rect {
-        x0: within(width, outer_end(edges, n, false, false) >> 8),
-        y0: within(height, outer_end(edges, n, false, true) >> 8),
-        x1: within(width, (outer_end(edges, n, true, false) >> 8) + 1),
-        y1: within(height, (outer_end(edges, n, true, true) >> 8) + 1),
+        x0: within(width, left),
+        y0: within(height, low),
+        x1: within(width, right + 1),
+        y1: within(height, high + 1),
     }
+}
+
+// The column or row of the pixel that a coordinate lies in.
+fn pixel(z: i32) -> i32
+    ensures { λ r. ⌜ (r ≡ floorDiv z 256) × (natAbs r ≤ 8388608) ⌝ }
+{
+    z >> 8
 }
 
 // A column or row number, cut to 0..n.

@@ -4,9 +4,9 @@ use path::Curve;
 use path::Point;
 ghost use mathlib.Core.Path.{_≡_};
 ghost use Prim.Native.Nat.{_≤_};
-ghost use lib.IntN.{pos, natAbs, _+ℤ_, _*ℤ_};
-ghost use Rattle.path.specs.Curves.{cut, cutPoint};
-ghost use Rattle.outline.specs.Asked.{OnGrid, Drawable, weightsOf};
+ghost use lib.IntN.{natAbs};
+ghost use Rattle.path.specs.Curves.{cutPoint};
+ghost use Rattle.outline.specs.Asked.{OnGrid, Drawable, Full, weightsOf, quadWeights, cubicWeights, summed, blended};
 
 // The point of a curve from o at k / 16.
 pub fn cut_point(o: Point, c: Curve, k: u32) -> Point
@@ -17,41 +17,55 @@ pub fn cut_point(o: Point, c: Curve, k: u32) -> Point
     let a = c.p1;
     let b = c.p2;
     let e = c.p3;
+    let w = weights(degree, k);
     Point {
-        x: cut(degree, k, o.x, a.x, b.x, e.x),
-        y: cut(degree, k, o.y, a.y, b.y, e.y),
+        x: blend(degree, w, o.x, a.x, b.x, e.x),
+        y: blend(degree, w, o.y, a.y, b.y, e.y),
     }
 }
 
-// The same on one axis.
-fn cut(degree: usize, k: u32, a: i32, b: i32, c: i32, d: i32) -> i32
-    requires { ⌜ ((2 ≤ degree) × (degree ≤ 3)) × (k ≤ 16) ⌝ }
+// One axis of it: the four numbers, each times its weight, over 16 to the power of the degree, to the nearest.
+fn blend(degree: usize, w: Weights, a: i32, b: i32, c: i32, d: i32) -> i32
+    requires { ⌜ Full degree w ⌝ }
     requires { ⌜ (natAbs a ≤ 8388608) × (natAbs b ≤ 8388608) × (natAbs c ≤ 8388608) × (natAbs d ≤ 8388608) ⌝ }
-    ensures { λ r. ⌜ (r ≡ cut degree k a b c d) × (natAbs r ≤ 8388608) ⌝ }
+    ensures { λ r. ⌜ (r ≡ blended degree w a b c d) × (natAbs r ≤ 8388608) ⌝ }
 {
+    let sum = weigh(w, a, b, c, d);
     if degree == 2 {
-        return ((weighted(quad_weights(k), a, b, c, d) + 128) >> 8) as i32;
+        ((sum + 128) >> 8) as i32
+    } else {
+        ((sum + 2048) >> 12) as i32
     }
-    ((weighted(cubic_weights(k), a, b, c, d) + 2048) >> 12) as i32
 }
 
-// The four points, each times its weight.
-fn weighted(w: Weights, a: i32, b: i32, c: i32, d: i32) -> i64
+fn weigh(w: Weights, a: i32, b: i32, c: i32, d: i32) -> i64
     requires { ⌜ (w .w0 ≤ 4096) × (w .w1 ≤ 4096) × (w .w2 ≤ 4096) × (w .w3 ≤ 4096) ⌝ }
-    ensures { λ r. ⌜ r ≡ a *ℤ pos (w .w0) +ℤ b *ℤ pos (w .w1) +ℤ c *ℤ pos (w .w2) +ℤ d *ℤ pos (w .w3) ⌝ }
+    ensures { λ r. ⌜ r ≡ summed w a b c d ⌝ }
 {
-    let u = w.w0 as i64;
-    let v = w.w1 as i64;
-    let x = w.w2 as i64;
-    let y = w.w3 as i64;
-    (a as i64) * u + (b as i64) * v + (c as i64) * x + (d as i64) * y
+    let w0 = w.w0 as i64;
+    let w1 = w.w1 as i64;
+    let w2 = w.w2 as i64;
+    let w3 = w.w3 as i64;
+    (a as i64) * w0 + (b as i64) * w1 + (c as i64) * w2 + (d as i64) * w3
 }
 
-fn quad_weights(k: u32) -> Weights
-    requires { ⌜ k ≤ 16 ⌝ }
-    ensures { λ r. ⌜ r ≡ weightsOf 2 k ⌝ }
+// The weights at k / 16.
+fn weights(degree: usize, k: u32) -> Weights
+    requires { ⌜ ((2 ≤ degree) × (degree ≤ 3)) × (k ≤ 16) ⌝ }
+    ensures { λ r. ⌜ (r ≡ weightsOf degree k) × Full degree r ⌝ }
 {
     let s = 16 - k;
+    if degree == 2 {
+        quad_weights(s, k)
+    } else {
+        cubic_weights(s, k)
+    }
+}
+
+fn quad_weights(s: u32, k: u32) -> Weights
+    requires { ⌜ (s ≤ 16) × (k ≤ 16) ⌝ }
+    ensures { λ r. ⌜ r ≡ quadWeights s k ⌝ }
+{
     Weights {
         w0: s * s,
         w1: 2 * (k * s),
@@ -60,11 +74,10 @@ fn quad_weights(k: u32) -> Weights
     }
 }
 
-fn cubic_weights(k: u32) -> Weights
-    requires { ⌜ k ≤ 16 ⌝ }
-    ensures { λ r. ⌜ r ≡ weightsOf 3 k ⌝ }
+fn cubic_weights(s: u32, k: u32) -> Weights
+    requires { ⌜ (s ≤ 16) × (k ≤ 16) ⌝ }
+    ensures { λ r. ⌜ r ≡ cubicWeights s k ⌝ }
 {
-    let s = 16 - k;
     Weights {
         w0: s * s * s,
         w1: 3 * (k * s * s),

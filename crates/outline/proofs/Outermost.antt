@@ -1,0 +1,67 @@
+-- The outer end of a list of edges, and the box that it makes.
+use mathlib.Core.Path.{_≡_, refl, sym, ap, _∙_}
+use mathlib.Core.Bool.{Bool, true, false, true≢false}
+use mathlib.Core.List.{List, [], _∷_, _++_, foldl-append}
+use Prim.Native.Nat.{ℕ, min, _+_, _<_}
+use native.Mathlib.Nat.{not-suc-le-zero}
+use native.Mathlib.Numerals.{add-one}
+use native.Mathlib.Omega.{arith}
+use lib.Dec.{T, lit<}
+use lib.ListN.{length}
+use lib.IntN.{ℤ, pos, negsuc, natAbs, _+ℤ_}
+use lib.Signed.{leZ, nonNeg}
+use mir.Syntax.{w32}
+use mir.Val.{SFits}
+use Rattle.lists.proofs.Laws.{tab-length}
+use Rattle.fixed.specs.Floor.{floorDiv}
+use Rattle.fixed.proofs.Within.{Within, of-fits}
+use Rattle.fixed.proofs.Poly.{var, from-within}
+use Rattle.fixed.proofs.Poly as P
+use Rattle.fixed.proofs.Round.{from-floor}
+use Rattle.rect.specs.declared.Rect.{Rect}
+use Rattle.path.specs.declared.Edge.{Edge}
+use Rattle.path.specs.Boxes.{outer, endOf, outerOf, within, boxOf}
+use Rattle.path.specs.Stored.{edgeAt, edgesOf}
+
+-- one edge more
+outer-more : (greater axis : Bool) (es : List Edge) (e : Edge) → 0 < length es → outerOf greater axis (es ++ (e ∷ [])) ≡ outer greater (outerOf greater axis es) (endOf greater axis e)
+unfolding outerOf
+outer-more greater axis [] e h = absurd (not-suc-le-zero h)
+outer-more greater axis (d ∷ es) e h = foldl-append (λ n c. outer greater n (endOf greater axis c)) (endOf greater axis d) es (e ∷ [])
+
+pub outer-next : (greater axis : Bool) (l : List ℤ) (i : ℕ) → 0 < i
+    → outerOf greater axis (edgesOf l (i + 1)) ≡ outer greater (outerOf greater axis (edgesOf l i)) (endOf greater axis (edgeAt l i))
+outer-next greater axis l i h =
+    ap (λ (k : ℕ). outerOf greater axis (edgesOf l k)) (add-one i) ∙ outer-more greater axis (edgesOf l i) (edgeAt l i) (rw (tab-length i (edgeAt l)) h)
+
+-- the column or row of a 32-bit coordinate
+pub pixel-size : (z : ℤ) → SFits w32 z → Within 8388608 (floorDiv z 256)
+pixel-size z f =
+    let h = from-floor (var z) 256 (lit< tt) in
+    let k = from-within (var z) (of-fits f) in
+    P.within 8388608 (var (floorDiv z 256)) (omega arith) (omega arith)
+
+-- a number cut to 0..n
+pub above-zero : (z : ℤ) → leZ z (pos 0) ≡ false → T (nonNeg z)
+above-zero (pos n) e = tt
+above-zero (negsuc n) e = absurd (true≢false e)
+
+pub within-none : (n : ℕ) (z : ℤ) → leZ z (pos 0) ≡ true → 0 ≡ within n z
+within-none n z e = rw e
+
+pub within-some : (n : ℕ) (z : ℤ) (m : ℕ) → leZ z (pos 0) ≡ false → min n (natAbs z) ≡ m → m ≡ within n z
+within-some n z m e h = rw e (sym h)
+
+-- the box where there are edges
+abbrev boxFrom : ℕ → ℕ → List Edge → Rect
+boxFrom width height es = record {
+  x0 = within width (floorDiv (outerOf false false es) 256);
+  y0 = within height (floorDiv (outerOf false true es) 256);
+  x1 = within width (floorDiv (outerOf true false es) 256 +ℤ pos 1);
+  y1 = within height (floorDiv (outerOf true true es) 256 +ℤ pos 1);
+}
+
+pub box-some : (width height : ℕ) (es : List Edge) → 0 < length es → boxOf width height es ≡ boxFrom width height es
+unfolding boxOf
+box-some width height [] h = absurd (not-suc-le-zero h)
+box-some width height (e ∷ es) h = refl
