@@ -2,3 +2,4 @@
 pub mod Gradient
 pub mod Ramps
 pub mod Paints
+pub mod Buffers

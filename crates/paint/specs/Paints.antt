@@ -2,6 +2,7 @@
 use Prim.Native.Nat.{ℕ}
 use mathlib.Core.List.{List}
 use mathlib.Core.Bool.{Bool, cond}
+use lib.IntN.{ℤ}
 use Rattle.color.specs.declared.Color.{Color}
 use Rattle.color.specs.declared.Pixel.{Pixel}
 use Rattle.color.specs.Channels.{bytesOfColor, premultiplied}
@@ -9,6 +10,7 @@ use Rattle.paint.specs.Gradient.{fixedPoints, linearT, mapped}
 use Rattle.paint.specs.Ramps.{rampOf, rampAt}
 use Rattle.paint.specs.declared.LinearPoints.{LinearPoints}
 use Rattle.paint.specs.declared.Paint.{Paint}
+use Rattle.paint.specs.declared.Stop.{Stop}
 use Rattle.paint.specs.declared.Paint.the-variants.{Solid, Linear}
 
 -- the paint types, by their numbers in the scene file
@@ -22,14 +24,11 @@ abbrev pub paintType : Paint → ℕ
 paintType (Solid c) = paintColor
 paintType (Linear p) = paintLinear
 
--- the ramp's colour at a pixel: premultiplied before interpolation with bit 2, else after
-abbrev pub linearPixel : LinearPoints → ℕ → Bool → List ℕ → ℕ → ℕ → ℕ → Pixel
-linearPixel p spread premultiply stops n x y =
-    cond premultiply
-    (rampAt (rampOf premultiply stops n) (mapped spread (linearT (fixedPoints p) x y)))
-    (premultiplied (rampAt (rampOf premultiply stops n) (mapped spread (linearT (fixedPoints p) x y))))
+-- a gradient's colour at t: with bit 2 the stops are premultiplied, else the result is
+unfoldable pub gradientColor : ℕ → Bool → List Stop → ℤ → Pixel
+gradientColor spread premultiply ramp t = cond premultiply (rampAt ramp (mapped spread t)) (premultiplied (rampAt ramp (mapped spread t)))
 
 -- the paint at the pixel (x, y): spread, bit 2 and the n stops' bytes go with a gradient
 unfoldable pub paintAt : Paint → ℕ → Bool → List ℕ → ℕ → ℕ → ℕ → Pixel
 paintAt (Solid c) spread premultiply stops n x y = premultiplied (bytesOfColor c)
-paintAt (Linear p) spread premultiply stops n x y = linearPixel p spread premultiply stops n x y
+paintAt (Linear p) spread premultiply stops n x y = gradientColor spread premultiply (rampOf premultiply stops n) (linearT (fixedPoints p) x y)

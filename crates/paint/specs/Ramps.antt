@@ -69,13 +69,16 @@ rampOf premultiply stops n = map (prepared premultiply) (withEnds (keptStops sto
 abbrev pub mixByte : ℕ → ℕ → ℕ → ℕ → ℕ → ℕ
 mixByte xi xj t ci cj = (ci * (xj - t) + cj * (t - xi) + (xj - xi) / 2) / (xj - xi)
 
-abbrev pub mix : Stop → Stop → ℕ → Pixel
-mix i j t = record {
-  r = mixByte (i .offset) (j .offset) t (i .color .r) (j .color .r);
-  g = mixByte (i .offset) (j .offset) t (i .color .g) (j .color .g);
-  b = mixByte (i .offset) (j .offset) t (i .color .b) (j .color .b);
-  a = mixByte (i .offset) (j .offset) t (i .color .a) (j .color .a);
+abbrev pub mixPixel : ℕ → ℕ → ℕ → Pixel → Pixel → Pixel
+mixPixel xi xj t ci cj = record {
+  r = mixByte xi xj t (ci .r) (cj .r);
+  g = mixByte xi xj t (ci .g) (cj .g);
+  b = mixByte xi xj t (ci .b) (cj .b);
+  a = mixByte xi xj t (ci .a) (cj .a);
 }
+
+abbrev pub mix : Stop → Stop → ℕ → Pixel
+mix i j t = mixPixel (i .offset) (j .offset) t (i .color) (j .color)
 
 abbrev pub lastColor : Stop → List Stop → Pixel
 lastColor i [] = i .color

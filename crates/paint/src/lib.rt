@@ -1,4 +1,9 @@
 // Paint: the colour of a pixel, from a plain colour or a linear gradient.
+pub mod gradient;
+pub mod ramp;
+pub mod row;
+pub mod stops;
+
 use color::Color;
 use color::Pixel;
 
@@ -28,4 +33,18 @@ pub enum Paint {
 pub struct Stop {
     pub offset: u32,
     pub color: Pixel,
+}
+
+// A linear gradient as drawing needs it: its points, its spread mode, whether its stops are premultiplied, and how many stops its ramp has.
+pub struct LinearGradient {
+    pub points: FixedPoints,
+    pub spread: u32,
+    pub premultiply: bool,
+    pub count: usize,
+}
+
+// A floor division: n / d is whole and rest / d, with rest from 0 to d - 1.
+pub struct Quotient {
+    pub whole: i64,
+    pub rest: i64,
 }

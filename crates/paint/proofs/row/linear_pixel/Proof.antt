@@ -1,0 +1,24 @@
+-- `row::linear_pixel` meets its contract.
+use mathlib.Core.Path.{_≡_, ap, _∙_}
+use lib.IntN.{ℤ}
+use mir.Syntax.{w64}
+use Rattle.fixed.proofs.Signed.{back}
+use Rattle.paint.specs.Paints.{gradientColor}
+use Rattle.paint.specs.Buffers.{stopsIn}
+use Rattle.paint.proofs.row.linear_pixel.Statement.{statement}
+use Rattle.paint.proofs.row.linear_pixel.Tie as tie
+
+returns : tie.Need-returns
+returns c =
+    let a = c .before .before .before .before .before .args in
+    let t = c .before .linear-t in
+    c .shade .ensures
+    ∙ ap (gradientColor (a .g .spread) (a .g .premultiply) (stopsIn (a .offsets .now) (a .colors .now) (a .g .count))) (back w64 (t .result) (t .ok) ∙ t .ensures)
+
+pub linear-pixel-spec : {M : Type 1} → statement M
+linear-pixel-spec =
+    tie.close
+    (tie.spec
+    (λ c κs. (c .before .before .before .pre .0 .0, c .before .before .before .pre .1))
+    (λ c κs. c .before .before .before .before .pre .0 .1)
+    returns)

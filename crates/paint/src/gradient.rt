@@ -1,0 +1,115 @@
+// The linear gradient's t at a pixel and along a row, and the spread modes.
+use crate::FixedPoints;
+use crate::Quotient;
+ghost use mathlib.Core.Path.{_≡_};
+ghost use Prim.Native.Nat.{_+_, _*_, _≤_};
+ghost use lib.IntN.{pos, natAbs, _+ℤ_, _-ℤ_, _*ℤ_};
+ghost use Rattle.paint.specs.Gradient.{one, centre, squaredLength, projection, linearT, mapped};
+ghost use lib.Signed.{_<ℤ_};
+ghost use Rattle.paint.specs.Buffers.{Near, Moderate, quotientOf, addQuotients, quotientAt, rowStep};
+
+// t at the pixel (x, y).
+pub fn linear_t(p: FixedPoints, x: usize, y: usize) -> i64
+    requires { ⌜ Near p ⌝ }
+    requires { ⌜ (x ≤ 1024) × (y ≤ 1024) ⌝ }
+    ensures { λ r. ⌜ r ≡ linearT p x y ⌝ }
+{
+    let d = squared_length(p);
+    if d == 0 {
+        return 65536;
+    }
+    fixed::floor_div(numerator(p, x, y), d)
+}
+
+// t as the stops are to be read at.
+pub fn spread(mode: u32, t: i64) -> i64
+    ensures { λ r. ⌜ r ≡ mapped mode t ⌝ }
+{
+    if mode == 0x1C01 {
+        return fixed::floor_mod(t, 65536);
+    }
+    if mode == 0x1C02 {
+        let rest = fixed::floor_mod(t, 65536);
+        if fixed::floor_mod(fixed::floor_div(t, 65536), 2) == 1 {
+            return 65536 - rest;
+        }
+        return rest;
+    }
+    t
+}
+
+// What t is 65,536ths of: the projection of the pixel's centre, 65,536 times.
+fn numerator(p: FixedPoints, x: usize, y: usize) -> i64
+    requires { ⌜ Near p ⌝ }
+    requires { ⌜ (x ≤ 1024) × (y ≤ 1024) ⌝ }
+    ensures { λ r. ⌜ r ≡ pos one *ℤ projection p x y ⌝ }
+{
+    65536 * (along(p.x0, p.x1, x) + along(p.y0, p.y1, y))
+}
+
+pub fn squared_length(p: FixedPoints) -> i64
+    requires { ⌜ Near p ⌝ }
+    ensures { λ r. ⌜ r ≡ squaredLength p ⌝ }
+{
+    square(p.x1, p.x0) + square(p.y1, p.y0)
+}
+
+// On one axis: the points' distance times the pixel centre's from the first.
+fn along(a0: i64, a1: i64, x: usize) -> i64
+    requires { ⌜ (natAbs a0 ≤ 1048576) × (natAbs a1 ≤ 1048576) × (x ≤ 1024) ⌝ }
+    ensures { λ r. ⌜ (r ≡ (a1 -ℤ a0) *ℤ (centre x -ℤ a0)) × (natAbs r ≤ 2749047504896) ⌝ }
+{
+    (a1 - a0) * ((256 * x + 128) as i64 - a0)
+}
+
+fn square(a: i64, b: i64) -> i64
+    requires { ⌜ (natAbs a ≤ 1048576) × (natAbs b ≤ 1048576) ⌝ }
+    ensures { λ r. ⌜ (r ≡ (a -ℤ b) *ℤ (a -ℤ b)) × (natAbs r ≤ 4398046511104) ⌝ }
+{
+    (a - b) * (a - b)
+}
+
+// t at the pixel (x, y) of two points that do not coincide, with the rest of its division.
+pub fn quotient_at(p: FixedPoints, x: usize, y: usize) -> Quotient
+    requires { ⌜ Near p × (natAbs (squaredLength p) ≡ 0 → ⊥) ⌝ }
+    requires { ⌜ (x ≤ 1024) × (y ≤ 1024) ⌝ }
+    ensures { λ r. ⌜ r ≡ quotientAt p x y ⌝ }
+{
+    quotient(numerator(p, x, y), squared_length(p))
+}
+
+// What t grows by from one pixel of a row to the next.
+pub fn row_step(p: FixedPoints) -> Quotient
+    requires { ⌜ Near p × (natAbs (squaredLength p) ≡ 0 → ⊥) ⌝ }
+    ensures { λ r. ⌜ r ≡ rowStep p ⌝ }
+{
+    quotient(16777216 * (p.x1 - p.x0), squared_length(p))
+}
+
+// n / d.
+fn quotient(n: i64, d: i64) -> Quotient
+    requires { ⌜ pos 0 <ℤ d ⌝ }
+    ensures { λ r. ⌜ r ≡ quotientOf n (natAbs d) ⌝ }
+{
+    Quotient {
+        whole: fixed::floor_div(n, d),
+        rest: fixed::floor_mod(n, d),
+    }
+}
+
+// The sum of two quotients over d, by a carry and no division.
+pub fn add_quotients(a: Quotient, b: Quotient, d: i64) -> Quotient
+    requires { ⌜ Moderate a × Moderate b × (natAbs d ≤ 1152921504606846976) ⌝ }
+    ensures { λ r. ⌜ r ≡ addQuotients a b d ⌝ }
+{
+    let whole = a.whole + b.whole;
+    let rest = a.rest + b.rest;
+    if rest < d {
+        Quotient { whole, rest }
+    } else {
+        Quotient {
+            whole: whole + 1,
+            rest: rest - d,
+        }
+    }
+}
