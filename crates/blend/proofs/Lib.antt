@@ -1,5 +1,7 @@
 -- Laws of blending:
---     Channel   one channel of the step, and the four together
---     Runs      pixels stored in a row, one at a time or a span at a time
+--     Channel     the arithmetic of one channel
+--     Shortcuts   where the step on a pixel needs less of it
+--     Runs        pixels stored in a row, one at a time or a span at a time
 pub mod Channel
+pub mod Shortcuts
 pub mod Runs

@@ -4,7 +4,7 @@ use mathlib.Core.List.{List, _++_, append-assoc, append-nil}
 use Prim.Native.Nat.{ℕ, zero, suc, _+_, _-_, _*_, _≤_, _<_}
 use native.Mathlib.Nat.{add-zero, add-suc}
 use native.Mathlib.Omega.{arith}
-use lib.ListN.{length, getD, set, take, drop}
+use lib.ListN.{length, getD, take, drop}
 use lib.Seq.{drop-at}
 use borrow.Author.Count.{below-more}
 use Rattle.lists.specs.Lists.{over}
@@ -12,7 +12,7 @@ use Rattle.lists.proofs.Laws.{emit-four, emit-all, over-part, upto-same}
 use Rattle.color.specs.declared.Pixel.{Pixel}
 use Rattle.raster.specs.Surface.{bytesOf, run, pixelIn}
 use Rattle.raster.proofs.Pixels.{run-length, run-at, pixel-take, pixel-drop, pixels-same}
-use Rattle.blend.specs.Spans.{Span}
+use Rattle.blend.specs.Spans.{Span, putPixel}
 
 pub run-same : (n : ℕ) (f g : ℕ → Pixel) → ((i : ℕ) → i < n → f i ≡ g i) → run n f ≡ run n g
 run-same n f g h = upto-same n (λ i. bytesOf (f i)) (λ i. bytesOf (g i)) (λ i l. ap bytesOf (h i l))
@@ -22,10 +22,10 @@ pub run-is : (n : ℕ) (f : ℕ → Pixel) (s : List ℕ) → length s ≡ n * 4
 run-is n f s e h = pixels-same s (run n f) n e (run-length n f) (λ i l. h i l ∙ sym (run-at n f i l))
 
 -- a turn of a loop that stores the pixels f 0, f 1, .. in order, and its end
-pub run-turn : (f : ℕ → Pixel) (s d : List ℕ) (i : ℕ) (p : Pixel) → p ≡ f i → s ≡ over (run i f) d → i * 4 + 3 < length d
-    → set (set (set (set s (i * 4) (p .r)) (i * 4 + 1) (p .g)) (i * 4 + 2) (p .b)) (i * 4 + 3) (p .a) ≡ over (run (i + 1) f) d
-run-turn f s d i p e o l =
-    emit-four (λ k. bytesOf (f k)) s d i (i * 4) (i + 1) (p .r) (p .g) (p .b) (p .a) (λ n. refl) (ap bytesOf (sym e)) o refl refl l
+pub run-turn : (f : ℕ → Pixel) (s d t : List ℕ) (i : ℕ) (p : Pixel) → t ≡ putPixel s i p → p ≡ f i → s ≡ over (run i f) d → i * 4 + 3 < length d
+    → t ≡ over (run (i + 1) f) d
+run-turn f s d t i p q e o l =
+    q ∙ emit-four (λ k. bytesOf (f k)) s d i (i * 4) (i + 1) (p .r) (p .g) (p .b) (p .a) (λ n. refl) (ap bytesOf (sym e)) o refl refl l
 
 pub run-end : (f : ℕ → Pixel) (s d : List ℕ) (i n : ℕ) → s ≡ over (run i f) d → i ≡ n → length d ≡ n * 4 → s ≡ run n f
 run-end f s d i n o e l = emit-all 4 (λ k. bytesOf (f k)) s d i n (λ k. refl) o e (sym l)

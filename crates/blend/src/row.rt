@@ -1,15 +1,19 @@
 // The step along a part of a row, by its coverage bytes.
+use crate::factor::destination_factor;
+use crate::factor::fixed_source;
 use crate::factor::hides;
+use crate::factor::source_factor;
 use crate::step::blend_pixel;
+use crate::step::blended_pixel;
 use crate::step::composite_pixel;
 use color::Pixel;
 ghost use mathlib.Core.Path.{_≡_};
 ghost use Prim.Native.Nat.{_+_, _*_, _≤_, _<_};
-ghost use lib.ListN.{length, getD};
+ghost use lib.ListN.{length};
 ghost use Rattle.raster.specs.Surface.{run, pixelIn};
 ghost use Rattle.blend.specs.PorterDuff.{composite};
 ghost use Rattle.blend.specs.Rows.{Coverage, compositeRow};
-ghost use Rattle.blend.specs.Spans.{Span};
+ghost use Rattle.blend.specs.Spans.{Span, blendedPixel, putPixel};
 
 // A paint of one pixel for each pixel of the row.
 pub fn composite_row(mode: u16, coverage: &[u8], src: &[u8], row: &mut [u8])
@@ -25,11 +29,7 @@ pub fn composite_row(mode: u16, coverage: &[u8], src: &[u8], row: &mut [u8])
             raster::pixel(src, i),
             raster::pixel(row, i),
         );
-        let at = i * 4;
-        row[at] = p.r;
-        row[at + 1] = p.g;
-        row[at + 2] = p.b;
-        row[at + 3] = p.a;
+        put_pixel(row, i, p);
         i += 1;
     }
 }
@@ -79,8 +79,27 @@ fn composite_span(mode: u16, coverage: u8, src: Pixel, row: &mut [u8], n: usize)
             raster::fill_row(row, n, src);
             return;
         }
+        if fixed_source(mode) {
+            let fs = source_factor(mode, 0);
+            let fd = destination_factor(mode, src.a);
+            blend_covered(src, fs, row, fd, n);
+            return;
+        }
     }
     blend_span(mode, coverage, src, row, n);
+}
+
+// n pixels that are covered in full, by the same factors: no test and no division is left in the loop.
+fn blend_covered(src: Pixel, fs: u8, row: &mut [u8], fd: u8, n: usize)
+    requires { ⌜ length (now row) ≡ n * 4 ⌝ }
+    ensures { λ _. ⌜ now (row .exit) ≡ run n (λ i. blendedPixel src fs (pixelIn (now (row .entry)) i) fd) ⌝ }
+{
+    let mut i = 0;
+    while i < n {
+        let p = blended_pixel(src, fs, raster::pixel(row, i), fd);
+        put_pixel(row, i, p);
+        i += 1;
+    }
 }
 
 // n pixels under one coverage, each blended.
@@ -91,11 +110,19 @@ fn blend_span(mode: u16, coverage: u8, src: Pixel, row: &mut [u8], n: usize)
     let mut i = 0;
     while i < n {
         let p = blend_pixel(mode, coverage, src, raster::pixel(row, i));
-        let at = i * 4;
-        row[at] = p.r;
-        row[at + 1] = p.g;
-        row[at + 2] = p.b;
-        row[at + 3] = p.a;
+        put_pixel(row, i, p);
         i += 1;
     }
+}
+
+// The ith pixel of a row is p.
+fn put_pixel(row: &mut [u8], i: usize, p: Pixel)
+    requires { ⌜ i * 4 + 3 < length (now row) ⌝ }
+    ensures { λ _. ⌜ now (row .exit) ≡ putPixel (now (row .entry)) i p ⌝ }
+{
+    let at = i * 4;
+    row[at] = p.r;
+    row[at + 1] = p.g;
+    row[at + 2] = p.b;
+    row[at + 3] = p.a;
 }

@@ -7,11 +7,12 @@ use crate::factor::source_factor;
 use color::Pixel;
 ghost use mathlib.Core.Path.{_≡_};
 ghost use mathlib.Core.Bool.{_&&_};
-ghost use Prim.Native.Nat.{_≤_};
+ghost use Prim.Native.Nat.{min, _≤_};
 ghost use lib.Dec.{leb};
 ghost use Rattle.blend.specs.PorterDuff.{isMode, blended, stored, composite, compositeAnswer};
+ghost use Rattle.blend.specs.Spans.{blendedPixel};
 
-// 0x1001.
+// OpenVG's code for a mode or a coverage that is none.
 const ILLEGAL_ARGUMENT: u16 = 0x1001;
 
 // The step called alone, on any bytes.
@@ -54,11 +55,24 @@ pub fn blend_pixel(mode: u16, coverage: u8, src: Pixel, dst: Pixel) -> Pixel
 {
     let fs = source_factor(mode, dst.a);
     let fd = destination_factor(mode, src.a);
+    let b = blended_pixel(src, fs, dst, fd);
     Pixel {
-        r: stored_byte(coverage, blended_byte(src.r, fs, dst.r, fd), dst.r),
-        g: stored_byte(coverage, blended_byte(src.g, fs, dst.g, fd), dst.g),
-        b: stored_byte(coverage, blended_byte(src.b, fs, dst.b, fd), dst.b),
-        a: stored_byte(coverage, blended_byte(src.a, fs, dst.a, fd), dst.a),
+        r: stored_byte(coverage, b.r, dst.r),
+        g: stored_byte(coverage, b.g, dst.g),
+        b: stored_byte(coverage, b.b, dst.b),
+        a: stored_byte(coverage, b.a, dst.a),
+    }
+}
+
+// B of each channel.
+pub fn blended_pixel(src: Pixel, fs: u8, dst: Pixel, fd: u8) -> Pixel
+    ensures { λ r. ⌜ r ≡ blendedPixel src fs dst fd ⌝ }
+{
+    Pixel {
+        r: blended_byte(src.r, fs, dst.r, fd),
+        g: blended_byte(src.g, fs, dst.g, fd),
+        b: blended_byte(src.b, fs, dst.b, fd),
+        a: blended_byte(src.a, fs, dst.a, fd),
     }
 }
 
@@ -72,13 +86,19 @@ fn accepts(mode: u16, coverage: u8) -> bool
     false
 }
 
-// B: a sum of two products in 255ths, to the nearest, divided by shifts: (n + n / 256) / 256 is n / 255, up to what is cut to 255.
+// B, divided by 255 with sums and shifts: up to 65,280, where B is 255, (n + n / 256) / 256 is (n - 1) / 255. So n is cut there, and 16 bits hold it.
 fn blended_byte(s: u8, fs: u8, d: u8, fd: u8) -> u8
     ensures { λ r. ⌜ r ≡ blended s fs d fd ⌝ }
 {
-    let n = (s as u32) * (fs as u32) + (d as u32) * (fd as u32) + 128;
-    let q = (n + (n >> 8)) >> 8;
-    if q < 255 { q as u8 } else { 255 }
+    let p = (s as u16) * (fs as u16) + 128;
+    let n = p + least((d as u16) * (fd as u16), 65280 - p);
+    ((n + (n >> 8)) >> 8) as u8
+}
+
+fn least(a: u16, b: u16) -> u16
+    ensures { λ r. ⌜ r ≡ min a b ⌝ }
+{
+    if a < b { a } else { b }
 }
 
 // What is stored of B over d.
@@ -86,6 +106,6 @@ fn stored_byte(coverage: u8, b: u8, d: u8) -> u8
     requires { ⌜ coverage ≤ 16 ⌝ }
     ensures { λ r. ⌜ r ≡ stored coverage b d ⌝ }
 {
-    let k = coverage as u32;
-    (((b as u32) * k + (d as u32) * (16 - k) + 8) >> 4) as u8
+    let k = coverage as u16;
+    (((b as u16) * k + (d as u16) * (16 - k) + 8) >> 4) as u8
 }

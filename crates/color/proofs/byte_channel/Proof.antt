@@ -1,6 +1,6 @@
 -- `color::byte_channel` meets its contract: the code is the definition. Assumes nothing.
 use mathlib.Core.Path.{refl}
-use lib.Ieee.{ofBits, div, ofInt}
+use lib.Ieee.{ofBits}
 use Rattle.color.specs.Channels.{byteChannel}
 use borrow.Author.Needs.{needs}
 use Rattle.color.proofs.byte_channel.Statement.{statement}

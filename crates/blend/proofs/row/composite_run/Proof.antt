@@ -1,5 +1,6 @@
+-- `blend::composite_run` meets its contract: the spans before i are stored, and the other pixels are as they were. Assumes nothing.
 use mathlib.Core.Path.{_≡_, refl, _∙_}
-use Prim.Native.Nat.{ℕ, _+_, _-_, _*_, _≤_}
+use Prim.Native.Nat.{ℕ, _-_, _*_, _≤_}
 use native.Mathlib.Omega.{arith}
 use lib.ListN.{length, getD}
 use Rattle.lists.specs.Lists.{over}
@@ -11,10 +12,6 @@ use Rattle.blend.proofs.Runs.{span-turn, run-end}
 use borrow.Author.Needs.{needs}
 use Rattle.blend.proofs.row.composite_run.Statement.{statement}
 use Rattle.blend.proofs.row.composite_run.Tie as tie
-use Rattle.blend.proofs.row.composite_run.Reads as reads
-use Rattle.blend.proofs.row.composite_run.Lts as lts
-use Rattle.blend.proofs.row.composite_span.Reads as composite-span-reads
-use Rattle.blend.proofs.row.span_end.Reads as span-end-reads
 
 abbrev Inv-loop : tie.InvT-loop
 Inv-loop mode coverage src row₀ i₀ row i =
@@ -23,43 +20,33 @@ Inv-loop mode coverage src row₀ i₀ row i =
 abbrev μ-loop : tie.MeasureT-loop
 μ-loop mode coverage src row₀ i₀ row i = length coverage - i
 
--- src/row.rt:39:5
 loop-holds : tie.Need-loop-holds Inv-loop μ-loop
 loop-holds c = search needs
 
--- src/row.rt:40:13
 span-end-requires : tie.Need-span-end-requires Inv-loop μ-loop
 span-end-requires c κs = search needs
 
--- src/row.rt:41:20
 mul-from : tie.Need-mul-from Inv-loop μ-loop
 mul-from c = search needs
 
--- src/row.rt:42:18
 mul-to : tie.Need-mul-to Inv-loop μ-loop
 mul-to c = search needs
 
--- src/row.rt:43:30
 shared-slice-read-composite-span : tie.Need-shared-slice-read-composite-span Inv-loop μ-loop
 shared-slice-read-composite-span c = search needs
 
--- src/row.rt:43:48
 sub-composite-span : tie.Need-sub-composite-span Inv-loop μ-loop
 sub-composite-span c = search needs
 
--- src/row.rt:43:48
 part-composite-span-start : tie.Need-part-composite-span-start Inv-loop μ-loop
 part-composite-span-start c = omega (arith, c .before .span-end .ensures .some)
 
--- src/row.rt:43:48
 part-composite-span-end : tie.Need-part-composite-span-end Inv-loop μ-loop
 part-composite-span-end c = omega (arith, c .before .span-end .ensures .within)
 
--- src/row.rt:43:68
 sub-composite-span-2 : tie.Need-sub-composite-span-2 Inv-loop μ-loop
 sub-composite-span-2 c = search needs
 
--- src/row.rt:43:9
 composite-span-requires : tie.Need-composite-span-requires Inv-loop μ-loop
 composite-span-requires c κs =
     let a = c .before .before .before .before .before .before .before .args in
@@ -70,11 +57,9 @@ composite-span-requires c κs =
       part-length (l .row) (l .i * 4) (e * 4) (omega (arith, t .some)) (omega (arith, t .within)) ∙ omega arith,
     )
 
--- src/row.rt:39:5
 loop-less : tie.Need-loop-less Inv-loop μ-loop
 loop-less c = omega (arith, c .before .before .before .before .before .span-end .ensures .some)
 
--- src/row.rt:39:5
 loop-again : tie.Need-loop-again Inv-loop μ-loop
 loop-again c =
     let a = c .before .before .before .before .before .before .before .before .before .before .args in
@@ -88,11 +73,9 @@ loop-again c =
       o,
     )
 
--- src/row.rt:33:1
 same-length : tie.Need-same-length Inv-loop μ-loop
 same-length c = search needs
 
--- src/row.rt:33:1
 returns : tie.Need-returns Inv-loop μ-loop
 returns c =
     let a = c .before .before .before .before .args in

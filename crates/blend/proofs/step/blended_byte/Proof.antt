@@ -1,38 +1,44 @@
--- `blend::blended_byte` meets its contract. Below 65,790 the sums and shifts are the quotient by 255, and from there on both are cut. Assumes nothing.
-use Prim.Native.Nat.{_+_, _*_, _≤_}
+-- `blend::blended_byte` meets its contract: the products of bytes are small, and the sums and shifts are the quotient. Assumes nothing.
+use Prim.Native.Nat.{_*_, _≤_}
 use native.Mathlib.Omega.{arith}
-use Rattle.blend.proofs.Channel.{blended-small}
 use Rattle.color.proofs.Alpha.{product-small}
+use Rattle.blend.proofs.Channel.{by-shifts}
 use Rattle.blend.proofs.step.blended_byte.Statement.{statement}
 use Rattle.blend.proofs.step.blended_byte.Tie as tie
 
-small : (c : tie.Start) → c .args .s * c .args .fs + c .args .d * c .args .fd ≤ 130050
-small c = blended-small (c .args .s) (c .args .fs) (c .args .d) (c .args .fd) (omega arith) (omega arith) (omega arith) (omega arith)
+source : (c : tie.Start) → c .args .s * c .args .fs ≤ 65025
+source c = product-small (c .args .s) (c .args .fs) (omega arith) (omega arith)
 
-mul-n : tie.Need-mul-n
-mul-n c = omega (arith, small c)
+destination : (c : tie.Start) → c .args .d * c .args .fd ≤ 65025
+destination c = product-small (c .args .d) (c .args .fd) (omega arith) (omega arith)
 
-mul-n-2 : tie.Need-mul-n-2
-mul-n-2 c = omega (arith, small c)
+mul-p : tie.Need-mul-p
+mul-p c = omega (arith, source c)
+
+add-p : tie.Need-add-p
+add-p c = omega (arith, source c)
+
+mul-least : tie.Need-mul-least
+mul-least c = omega (arith, destination c)
+
+sub-least : tie.Need-sub-least
+sub-least c = omega (arith, source c)
 
 add-n : tie.Need-add-n
-add-n c = omega (arith, small c)
+add-n c = omega (arith, source (c .before), c .least .ensures)
 
-add-n-2 : tie.Need-add-n-2
-add-n-2 c = omega (arith, small c)
-
-add-q : tie.Need-add-q
-add-q c = omega (arith, small c)
+add-result : tie.Need-add-result
+add-result c = omega (arith, source (c .before), c .least .ensures)
 
 cast-result : tie.Need-cast-result
-cast-result c = omega arith
+cast-result c = omega (arith, source (c .before), c .least .ensures)
 
 returns : tie.Need-returns
-returns c = omega arith
-
-returns-2 : tie.Need-returns-2
-returns-2 c = omega arith
+returns c =
+    let a = c .before .args in
+    by-shifts (a .s * a .fs) (a .d * a .fd) (c .least .result) (source (c .before)) (c .least .ensures)
 
 pub blended-byte-spec : {M : Type 1} → statement M
 blended-byte-spec =
-    tie.close (tie.spec mul-n mul-n-2 add-n add-n-2 add-q cast-result returns returns-2)
+    tie.close
+    (tie.spec mul-p add-p mul-least sub-least (λ c κs. tt) add-n add-result cast-result returns)

@@ -2,7 +2,7 @@
 use mathlib.Core.Path.{sym, _∙_}
 use native.Mathlib.Omega.{arith}
 use borrow.Author.Needs.{needs}
-use Rattle.blend.proofs.Channel.{uncovered-keeps, hiding-replaces}
+use Rattle.blend.proofs.Shortcuts.{uncovered-keeps, hiding-replaces}
 use Rattle.blend.proofs.step.composite_pixel.Statement.{statement}
 use Rattle.blend.proofs.step.composite_pixel.Tie as tie
 

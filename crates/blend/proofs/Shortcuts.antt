@@ -1,0 +1,65 @@
+-- Where the step on a pixel needs less than the whole of its arithmetic: nothing covered, a paint that hides, a full coverage.
+use mathlib.Core.Path.{_≡_, refl, sym, subst}
+use mathlib.Core.Bool.{Bool, true, false, cond, not}
+use Prim.Native.Nat.{ℕ, _<_}
+use lib.Dec.{T, eqb}
+use borrow.Author.Tests.{eqb-true}
+use Rattle.color.specs.declared.Pixel.{Pixel}
+use Rattle.blend.specs.PorterDuff.{modeSrc, modeSrcOver, modeDstOver, modeSrcIn, sourceFactor, destinationFactor, compositeByte, composite}
+use Rattle.blend.specs.Spans.{hides, fixedSource, blendedPixel}
+use Rattle.blend.proofs.Channel.{uncovered-byte, covered-byte, replaced-byte}
+
+-- where no sample is covered the pixel stays as it is
+pub uncovered-keeps : (mode : ℕ) (s d : Pixel) → composite mode 0 s d ≡ d
+unfolding compositeByte
+uncovered-keeps mode s d =
+    rw (uncovered-byte _ (d .r), uncovered-byte _ (d .g), uncovered-byte _ (d .b), uncovered-byte _ (d .a))
+
+-- a paint that hides is Src, or SrcOver with an opaque source: Fs is 1 and Fd is 0
+by-tests : {C : Type 0} (a b c : Bool) → cond a true (cond b c false) ≡ true → (a ≡ true → C) → (b ≡ true → c ≡ true → C) → C
+by-tests true b c h f g = f refl
+by-tests false true true h f g = g refl refl
+by-tests false true false h f g = absurd (subst T (sym h) tt)
+by-tests false false c h f g = absurd (subst T (sym h) tt)
+
+by-hiding : {C : Type 0} (mode sa : ℕ) → hides mode sa ≡ true → (mode ≡ modeSrc → C) → (mode ≡ modeSrcOver → sa ≡ 255 → C) → C
+by-hiding mode sa h f g =
+    by-tests (eqb mode modeSrc) (eqb mode modeSrcOver) (eqb sa 255) h (λ e. f (eqb-true mode modeSrc e))
+    (λ e q. g (eqb-true mode modeSrcOver e) (eqb-true sa 255 q))
+
+hiding-source : (mode sa da : ℕ) → hides mode sa ≡ true → sourceFactor mode da ≡ 255
+unfolding sourceFactor
+hiding-source mode sa da h = by-hiding mode sa h (λ e. rw e) (λ e q. rw e)
+
+hiding-destination : (mode sa : ℕ) → hides mode sa ≡ true → destinationFactor mode sa ≡ 0
+unfolding destinationFactor
+hiding-destination mode sa h = by-hiding mode sa h (λ e. rw e) (λ e q. rw (e, q))
+
+-- under a full coverage its bytes are stored
+pub hiding-replaces : (mode : ℕ) (s d : Pixel) → s .r < 256 → s .g < 256 → s .b < 256 → s .a < 256 → hides mode (s .a) ≡ true → composite mode 16 s d ≡ s
+unfolding compositeByte
+hiding-replaces mode s d r g b a h =
+    rw (
+      hiding-source mode (s .a) (d .a) h,
+      hiding-destination mode (s .a) h,
+      replaced-byte (s .r) (d .r) r,
+      replaced-byte (s .g) (d .g) g,
+      replaced-byte (s .b) (d .b) b,
+      replaced-byte (s .a) (d .a) a,
+    )
+
+-- where Fs is the same at every alpha it is what it is at 0
+by-neither : {C : Type 0} (a b : Bool) → cond a false (not b) ≡ true → (a ≡ false → b ≡ false → C) → C
+by-neither true b h f = absurd (subst T (sym h) tt)
+by-neither false true h f = absurd (subst T (sym h) tt)
+by-neither false false h f = f refl refl
+
+fixed-source : (mode da : ℕ) → fixedSource mode ≡ true → sourceFactor mode da ≡ sourceFactor mode 0
+unfolding sourceFactor
+fixed-source mode da h = by-neither (eqb mode modeDstOver) (eqb mode modeSrcIn) h (λ e q. rw (e, q))
+
+-- under a full coverage B is stored
+pub covered-stores : (mode : ℕ) (s d : Pixel) → fixedSource mode ≡ true → blendedPixel s (sourceFactor mode 0) d (destinationFactor mode (s .a)) ≡ composite mode 16 s d
+unfolding compositeByte
+covered-stores mode s d h =
+    rw (← fixed-source mode (d .a) h, covered-byte _ (d .r), covered-byte _ (d .g), covered-byte _ (d .b), covered-byte _ (d .a))
