@@ -6,7 +6,10 @@ use Rattle.path.specs.declared.Edge.{Edge}
 use Rattle.blend.specs.PorterDuff.{composite}
 use Rattle.coverage.specs.Winding.{coverage}
 use Rattle.coverage.specs.Scissors.{scissored}
+use Rattle.paint.specs.Buffers.{Near, Held, stopsIn, linearAt}
 use Rattle.engine.specs.declared.Style.{Style}
+use Rattle.engine.specs.declared.Shade.{Shade}
+use Rattle.engine.specs.declared.Shade.the-variants.{Solid, Linear}
 
 -- k at a pixel
 unfoldable pub coverageWith : Style → List Edge → List ℕ → ℕ → ℕ → ℕ
@@ -15,3 +18,13 @@ coverageWith s es scissors x y = scissored (s .scissoring) scissors (s .scissors
 -- what is stored there, under a paint
 unfoldable pub stepWith : Style → List Edge → List ℕ → (ℕ → ℕ → Pixel) → ℕ → ℕ → Pixel → Pixel
 stepWith s es scissors paint x y q = composite (s .mode) (coverageWith s es scissors x y) (paint x y) q
+
+-- the paint at a pixel, with a ramp in two buffers
+unfoldable pub shadeAt : Shade → List ℕ → List ℕ → ℕ → ℕ → Pixel
+shadeAt (Solid p) offsets colors x y = p
+shadeAt (Linear g) offsets colors x y = linearAt g (stopsIn offsets colors (g .count)) x y
+
+-- what a gradient asks of the buffers
+abbrev pub Shaded : Shade → List ℕ → List ℕ → Type 0
+Shaded (Solid p) offsets colors = Unit
+Shaded (Linear g) offsets colors = Near (g .points) × Held offsets colors (g .count)
