@@ -10,6 +10,7 @@ use Rattle.lists.specs.Lists.{upto, tab}
 use Rattle.lists.proofs.Laws.{upto-same, tab-at, tab-length}
 use Rattle.color.specs.declared.Pixel.{Pixel}
 use Rattle.raster.specs.Surface.{run, pixelIn}
+use Rattle.raster.proofs.Pixels.{run-at}
 use Rattle.blend.specs.PorterDuff.{composite}
 use Rattle.blend.specs.Rows.{Coverage, compositeRow}
 use Rattle.blend.proofs.Runs.{run-same}
@@ -64,3 +65,11 @@ module _ (style : Style) (es : List Edge) (scissors : List ℕ) (x y : ℕ) wher
       (λ i l.
       ap (λ (k : ℕ). composite (style .mode) k (p i) (pixelIn d i)) (ap (λ (s : List ℕ). getD s i 0) o ∙ tab-at n _ i 0 l)
       ∙ ap (λ (q : Pixel). composite (style .mode) (coverageWith style es scissors (x + i) y) q (pixelIn d i)) (h i l))
+
+-- the paint's pixels from a row of bytes
+pub row-painted : (mode n : ℕ) (c d s : List ℕ) (f : ℕ → Pixel) → length c ≡ n → s ≡ run n f → compositeRow mode c (pixelIn s) d ≡ compositeRow mode c f d
+row-painted mode n c d s f e o =
+    run-same (length c) _ _
+    (λ i l.
+    ap (λ (q : Pixel). composite mode (getD c i 0) q (pixelIn d i))
+    (ap (λ (z : List ℕ). pixelIn z i) o ∙ run-at n f i (rw e at l)))

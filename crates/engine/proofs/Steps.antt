@@ -6,7 +6,7 @@ use native.Mathlib.Numerals.{add-one}
 use Rattle.color.specs.declared.Pixel.{Pixel}
 use Rattle.rect.specs.Rects.{Inside}
 use Rattle.blend.specs.PorterDuff.{composite}
-use Rattle.blend.proofs.Channel.{uncovered-keeps}
+use Rattle.blend.proofs.Shortcuts.{uncovered-keeps}
 use Rattle.path.specs.Boxes.{boxOf}
 use Rattle.path.specs.Closed.{Closed}
 use Rattle.path.specs.Matrices.{fixedMatrix}
