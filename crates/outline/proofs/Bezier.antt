@@ -1,12 +1,14 @@
 -- Curves cut at k / 16, over the degree: the weights add up to 16 ^ degree, so a cut point is no larger than the control points; at 0 it is
 -- the first of them and at 16 the last.
-use mathlib.Core.Path.{_≡_, refl, sym, ap, subst, _∙_}
-use mathlib.Core.Bool.{Bool, true, _&&_}
+use mathlib.Core.Path.{_≡_, sym, ap, subst, _∙_}
+use mathlib.Core.Bool.{Bool, _&&_}
 use Prim.Native.Nat.{ℕ, _+_, _-_, _*_, _/_, _^_, _≤_, _<_}
 use native.Mathlib.Nat.{le-trans, le-refl, lt-of-mul-lt-mul-right, mul-le-mul, pow-le-pow-right}
 use native.Mathlib.Omega.{arith}
-use lib.Dec.{T, eqb, eqb→eq, lit<}
-use lib.IntN.{ℤ, pos, natAbs, _+ℤ_, _*ℤ_}
+use lib.Dec.{T, eqb, eqb→eq}
+use lib.IntN.{ℤ, pos, _+ℤ_, _*ℤ_}
+use borrow.Author.Tests.{eqb-true, eqb-false}
+use Rattle.rect.proofs.Laws.{either}
 use Rattle.fixed.specs.Floor.{floorDiv}
 use Rattle.fixed.proofs.Within.{Within, within-pos, within-add, within-mul}
 use Rattle.fixed.proofs.Poly.{up, dn, var, num, _⊕_, _⊗_, eq, within, from-within}
@@ -22,11 +24,19 @@ pub data Curved : ℕ → Type 0 where
   quad : Curved 2
   cubic : Curved 3
 
+pub curved : (n : ℕ) → 2 ≤ n → n ≤ 3 → Curved n
+curved n h k =
+    either (eqb n 2)
+    (λ e. subst Curved (sym (eqb-true n 2 e)) quad)
+    (λ e. let f = eqb-false n 2 e in
+    let three : 3 ≡ n = omega (arith, f) in
+    subst Curved three cubic)
+
 -- they add up to 16 ^ degree: by a test of each k
 addUp : ℕ → ℕ → Bool
 addUp degree k = eqb (weight degree k 0 + weight degree k 1 + weight degree k 2 + weight degree k 3) (16 ^ degree)
 
-pub weights-full : {degree : ℕ} → Curved degree → (k : ℕ) → k ≤ 16 → Full degree (weightsOf degree k)
+weights-full : {degree : ℕ} → Curved degree → (k : ℕ) → k ≤ 16 → Full degree (weightsOf degree k)
 unfolding addUp
 weights-full quad k h = record { some = omega arith; most = omega arith; total = eqb→eq _ 256 (upto (addUp 2) 17 tt k (omega arith)) }
 weights-full cubic k h = record { some = omega arith; most = omega arith; total = eqb→eq _ 4096 (upto (addUp 3) 17 tt k (omega arith)) }

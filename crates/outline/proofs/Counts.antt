@@ -17,7 +17,7 @@ use Rattle.path.specs.declared.Curve.{Curve}
 use Rattle.path.specs.declared.Edge.{Edge}
 use Rattle.path.specs.Segments.{walkTo, lineTo, curveAt, drawnBy}
 use Rattle.path.specs.Matrices.{transform}
-use Rattle.path.specs.Curves.{cutPoint, equal, edge, edgeBetween, curveEdges, transformCurve, drawnEdges, segmentEdges, edgesTo, pathEdges}
+use Rattle.path.specs.Curves.{cutPoint, equal, edge, edgeBetween, curveEdges, transformCurve, drawnEdges, edgesTo, pathEdges}
 
 edge-count : (a b : Point) → length (edgeBetween a b) ≤ 1
 edge-count a b = by (equal (a .x) (b .x) && equal (a .y) (b .y))
@@ -37,8 +37,8 @@ pieces o c k = upto k (λ j. edgeBetween (cutPoint o c j) (cutPoint o c (suc j))
 pub pieces-count : (o : Point) (c : Curve) (k : ℕ) → length (pieces o c k) ≤ k
 pieces-count o c k = omega (arith, upto-count 1 k (λ j. edgeBetween (cutPoint o c j) (cutPoint o c (suc j))) (λ j. edge-count (cutPoint o c j) (cutPoint o c (suc j))))
 
-pub pieces-more : (o : Point) (c : Curve) (k : ℕ) (p q : Point) → p ≡ cutPoint o c k → q ≡ cutPoint o c (k + 1) → pieces o c (k + 1) ≡ pieces o c k ++ edgeBetween p q
-pieces-more o c k p q e f = upto-more k _ ∙ ap₂ (λ (a b : Point). pieces o c k ++ edgeBetween a b) (sym e) (sym (f ∙ ap (cutPoint o c) (add-one k)))
+pub pieces-more : (o : Point) (c : Curve) (k : ℕ) (p q : Point) → p ≡ cutPoint o c k → q ≡ cutPoint o c (k + 1) → pieces o c k ++ edgeBetween p q ≡ pieces o c (k + 1)
+pieces-more o c k p q e f = ap₂ (λ (a b : Point). pieces o c k ++ edgeBetween a b) e (f ∙ ap (cutPoint o c) (add-one k)) ∙ sym (upto-more k _)
 
 pub curve-line : (o : Point) (c : Curve) → c .degree ≡ 1 → curveEdges o c ≡ edgeBetween o (c .p3)
 unfolding curveEdges
@@ -48,7 +48,7 @@ pub curve-pieces : (o : Point) (c : Curve) → (c .degree ≡ 1 → ⊥) → cur
 unfolding curveEdges
 curve-pieces o c e = rw (ne-eqb (c .degree) 1 e)
 
-pub curve-count : (o : Point) (c : Curve) → length (curveEdges o c) ≤ 16
+curve-count : (o : Point) (c : Curve) → length (curveEdges o c) ≤ 16
 curve-count o c =
     either (eqb (c .degree) 1)
     (λ e. rw (curve-line o c (eqb-true _ _ e)) (omega (arith, edge-count o (c .p3))))

@@ -1,5 +1,4 @@
 -- What holds of every element of a list.
-use mathlib.Core.Path.{_≡_}
 use mathlib.Core.List.{List, [], _∷_, _++_}
 use mathlib.Core.Logic.{⊎-elim}
 use Prim.Native.Nat.{ℕ, zero, suc, _<_}
@@ -16,11 +15,11 @@ module _ {A : Type 0} {P : A → Type 0} where
   every-append none k = k
   every-append (more p h) k = more p (every-append h k)
 
-  pub every-left : (xs ys : List A) → Every P (xs ++ ys) → Every P xs
+  every-left : (xs ys : List A) → Every P (xs ++ ys) → Every P xs
   every-left [] ys h = none
   every-left (x ∷ xs) ys (more p h) = more p (every-left xs ys h)
 
-  pub every-right : (xs ys : List A) → Every P (xs ++ ys) → Every P ys
+  every-right : (xs ys : List A) → Every P (xs ++ ys) → Every P ys
   every-right [] ys h = h
   every-right (x ∷ xs) ys (more p h) = every-right xs ys h
 

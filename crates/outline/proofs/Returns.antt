@@ -8,10 +8,10 @@ use lib.Dec.{T, eqb, leb}
 use lib.ListN.{getD}
 use lib.IntN.{ℤ, pos, _+ℤ_, _-ℤ_}
 use lib.Signed.{leZ, _≤ℤ_}
-use borrow.Author.Tests.{eqb-true, eqb-false, leb-true, leb-false, eq-eqb, ne-eqb, le-leb, lt-leb}
+use borrow.Author.Tests.{eqb-true, eqb-false, leb-true, leb-false, eq-eqb}
 use Rattle.lists.specs.Lists.{upto}
 use Rattle.fixed.proofs.Poly.{var, num, _⊕_, _⊖_, eq, from-le}
-use Rattle.rect.proofs.Laws.{both, either}
+use Rattle.rect.proofs.Laws.{both}
 use Rattle.path.specs.declared.FixedMatrix.{FixedMatrix}
 use Rattle.path.specs.declared.Point.{Point}
 use Rattle.path.specs.declared.Pen.{Pen}
@@ -47,7 +47,7 @@ points-shaped pen byte c =
     let n = number byte in
     shape (eqb n 0) (eqb n 6) (eqb n 8) (eqb n 10) (eqb n 12) (eqb n 14) (eqb n 16) _ _ _ _ _ _ _ _ _ _ _ _ _ _
 
-pub drawn-shaped : (pen : Pen) (byte : ℕ) (c : Curve) → Shaped c → Shaped (drawnBy pen byte c)
+drawn-shaped : (pen : Pen) (byte : ℕ) (c : Curve) → Shaped c → Shaped (drawnBy pen byte c)
 drawn-shaped pen byte c h = by (leb (number byte) 2)
   where
     by : (t : Bool) → Shaped (cond t (lineTo (pen .start)) c)

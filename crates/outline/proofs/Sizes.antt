@@ -1,154 +1,163 @@
--- The edges of an accepted path are at most 8,388,608 in size on both axes.
-use mathlib.Core.Path.{_≡_, refl, sym, ap, subst, _∙_}
-use mathlib.Core.List.{List, [], _∷_, _++_}
+-- The points of an accepted path are in their range, in the path and on the surface, and so its edges are at most 8,388,608 in size.
+use mathlib.Core.Path.{_≡_, refl, ap, subst, _∙_}
+use mathlib.Core.List.{List, [], _∷_}
 use mathlib.Core.Bool.{Bool, true, false, cond, _&&_}
-use Prim.Native.Nat.{ℕ, zero, suc, _+_, _*_, _≤_, _<_}
-use native.Mathlib.Nat.{eq-or-lt-of-le, le-of-suc-le-suc, not-suc-le-zero}
-use mathlib.Core.Logic.{⊎-elim}
+use Prim.Native.Nat.{ℕ, zero, suc, _+_, _-_, _≤_, _<_}
 use native.Mathlib.Omega.{arith}
-use lib.Dec.{eqb, leb, ltb}
-use lib.ListN.{getD, length}
-use lib.IntN.{ℤ, pos, natAbs, _+ℤ_, _*ℤ_}
-use borrow.Author.Tests.{eqb-true, eqb-false, leb-true, eq-eqb, ne-eqb}
+use lib.Dec.{eqb, leb}
+use lib.ListN.{getD}
+use lib.IntN.{ℤ, pos, natAbs, _+ℤ_}
+use borrow.Author.Tests.{eqb-true, eqb-false, leb-true, le-leb}
 use Rattle.rect.proofs.Laws.{both, either}
 use Rattle.fixed.specs.Floor.{floorDiv}
-use Rattle.fixed.proofs.Within.{Within, within-add, within-pos}
+use Rattle.fixed.proofs.Tests.{is-true, both-left, both-right}
+use Rattle.fixed.proofs.Within.{Within}
+use Rattle.fixed.proofs.Poly.{var, num, _⊕_, _⊗_, eq}
 use Rattle.fixed.proofs.Round.{within-round}
 use Rattle.path.specs.declared.FixedMatrix.{FixedMatrix}
 use Rattle.path.specs.declared.Point.{Point}
-use Rattle.path.specs.declared.Pen.{Pen}
 use Rattle.path.specs.declared.Curve.{Curve}
-use Rattle.path.specs.declared.Edge.{Edge}
-use Rattle.path.specs.declared.Walk.{Walk}
-use Rattle.path.specs.declared.PathFault.{PathFault}
-use Rattle.path.specs.Matrices.{transform, onSurfaceGrid}
-use Rattle.path.specs.Segments.{lineTo, quadTo, cubicTo, number, curveInRange, curveOnGrid, drawnBy, penAfter, walkTo, walkOn, curveAt, isArc, coordinatesTaken, segmentCode, faultTo, faultAt, orFault, origin}
-use Rattle.path.specs.Curves.{cutPoint, equal, edge, edgeBetween, curveEdges, transformCurve, drawnEdges, segmentEdges, edgesTo, pathEdges}
+use Rattle.path.specs.Matrices.{transform, transformAxis, onSurfaceGrid}
+use Rattle.path.specs.Segments.{lineTo, number, drawnBy, penAfter, walkTo, curveAt, faultTo, origin}
+use Rattle.path.specs.Curves.{cutPoint, equal, edge, edgeBetween, curveEdges, transformCurve, pathEdges}
 use Rattle.path.specs.Stored.{Small}
-use Rattle.outline.proofs.Bezier.{quad, cubic, cut-size}
-use Rattle.outline.proofs.Returns.{Shaped, straight, bent, twisted, points-shaped, drawn-shaped}
+use Rattle.path.specs.Limits.{Limited, Supplied}
+use Rattle.path.proofs.Codes.{accepted, supplied, near-curve}
+use Rattle.path.proofs.Faults.{accepted-before, accepted-below, accepted-ready}
+use Rattle.outline.specs.Asked.{OnGrid, Drawable, Placed, PenPlaced, CurvePlaced}
+use Rattle.outline.proofs.Bezier.{curved, cut-size}
+use Rattle.outline.proofs.Counts.{curve-line, curve-pieces}
+use Rattle.outline.proofs.Returns.{Shaped, straight, bent, twisted, points-shaped}
 use Rattle.outline.proofs.Every.{Every, none, more, every-append, every-upto}
 
--- a point on the surface's grid
-pub record Near (p : Point) : Type 0 where
-  pub x : Within 8388608 (p .x)
-  pub y : Within 8388608 (p .y)
-
-pub near-grid : (p : Point) → onSurfaceGrid p ≡ true → Near p
-near-grid p h =
+-- ---- points on the surface's grid
+on-grid : (p : Point) → onSurfaceGrid p ≡ true → OnGrid p
+on-grid p h =
     let k = both (leb (natAbs (p .x)) 8388608) (leb (natAbs (p .y)) 8388608) h in
-    record { x = record { size = leb-true _ _ (k .0) }; y = record { size = leb-true _ _ (k .1) } }
+    record { x = leb-true _ _ (k .0); y = leb-true _ _ (k .1) }
 
-edge-small : (a b : Point) → Near a → Near b → Every Small (edgeBetween a b)
+-- the origin is moved only
+axis-near : (a b t : ℤ) → natAbs t ≤ 2147483648 → natAbs (transformAxis a b t origin) ≤ 8388608
+axis-near a b t h =
+    subst (λ (z : ℤ). natAbs (floorDiv (z +ℤ pos 128) 256) ≤ 8388608)
+    (eq (var t) (var a ⊗ num 0 ⊕ var b ⊗ num 0 ⊕ var t) (omega arith))
+    (within-round {b = 8388608} {z = t} (record { size = h }) .size)
+
+origin-there : (m : FixedMatrix) → Limited m → onSurfaceGrid (transform m origin) ≡ true
+origin-there m h =
+    rw (
+      le-leb (natAbs (transform m origin .x)) 8388608 (axis-near (m .sx) (m .shx) (m .tx) (h .tx)),
+      le-leb (natAbs (transform m origin .y)) 8388608 (axis-near (m .shy) (m .sy) (m .ty) (h .ty)),
+    )
+
+-- ---- edges between such points
+edge-small : (a b : Point) → OnGrid a → OnGrid b → Every Small (edgeBetween a b)
 edge-small a b h k = by (equal (a .x) (b .x) && equal (a .y) (b .y))
   where
     by : (t : Bool) → Every Small (cond t [] (edge a b ∷ []))
     by true = none
-    by false = more (record { x0 = h .x .size; y0 = h .y .size; x1 = k .x .size; y1 = k .y .size }) none
+    by false = more (record { x0 = h .x; y0 = h .y; x1 = k .x; y1 = k .y }) none
 
--- ---- a curve's edges, from those of its points
-module _ (m : FixedMatrix) (o : Point) (near : Near o) where
-  curve-small : (c : Curve) → Shaped c → Near (transform m (c .p1)) → Near (transform m (c .p2)) → Near (transform m (c .p3)) → Every Small (curveEdges o (transformCurve m c))
-  unfolding curveEdges
-  curve-small c (straight e) f g h = edge-small o (transform m e) near h
-  curve-small c (bent b e) f g h =
-      every-upto 16 _ (λ k l. edge-small _ _ (cut-near k (omega arith)) (cut-near (suc k) (omega arith)))
-    where
-      cut-near : (k : ℕ) → k ≤ 16 → Near (cutPoint o (transformCurve m (quadTo b e)) k)
-      cut-near k l = record { x = cut-size (near .x) (f .x) (g .x) (h .x) quad k l; y = cut-size (near .y) (f .y) (g .y) (h .y) quad k l }
-  curve-small c (twisted b d e) f g h =
-      every-upto 16 _ (λ k l. edge-small _ _ (cut-near k (omega arith)) (cut-near (suc k) (omega arith)))
-    where
-      cut-near : (k : ℕ) → k ≤ 16 → Near (cutPoint o (transformCurve m (cubicTo b d e)) k)
-      cut-near k l = record { x = cut-size (near .x) (f .x) (g .x) (h .x) cubic k l; y = cut-size (near .y) (f .y) (g .y) (h .y) cubic k l }
+module _ (o : Point) (c : Curve) (near : OnGrid o) (h : Drawable c) where
+  cut-grid : 2 ≤ c .degree → (k : ℕ) → k ≤ 16 → OnGrid (cutPoint o c k)
+  cut-grid l k m =
+      let d = curved (c .degree) l (h .most) in
+      let px : Within 8388608 (o .x) = record { size = near .x } in
+      let qx : Within 8388608 (c .p1 .x) = record { size = h .p1 .x } in
+      let rx : Within 8388608 (c .p2 .x) = record { size = h .p2 .x } in
+      let sx : Within 8388608 (c .p3 .x) = record { size = h .p3 .x } in
+      let py : Within 8388608 (o .y) = record { size = near .y } in
+      let qy : Within 8388608 (c .p1 .y) = record { size = h .p1 .y } in
+      let ry : Within 8388608 (c .p2 .y) = record { size = h .p2 .y } in
+      let sy : Within 8388608 (c .p3 .y) = record { size = h .p3 .y } in
+      record { x = cut-size px qx rx sx d k m .size; y = cut-size py qy ry sy d k m .size }
+
+  curve-small : Every Small (curveEdges o c)
+  curve-small =
+      either (eqb (c .degree) 1)
+      (λ e. rw (curve-line o c (eqb-true _ _ e)) (edge-small o (c .p3) near (h .p3)))
+      (λ e. let n = eqb-false (c .degree) 1 e in
+      let l : 2 ≤ c .degree = omega (arith, h .some, n) in
+      rw (curve-pieces o c n) (every-upto 16 _ (λ k m. edge-small _ _ (cut-grid l k (omega arith)) (cut-grid l (suc k) (omega arith)))))
+
+-- ---- what the matrix makes of placed points
+pub placed-grid : (m : FixedMatrix) (p : Point) → Placed m p → OnGrid (transform m p)
+placed-grid m p h = on-grid (transform m p) (h .there)
+
+pub curve-drawable : (m : FixedMatrix) (c : Curve) → CurvePlaced m c → Drawable (transformCurve m c)
+curve-drawable m c h = record {
+  some = h .some;
+  most = h .most;
+  p1 = placed-grid m (c .p1) (h .p1);
+  p2 = placed-grid m (c .p2) (h .p2);
+  p3 = placed-grid m (c .p3) (h .p3);
+}
+
+line-placed : (m : FixedMatrix) (e : Point) → Placed m e → CurvePlaced m (lineTo e)
+line-placed m e h = record { some = omega arith; most = omega arith; p1 = h; p2 = h; p3 = h }
+
+shaped-degree : (c : Curve) → Shaped c → (1 ≤ c .degree) × (c .degree ≤ 3)
+shaped-degree c (straight e) = (omega arith, omega arith)
+shaped-degree c (bent d e) = (omega arith, omega arith)
+shaped-degree c (twisted d e f) = (omega arith, omega arith)
 
 -- ---- an accepted path
--- every segment of it passes
-pub segments-pass : (m : FixedMatrix) (segments coordinates : List ℕ) (n : ℕ) → faultTo m segments coordinates n .code ≡ 0 → (i : ℕ) → i < n
-    → segmentCode m coordinates (walkTo segments coordinates i) (getD segments i 0) ≡ 0
-segments-pass m segments coordinates zero e i l = absurd (not-suc-le-zero l)
-segments-pass m segments coordinates (suc n) e i l =
-    let p = both-pass (faultTo m segments coordinates n) (faultAt (segmentCode m coordinates (walkTo segments coordinates n) (getD segments n 0)) n) e in
-    ⊎-elim (λ q. rw q (p .1)) (λ k. segments-pass m segments coordinates n (p .0) i k) (eq-or-lt-of-le (le-of-suc-le-suc l))
-  where
-    both-pass : (f g : PathFault) → orFault f g .code ≡ 0 → (f .code ≡ 0) × (g .code ≡ 0)
-    both-pass f g h =
-        either (eqb (f .code) 0)
-        (λ z. (eqb-true _ _ z, rw z at h))
-        (λ z. absurd (eqb-false _ _ z (rw z at h)))
+module _ (m : FixedMatrix) (ss cs : List ℕ) (limited : Limited m) where
+  accepted-to : (i n : ℕ) → i ≤ n → faultTo m ss cs n .code ≡ 0 → faultTo m ss cs i .code ≡ 0
+  accepted-to i n l e = let q : i + (n - i) ≡ n = omega arith in accepted-below m ss cs i (n - i) (ap (λ (k : ℕ). faultTo m ss cs k .code) q ∙ e)
 
-refused : (t : Bool) (a : ℕ) → cond t 0x1001 a ≡ 0 → a ≡ 0
-refused true a e = absurd (eqb-false 0x1001 0 refl e)
-refused false a e = e
+  -- the points of segment i
+  pub curve-placed : (i n : ℕ) → i < n → faultTo m ss cs n .code ≡ 0 → CurvePlaced m (curveAt cs (walkTo ss cs i) (getD ss i 0))
+  curve-placed i n l e =
+      let w = walkTo ss cs i in
+      let byte = getD ss i 0 in
+      let c = curveAt cs w byte in
+      let a = accepted m cs w byte (accepted-before m ss cs i (accepted-to (suc i) n l e) .1) in
+      let near = near-curve c (a .inRange) in
+      let g1 = onSurfaceGrid (transform m (c .p1)) in
+      let g2 = onSurfaceGrid (transform m (c .p2)) in
+      let g3 = onSurfaceGrid (transform m (c .p3)) in
+      let t = both-right g1 (g2 && g3) (a .onGrid) in
+      let d = shaped-degree c (points-shaped (w .pen) byte _) in
+      record {
+        some = d .0;
+        most = d .1;
+        p1 = record { near = near .p1; there = is-true g1 (both-left g1 (g2 && g3) (a .onGrid)) };
+        p2 = record { near = near .p2; there = is-true g2 (both-left g2 g3 t) };
+        p3 = record { near = near .p3; there = is-true g3 (both-right g2 g3 t) };
+      }
 
-on-grid : (m : FixedMatrix) (coordinates : List ℕ) (w : Walk) (byte : ℕ) → segmentCode m coordinates w byte ≡ 0 → curveOnGrid m (curveAt coordinates w byte) ≡ true
-unfolding segmentCode
-on-grid m coordinates w byte e =
-    last (refused (ltb (length coordinates) (2 * (w .used + coordinatesTaken byte))) _ (refused (leb 26 byte) _ (arc (isArc byte) _ e)))
-  where
-    arc : (t : Bool) (a : ℕ) → cond t 0x1005 a ≡ 0 → a ≡ 0
-    arc true a h = absurd (eqb-false 0x1005 0 refl h)
-    arc false a h = h
+  pub segment-supplied : (i n : ℕ) → i < n → faultTo m ss cs n .code ≡ 0 → Supplied cs (walkTo ss cs i) (getD ss i 0)
+  segment-supplied i n l e =
+      supplied m cs (walkTo ss cs i) (getD ss i 0) (accepted-ready m ss cs i (accepted-to i n (omega arith) e)) (accepted-before m ss cs i (accepted-to (suc i) n l e) .1)
 
-    last : _≡_ {A = ℕ} (cond (curveInRange (curveAt coordinates w byte) && curveOnGrid m (curveAt coordinates w byte)) 0 0x1001) 0 → curveOnGrid m (curveAt coordinates w byte) ≡ true
-    last h =
-        either (curveInRange (curveAt coordinates w byte) && curveOnGrid m (curveAt coordinates w byte))
-        (λ z. both (curveInRange (curveAt coordinates w byte)) (curveOnGrid m (curveAt coordinates w byte)) z .1)
-        (λ z. absurd (eqb-false 0x1001 0 refl (rw z at h)))
-
-module _ (m : FixedMatrix) (segments coordinates : List ℕ) (start : Near (transform m origin)) where
-  curve-near : (w : Walk) (byte : ℕ) → segmentCode m coordinates w byte ≡ 0
-      → Near (transform m (curveAt coordinates w byte .p1)) × (Near (transform m (curveAt coordinates w byte .p2)) × Near (transform m (curveAt coordinates w byte .p3)))
-  curve-near w byte e =
-      let c = curveAt coordinates w byte in
-      let p = both (onSurfaceGrid (transform m (c .p1))) (onSurfaceGrid (transform m (c .p2)) && onSurfaceGrid (transform m (c .p3))) (on-grid m coordinates w byte e) in
-      let q = both (onSurfaceGrid (transform m (c .p2))) (onSurfaceGrid (transform m (c .p3))) (p .1) in
-      (near-grid (transform m (c .p1)) (p .0), (near-grid (transform m (c .p2)) (q .0), near-grid (transform m (c .p3)) (q .1)))
-
-  -- start and current point of the pen stay on the grid
-  pub pen-near : (n : ℕ) → ((i : ℕ) → i < n → segmentCode m coordinates (walkTo segments coordinates i) (getD segments i 0) ≡ 0)
-      → Near (transform m (walkTo segments coordinates n .pen .start)) × Near (transform m (walkTo segments coordinates n .pen .current))
+  -- the pen before it
+  pub pen-placed : (i n : ℕ) → i ≤ n → faultTo m ss cs n .code ≡ 0 → PenPlaced m (walkTo ss cs i .pen)
   unfolding penAfter
-  pen-near zero h = (start, start)
-  pen-near (suc n) h =
-      let w = walkTo segments coordinates n in
-      let p = pen-near n (λ i l. h i (omega arith)) in
-      let e = curve-near w (getD segments n 0) (h n (omega arith)) .1 .1 in
-      (by (eqb (number (getD segments n 0)) 2) (p .0) e, e)
+  pen-placed zero n l e =
+      let h = accepted-ready m ss cs 0 refl .held in
+      record { start = record { near = h .start; there = origin-there m limited }; current = record { near = h .current; there = origin-there m limited } }
+  pen-placed (suc i) n l e =
+      let c = curve-placed i n l e in
+      record { start = by (eqb (number (getD ss i 0)) 2) (pen-placed i n (omega arith) e .start) (c .p3); current = c .p3 }
     where
-      by : (t : Bool) → Near (transform m (walkTo segments coordinates n .pen .start)) → Near (transform m (curveAt coordinates (walkTo segments coordinates n) (getD segments n 0) .p3))
-          → Near (transform m (cond t (curveAt coordinates (walkTo segments coordinates n) (getD segments n 0) .p3) (walkTo segments coordinates n .pen .start)))
-      by true a b = b
-      by false a b = a
+      by : (t : Bool) {a b : Point} → Placed m a → Placed m b → Placed m (cond t b a)
+      by true h k = k
+      by false h k = h
 
-  -- a segment's edges
-  pub segment-small : (n : ℕ) → ((i : ℕ) → i < suc n → segmentCode m coordinates (walkTo segments coordinates i) (getD segments i 0) ≡ 0)
-      → Every Small (segmentEdges m coordinates (walkTo segments coordinates n) (getD segments n 0))
-  segment-small n h =
-      let w = walkTo segments coordinates n in
-      let byte = getD segments n 0 in
-      let c = curveAt coordinates w byte in
-      let p = pen-near n (λ i l. h i (omega arith)) in
-      let q = curve-near w byte (h n (omega arith)) in
-      by (leb (number byte) 2) (p .0) (p .1) (q .0) (q .1 .0) (q .1 .1)
+  drawn-placed : (i n : ℕ) → i < n → faultTo m ss cs n .code ≡ 0
+      → CurvePlaced m (drawnBy (walkTo ss cs i .pen) (getD ss i 0) (curveAt cs (walkTo ss cs i) (getD ss i 0)))
+  drawn-placed i n l e = by (leb (number (getD ss i 0)) 2) (line-placed m _ (pen-placed i n (omega arith) e .start)) (curve-placed i n l e)
     where
-      w′ : Walk
-      w′ = walkTo segments coordinates n
+      by : (t : Bool) {a b : Curve} → CurvePlaced m a → CurvePlaced m b → CurvePlaced m (cond t a b)
+      by true h k = h
+      by false h k = k
 
-      c′ : Curve
-      c′ = curveAt coordinates w′ (getD segments n 0)
-
-      by : (t : Bool) → Near (transform m (w′ .pen .start)) → Near (transform m (w′ .pen .current)) → Near (transform m (c′ .p1)) → Near (transform m (c′ .p2)) → Near (transform m (c′ .p3))
-          → Every Small (curveEdges (transform m (w′ .pen .current)) (transformCurve m (cond t (lineTo (w′ .pen .start)) c′)))
-      by true s o f g e = curve-small m (transform m (w′ .pen .current)) o (lineTo (w′ .pen .start)) (straight (w′ .pen .start)) s s s
-      by false s o f g e = curve-small m (transform m (w′ .pen .current)) o c′ (points-shaped (w′ .pen) (getD segments n 0) _) f g e
-
-  pub path-small : (n : ℕ) → faultTo m segments coordinates n .code ≡ 0 → Every Small (pathEdges m segments coordinates n)
+  pub path-small : (n : ℕ) → faultTo m ss cs n .code ≡ 0 → Every Small (pathEdges m ss cs n)
   unfolding pathEdges
   path-small n e =
-      let pass = segments-pass m segments coordinates n e in
-      let pen = walkTo segments coordinates n .pen in
-      let p = pen-near n pass in
+      let pen = walkTo ss cs n .pen in
+      let p = pen-placed n n (omega arith) e in
       every-append
-      (every-upto n _ (λ k l. segment-small k (λ i j. pass i (omega arith))))
-      (curve-small m (transform m (pen .current)) (p .1) (lineTo (pen .start)) (straight (pen .start)) (p .0) (p .0) (p .0))
+      (every-upto n _ (λ i l. curve-small _ _ (placed-grid m _ (pen-placed i n (omega arith) e .current)) (curve-drawable m _ (drawn-placed i n l e))))
+      (curve-small _ _ (placed-grid m (pen .current) (p .current)) (curve-drawable m (lineTo (pen .start)) (line-placed m (pen .start) (p .start))))

@@ -1,14 +1,13 @@
 -- Edges stored in a run of numbers: they are read back, and nothing else changes.
-use mathlib.Core.Path.{_≡_, refl, sym, ap, ap₂, _∙_}
+use mathlib.Core.Path.{_≡_, refl, sym, ap, _∙_}
 use mathlib.Core.List.{List, [], _∷_, _++_}
 use mathlib.Core.Bool.{true, false, _&&_}
 use Prim.Native.Nat.{ℕ, zero, suc, _+_, _*_, _≤_, _<_}
 use native.Mathlib.Nat.{not-suc-le-zero, suc-add, add-suc, add-zero}
 use native.Mathlib.Omega.{arith}
-use lib.ListN.{getD, set, length, take, drop, length-append, length-set}
+use lib.ListN.{getD, set, length, drop, length-append, length-set}
 use lib.IntN.{ℤ, pos}
 use lib.Seq.{drop-set-lt}
-use Rattle.lists.specs.Lists.{tab}
 use Rattle.lists.proofs.Laws.{four-before, four-each, tab-ext}
 use Rattle.path.specs.declared.Point.{Point}
 use Rattle.path.specs.declared.Edge.{Edge}
@@ -46,15 +45,20 @@ pub puts-length : (es : List Edge) (l : List ℤ) (i : ℕ) → length (putEdges
 puts-length [] l i = refl
 puts-length (e ∷ es) l i = puts-length es (putEdge l i e) (suc i) ∙ put-length l i e
 
-pub puts-append : (es fs : List Edge) (l : List ℤ) (i : ℕ) → putEdges l i (es ++ fs) ≡ putEdges (putEdges l i es) (i + length es) fs
+puts-append : (es fs : List Edge) (l : List ℤ) (i : ℕ) → putEdges l i (es ++ fs) ≡ putEdges (putEdges l i es) (i + length es) fs
 puts-append [] fs l i = rw (add-zero i)
 puts-append (e ∷ es) fs l i = puts-append es fs (putEdge l i e) (suc i) ∙ ap (λ (n : ℕ). putEdges (putEdges (putEdge l i e) (suc i) es) n fs) (suc-add i (length es) ∙ sym (add-suc i (length es)))
 
+-- said in another way
+pub puts-same : {es fs : List Edge} {q : List ℤ} {r : ℕ} (l : List ℤ) (n : ℕ) → es ≡ fs → (q ≡ putEdges l n es) × (r ≡ n + length es)
+    → (q ≡ putEdges l n fs) × (r ≡ n + length fs)
+puts-same l n e h = (h .0 ∙ ap (putEdges l n) e, h .1 ∙ ap (λ (gs : List Edge). n + length gs) e)
+
 -- fs after es
-pub puts-more : (es fs : List Edge) (l p q : List ℤ) (n i j : ℕ) → p ≡ putEdges l n es → i ≡ n + length es → q ≡ putEdges p i fs → j ≡ i + length fs
-    → (q ≡ putEdges l n (es ++ fs)) × (j ≡ n + length (es ++ fs))
-puts-more es fs l p q n i j d e f g =
-    (f ∙ rw (d, e) (sym (puts-append es fs l n)), g ∙ rw (e, length-append es fs) (omega arith))
+pub puts-more : (es fs : List Edge) {gs : List Edge} {p q : List ℤ} {i j : ℕ} (l : List ℤ) (n : ℕ) → es ++ fs ≡ gs
+    → (p ≡ putEdges l n es) × (i ≡ n + length es) → (q ≡ putEdges p i fs) × (j ≡ i + length fs) → (q ≡ putEdges l n gs) × (j ≡ n + length gs)
+puts-more es fs {q = q} {j = j} l n e h k =
+    puts-same l n e (k .0 ∙ rw (h .0, h .1) (sym (puts-append es fs l n)), k .1 ∙ rw (h .1, length-append es fs) (omega arith))
 
 puts-kept : (es : List Edge) (l : List ℤ) (i k : ℕ) → k < i → edgeAt (putEdges l i es) k ≡ edgeAt l k
 puts-kept [] l i k h = refl

@@ -1,11 +1,16 @@
 -- What the functions of this crate ask of their arguments, so that no step overflows, and the parts of a cut point. A reviewer of the
 -- paper need not read it.
-use Prim.Native.Nat.{ℕ, _+_, _-_, _*_, _/_, _^_, _≤_}
+use Prim.Native.Nat.{ℕ, _+_, _*_, _/_, _^_, _≤_}
 use mathlib.Core.Path.{_≡_}
+use mathlib.Core.Bool.{true}
 use lib.IntN.{ℤ, pos, natAbs, _+ℤ_, _*ℤ_}
 use Rattle.fixed.specs.Floor.{floorDiv}
+use Rattle.path.specs.declared.FixedMatrix.{FixedMatrix}
 use Rattle.path.specs.declared.Point.{Point}
+use Rattle.path.specs.declared.Pen.{Pen}
 use Rattle.path.specs.declared.Curve.{Curve}
+use Rattle.path.specs.Matrices.{transform, onSurfaceGrid}
+use Rattle.path.specs.Limits.{Near}
 use Rattle.path.specs.Curves.{weight}
 use Rattle.outline.specs.declared.Weights.{Weights}
 
@@ -21,6 +26,22 @@ pub record Drawable (c : Curve) : Type 0 where
   pub p1 : OnGrid (c .p1)
   pub p2 : OnGrid (c .p2)
   pub p3 : OnGrid (c .p3)
+
+-- ---- points of a path that the matrix takes to such points
+pub record Placed (m : FixedMatrix) (p : Point) : Type 0 where
+  pub near : Near p
+  pub there : onSurfaceGrid (transform m p) ≡ true
+
+pub record PenPlaced (m : FixedMatrix) (pen : Pen) : Type 0 where
+  pub start : Placed m (pen .start)
+  pub current : Placed m (pen .current)
+
+pub record CurvePlaced (m : FixedMatrix) (c : Curve) : Type 0 where
+  pub some : 1 ≤ c .degree
+  pub most : c .degree ≤ 3
+  pub p1 : Placed m (c .p1)
+  pub p2 : Placed m (c .p2)
+  pub p3 : Placed m (c .p3)
 
 -- ---- a cut point
 abbrev pub weightsOf : ℕ → ℕ → Weights

@@ -1,6 +1,7 @@
 // Outlines: the edges of a path, written to a lent run of numbers, and their bounds.
 pub mod bounds;
 pub mod curve;
+pub mod flatten;
 pub mod store;
 
 // The weights of a curve's four points, over 16 to the power of its degree.

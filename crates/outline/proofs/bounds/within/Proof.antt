@@ -1,12 +1,11 @@
 -- `outline::bounds::within` meets its contract.
-use mathlib.Core.Path.{_≡_, sym, ap, _∙_}
+use mathlib.Core.Path.{_≡_}
 use mathlib.Core.Bool.{false}
 use Prim.Native.Nat.{_≤_, _<_}
 use native.Mathlib.Nat.{min-eq-left, min-eq-right}
 use native.Mathlib.Omega.{arith}
 use lib.IntN.{pos, natAbs}
 use lib.Signed.{leZ}
-use mir.Syntax.{w32}
 use mir.Facts.{toZ-ofZ}
 use Rattle.fixed.proofs.Within.{of-fits}
 use Rattle.outline.proofs.Outermost.{above-zero, within-none, within-some}

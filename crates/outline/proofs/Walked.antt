@@ -1,0 +1,55 @@
+-- One segment more: what it draws, the walk after it and the edges so far.
+use mathlib.Core.Path.{_≡_, refl, sym, ap, ap₂, _∙_}
+use mathlib.Core.List.{List, _++_}
+use Prim.Native.Nat.{ℕ, _+_, _≤_, _<_}
+use native.Mathlib.Numerals.{add-one}
+use native.Mathlib.Omega.{arith}
+use lib.ListN.{getD}
+use borrow.Author.Tests.{le-leb, lt-leb}
+use Rattle.lists.proofs.Laws.{upto-more}
+use Rattle.path.specs.declared.FixedMatrix.{FixedMatrix}
+use Rattle.path.specs.declared.Point.{Point}
+use Rattle.path.specs.declared.Pen.{Pen}
+use Rattle.path.specs.declared.Curve.{Curve}
+use Rattle.path.specs.declared.Walk.{Walk}
+use Rattle.path.specs.declared.Traced.{Traced}
+use Rattle.path.specs.Matrices.{transform}
+use Rattle.path.specs.Segments.{lineTo, number, drawnBy, walkOn, walkTo, curveAt}
+use Rattle.path.specs.Curves.{edgeBetween, curveEdges, transformCurve, drawnEdges, edgesTo, pathEdges}
+use Rattle.path.specs.Answers.{tracedBy}
+use Rattle.outline.proofs.Counts.{curve-line}
+
+-- ---- what a segment draws
+module _ (m : FixedMatrix) (pen : Pen) where
+  pub closing-edge : (p q : Point) → p ≡ transform m (pen .current) → q ≡ transform m (pen .start) → edgeBetween p q ≡ drawnEdges m pen (lineTo (pen .start))
+  closing-edge p q e f = ap₂ edgeBetween e f ∙ sym (curve-line (transform m (pen .current)) (transformCurve m (lineTo (pen .start))) refl)
+
+  -- bytes 0 to 3 are close and move
+  pub drawn-closing : (byte : ℕ) (c : Curve) → byte < 4 → drawnEdges m pen (lineTo (pen .start)) ≡ drawnEdges m pen (drawnBy pen byte c)
+  drawn-closing byte c h = rw (le-leb (number byte) 2 (omega arith))
+
+  pub drawn-curve : (byte : ℕ) (c : Curve) (p : Point) (d : Curve) → 4 ≤ byte → p ≡ transform m (pen .current) → d ≡ transformCurve m c
+      → curveEdges p d ≡ drawnEdges m pen (drawnBy pen byte c)
+  drawn-curve byte c p d h e f = ap₂ curveEdges e f ∙ rw (lt-leb (number byte) 2 (omega arith))
+
+-- ---- the walk, and the edges so far
+module _ (m : FixedMatrix) (ss cs : List ℕ) (i : ℕ) (w : Walk) (at : w ≡ walkTo ss cs i) where
+  module _ (t : Traced) (e : t ≡ tracedBy cs w (getD ss i 0)) where
+    pub traced-curve : t .curve ≡ curveAt cs (walkTo ss cs i) (getD ss i 0)
+    unfolding tracedBy
+    traced-curve = ap (λ (u : Traced). u .curve) e ∙ ap (λ (v : Walk). curveAt cs v (getD ss i 0)) at
+
+    pub traced-walk : t .walk ≡ walkTo ss cs (i + 1)
+    unfolding tracedBy
+    traced-walk = ap (λ (u : Traced). u .walk) e ∙ ap (λ (v : Walk). walkOn cs v (getD ss i 0)) at ∙ ap (walkTo ss cs) (sym (add-one i))
+
+    pub edges-more : edgesTo m ss cs i ++ drawnEdges m (w .pen) (drawnBy (w .pen) (getD ss i 0) (t .curve)) ≡ edgesTo m ss cs (i + 1)
+    edges-more =
+        ap₂ (λ (v : Walk) (c : Curve). edgesTo m ss cs i ++ drawnEdges m (v .pen) (drawnBy (v .pen) (getD ss i 0) c)) at traced-curve
+        ∙ sym (upto-more i _)
+
+  pub edges-all : (n : ℕ) → i ≡ n → edgesTo m ss cs i ++ drawnEdges m (w .pen) (lineTo (w .pen .start)) ≡ pathEdges m ss cs n
+  unfolding pathEdges
+  edges-all n e =
+      ap (λ (v : Walk). edgesTo m ss cs i ++ drawnEdges m (v .pen) (lineTo (v .pen .start))) at
+      ∙ ap (λ (k : ℕ). edgesTo m ss cs k ++ drawnEdges m (walkTo ss cs k .pen) (lineTo (walkTo ss cs k .pen .start))) e
