@@ -3,4 +3,5 @@ pub mod Layout
 pub mod Blocks
 pub mod Header
 pub mod Fields
+pub mod Faults
 pub mod Rules

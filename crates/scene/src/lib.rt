@@ -1,4 +1,10 @@
 // The scene file: its blocks, its rules in their order, and its fields.
+pub mod blocks;
+pub mod faults;
+pub mod fields;
+pub mod header;
+pub mod layout;
+pub mod rules;
 
 // The two sums of a block's check.
 pub struct Checksum {
@@ -6,8 +12,8 @@ pub struct Checksum {
     pub weighted: u16,
 }
 
-// A draw's first fault: its code, 0 for none, and the place in the draw's bytes that the rules met.
-pub struct DrawFault {
+// The first fault among fields: its code, 0 for none, and the place that the rules met, in the bytes that are judged.
+pub struct FieldFault {
     pub code: u16,
     pub place: usize,
 }

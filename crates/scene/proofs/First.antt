@@ -1,0 +1,55 @@
+-- The first fault of several: a turn of a loop that meets none, and one that meets it.
+use mathlib.Core.Path.{_≡_, refl, sym, ap, _∙_}
+use mathlib.Core.Bool.{Bool, true, false}
+use mathlib.Core.Logic.{⊎-elim}
+use mathlib.Core.List.{List}
+use Prim.Native.Nat.{ℕ, zero, suc, _+_, _-_, _≤_, _<_}
+use native.Mathlib.Nat.{eq-or-lt-of-le, le-of-suc-le-suc, not-suc-le-zero}
+use native.Mathlib.Numerals.{add-one}
+use native.Mathlib.Omega.{arith}
+use lib.ListN.{getD}
+use lib.Dec.{eqb}
+use borrow.Author.Tests.{eq-eqb, ne-eqb, eqb-false}
+use Rattle.scene.specs.Faults.{soonest, fine, firstOf, must, unused}
+
+module _ {A : Type 0} (code : A → ℕ) (none : A) (calm : code none ≡ 0) (f : ℕ → A) where
+  pub first-turn : (n : ℕ) → soonest code none n f ≡ none → f n ≡ none → soonest code none (n + 1) f ≡ none
+  first-turn n h e = rw (add-one, h, calm, e)
+
+  pub first-hit : (n m : ℕ) → n < m → soonest code none n f ≡ none → (code (f n) ≡ 0 → ⊥) → soonest code none m f ≡ f n
+  first-hit n zero l h b = absurd (not-suc-le-zero l)
+  first-hit n (suc m) l h b =
+      ⊎-elim (λ e. rw (← e, h, calm)) (λ k. rw (first-hit n m k h b, ne-eqb (code (f n)) 0 b)) (eq-or-lt-of-le (le-of-suc-le-suc l))
+
+-- rules on fields: t i must hold at the place p i
+module _ (t : ℕ → Bool) (p : ℕ → ℕ) where
+  pub rules-turn : (n : ℕ) → firstOf n (λ i. must (t i) (p i)) ≡ fine → t n ≡ true → firstOf (n + 1) (λ i. must (t i) (p i)) ≡ fine
+  rules-turn n h e = first-turn (λ f. f .code) fine refl (λ i. must (t i) (p i)) n h (rw e)
+
+  pub rules-hit : (n m : ℕ) → n < m → firstOf n (λ i. must (t i) (p i)) ≡ fine → t n ≡ false → firstOf m (λ i. must (t i) (p i)) ≡ must false (p n)
+  rules-hit n m l h e =
+      first-hit (λ f. f .code) fine refl (λ i. must (t i) (p i)) n m l h (rw e (eqb-false 0x1001 0 refl)) ∙ rw e
+
+-- zero bytes: the loop stands at a place of its own
+module _ (d : List ℕ) (from to at : ℕ) (begun : from ≤ at) where
+  abbrev clear : ℕ → Bool
+  clear i = eqb (getD d (from + i) 0) 0
+
+  here : from + (at - from) ≡ at
+  here = omega arith
+
+  pub unused-turn : unused d from at ≡ fine → getD d at 0 ≡ 0 → unused d from (at + 1) ≡ fine
+  unused-turn h z =
+      let e : at + 1 - from ≡ at - from + 1 = omega arith in
+      rw e (rules-turn clear (λ i. from + i) (at - from) h (eq-eqb (getD d (from + (at - from)) 0) 0 (rw here z)))
+
+  pub unused-hit : at < to → unused d from at ≡ fine → (getD d at 0 ≡ 0 → ⊥) → unused d from to ≡ must false at
+  unused-hit l h z =
+      rules-hit clear (λ i. from + i) (at - from) (to - from) (omega arith) h (ne-eqb (getD d (from + (at - from)) 0) 0 (rw here z)) ∙ rw here
+
+pub unused-none : (d : List ℕ) (from : ℕ) → unused d from from ≡ fine
+unused-none d from = let e : from - from ≡ 0 = omega arith in rw e
+
+-- the loop is past the end
+pub unused-end : (d : List ℕ) (from to at : ℕ) → at - from ≤ to - from → to ≤ at → unused d from at ≡ fine → unused d from to ≡ fine
+unused-end d from to at h l o = let e : to - from ≡ at - from = omega arith in rw e o

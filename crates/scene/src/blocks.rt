@@ -1,0 +1,93 @@
+// Blocks: their check, and the bytes of a draw.
+use crate::Checksum;
+use crate::layout::BLOCK_BYTES;
+use crate::layout::CHECK_MODULUS;
+use crate::layout::DRAW_BLOCKS;
+use crate::layout::DRAW_BYTES;
+use crate::layout::PAYLOAD_BYTES;
+use crate::layout::PAYLOAD_WORDS;
+use fixed::u16_at;
+ghost use mathlib.Core.Path.{_≡_};
+ghost use Prim.Native.Nat.{_+_, _*_, _<_, _≤_};
+ghost use lib.ListN.{length, take, drop};
+ghost use Rattle.scene.specs.Layout.{blockBytes, payloadBytes, drawBytes};
+ghost use Rattle.scene.specs.Blocks.{checksumOf, blockRight, blockOf, drawOf, sameDraw};
+
+// The check of the payload at a place; both sums begin at start.
+pub fn checksum(start: u32, s: &[u8], at: usize) -> Checksum
+    requires { ⌜ (start < 65536) × (at + payloadBytes ≤ length (now s)) ⌝ }
+    ensures { λ r. ⌜ r ≡ checksumOf start (now (s .entry)) at ⌝ }
+{
+    let mut plain = start;
+    let mut weighted = start;
+    let mut place = at;
+    let mut i: u32 = 0;
+    while i < PAYLOAD_WORDS {
+        let word = u16_at(s, place);
+        i += 1;
+        plain += word;
+        weighted += i * word;
+        place += 2;
+    }
+    Checksum {
+        plain: (plain % CHECK_MODULUS) as u16,
+        weighted: (weighted % CHECK_MODULUS) as u16,
+    }
+}
+
+// Whether block b has the check that its payload asks for.
+pub fn block_right(s: &[u8], b: usize) -> bool
+    requires { ⌜ blockBytes * b + blockBytes ≤ length (now s) ⌝ }
+    ensures { λ r. ⌜ r ≡ blockRight (now (s .entry)) b ⌝ }
+{
+    let at = BLOCK_BYTES * b;
+    let sum = checksum(0, s, at);
+    u16_at(s, at + PAYLOAD_BYTES) == sum.plain as u32
+        && u16_at(s, at + PAYLOAD_BYTES + 2) == sum.weighted as u32
+}
+
+// The joined payloads of draw i.
+pub fn read_draw(s: &[u8], i: usize, out: &mut [u8])
+    requires { ⌜ blockBytes * blockOf (i + 1) ≤ length (now s) ⌝ }
+    requires { ⌜ length (now out) ≡ drawBytes ⌝ }
+    ensures { λ _. ⌜ now (out .exit) ≡ drawOf (now (s .entry)) i ⌝ }
+{
+    let first = 1 + DRAW_BLOCKS * i;
+    let mut j = 0;
+    while j < DRAW_BLOCKS {
+        let at = PAYLOAD_BYTES * j;
+        copy(
+            s,
+            BLOCK_BYTES * (first + j),
+            &mut out[at..at + PAYLOAD_BYTES],
+        );
+        j += 1;
+    }
+}
+
+// The bytes from a place on, as many as out takes.
+fn copy(s: &[u8], at: usize, out: &mut [u8])
+    requires { ⌜ at + length (now out) ≤ length (now s) ⌝ }
+    ensures { λ _. ⌜ now (out .exit) ≡ take (length (now (out .entry))) (drop at (now (s .entry))) ⌝ }
+{
+    let mut i = 0;
+    while i < out.len() {
+        out[i] = s[at + i];
+        i += 1;
+    }
+}
+
+// Whether the bytes of two draws are the same.
+pub fn same_draw(a: &[u8], b: &[u8]) -> bool
+    requires { ⌜ (length (now a) ≡ drawBytes) × (length (now b) ≡ drawBytes) ⌝ }
+    ensures { λ r. ⌜ r ≡ sameDraw (now (a .entry)) (now (b .entry)) ⌝ }
+{
+    let mut i = 0;
+    while i < DRAW_BYTES {
+        if a[i] != b[i] {
+            return false;
+        }
+        i += 1;
+    }
+    true
+}

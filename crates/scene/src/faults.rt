@@ -1,0 +1,89 @@
+// Faults among fields: which comes first, and the rules that go over many places.
+//
+// Without its sign bit, a float's bit pattern grows with its size: at most 2^log is at most the pattern (127 + log) 2^23, and a NaN's is
+// above that of infinity.
+use crate::FieldFault;
+use crate::layout::ILLEGAL_ARGUMENT;
+use fixed::u32_at;
+ghost use mathlib.Core.Path.{_≡_};
+ghost use Prim.Native.Nat.{_+_, _*_, _^_, _≤_};
+ghost use lib.ListN.{length};
+ghost use Rattle.scene.specs.Faults as Faults;
+ghost use Rattle.scene.specs.Faults.{orElse};
+
+const SIGN: u32 = 0x80000000;
+
+const INFINITY: u32 = 0x7F800000;
+
+const EXPONENT_BIAS: u32 = 127;
+
+const EXPONENT_ONE: u32 = 0x800000;
+
+// A rule: a place that must be as the paper says.
+pub fn must(ok: bool, place: usize) -> FieldFault
+    ensures { λ r. ⌜ r ≡ Faults.must ok place ⌝ }
+{
+    if ok {
+        FieldFault { code: 0, place: 0 }
+    } else {
+        FieldFault {
+            code: ILLEGAL_ARGUMENT,
+            place,
+        }
+    }
+}
+
+// The first of two.
+pub fn or_else(f: FieldFault, g: FieldFault) -> FieldFault
+    ensures { λ r. ⌜ r ≡ orElse f g ⌝ }
+{
+    if f.code == 0 { g } else { f }
+}
+
+// Every byte from a place up to another is zero.
+pub fn unused(d: &[u8], from: usize, to: usize) -> FieldFault
+    requires { ⌜ to ≤ length (now d) ⌝ }
+    ensures { λ r. ⌜ r ≡ Faults.unused (now (d .entry)) from to ⌝ }
+{
+    let mut at = from;
+    while at < to {
+        if d[at] != 0 {
+            return must(false, at);
+        }
+        at += 1;
+    }
+    must(true, 0)
+}
+
+// n floats from a place on are at most 2^log in size.
+pub fn limited(d: &[u8], log: u32, at: usize, n: usize) -> FieldFault
+    requires { ⌜ (log ≤ 15) × (at + 4 * n ≤ length (now d)) ⌝ }
+    ensures { λ r. ⌜ r ≡ Faults.limited (now (d .entry)) (2 ^ log) at n ⌝ }
+{
+    let limit = (EXPONENT_BIAS + log) * EXPONENT_ONE;
+    let mut i = 0;
+    while i < n {
+        let place = at + 4 * i;
+        if limit < u32_at(d, place) % SIGN {
+            return must(false, place);
+        }
+        i += 1;
+    }
+    must(true, 0)
+}
+
+// n floats from a place on are no NaNs.
+pub fn numbers(d: &[u8], at: usize, n: usize) -> FieldFault
+    requires { ⌜ at + 4 * n ≤ length (now d) ⌝ }
+    ensures { λ r. ⌜ r ≡ Faults.numbers (now (d .entry)) at n ⌝ }
+{
+    let mut i = 0;
+    while i < n {
+        let place = at + 4 * i;
+        if INFINITY < u32_at(d, place) % SIGN {
+            return must(false, place);
+        }
+        i += 1;
+    }
+    must(true, 0)
+}

@@ -1,0 +1,216 @@
+// A draw's fields, of its 2,032 bytes.
+use crate::layout::BLEND_AT;
+use crate::layout::COLOR_AT;
+use crate::layout::COORDINATES_AT;
+use crate::layout::DRAW_BYTES;
+use crate::layout::FLAGS_AT;
+use crate::layout::LINEAR_AT;
+use crate::layout::MATRIX_AT;
+use crate::layout::PAINT_LINEAR;
+use crate::layout::PAINT_TYPE_AT;
+use crate::layout::SCISSORS_AT;
+use crate::layout::SCISSOR_COUNT_AT;
+use crate::layout::SEGMENTS_AT;
+use crate::layout::SEGMENT_COUNT_AT;
+use crate::layout::SPREAD_AT;
+use crate::layout::STOPS_AT;
+use crate::layout::STOP_COUNT_AT;
+use crate::layout::TRANSLATION_AT;
+use color::Color;
+use fixed::Real;
+use fixed::f32_at;
+use fixed::u16_at;
+use paint::LinearPoints;
+use paint::Paint;
+use path::Matrix;
+ghost use mathlib.Core.Path.{_≡_};
+ghost use Prim.Native.Nat.{_+_, _≤_, _<_};
+ghost use lib.ListN.{length};
+ghost use lib.Ieee.{nan};
+ghost use Rattle.fixed.specs.Floats.{f32At};
+ghost use Rattle.scene.specs.Layout.{drawBytes};
+ghost use Rattle.scene.specs.Fields as Fields;
+ghost use Rattle.scene.specs.Fields.{flagsOf, bit, nonZeroRule, rampPremultiplied, blendOf, paintTypeOf, spreadOf, segmentCount, scissorCount, stopCount};
+ghost use Rattle.scene.specs.Fields.{matrixOf, colorOf, linearOf, paintOf, scissorsOf, stopsOf, segmentsOf, coordinatesOf};
+
+// Whether the fill rule is non-zero; else it is even-odd.
+pub fn non_zero_rule(d: &[u8]) -> bool
+    requires { ⌜ length (now d) ≡ drawBytes ⌝ }
+    ensures { λ r. ⌜ r ≡ nonZeroRule (now (d .entry)) ⌝ }
+{
+    flag(d, 0)
+}
+
+// Whether scissoring is on.
+pub fn scissoring(d: &[u8]) -> bool
+    requires { ⌜ length (now d) ≡ drawBytes ⌝ }
+    ensures { λ r. ⌜ r ≡ Fields.scissoring (now (d .entry)) ⌝ }
+{
+    flag(d, 1)
+}
+
+// Whether the ramp's stops are premultiplied before interpolation.
+pub fn ramp_premultiplied(d: &[u8]) -> bool
+    requires { ⌜ length (now d) ≡ drawBytes ⌝ }
+    ensures { λ r. ⌜ r ≡ rampPremultiplied (now (d .entry)) ⌝ }
+{
+    flag(d, 2)
+}
+
+// Whether bit n of the flags is set.
+fn flag(d: &[u8], n: u32) -> bool
+    requires { ⌜ (length (now d) ≡ drawBytes) × (n < 16) ⌝ }
+    ensures { λ r. ⌜ r ≡ bit n (flagsOf (now (d .entry))) ⌝ }
+{
+    (u16_at(d, FLAGS_AT) >> n) & 1 == 1
+}
+
+pub fn blend_mode(d: &[u8]) -> u16
+    requires { ⌜ length (now d) ≡ drawBytes ⌝ }
+    ensures { λ r. ⌜ r ≡ blendOf (now (d .entry)) ⌝ }
+{
+    u16_at(d, BLEND_AT) as u16
+}
+
+pub fn paint_type(d: &[u8]) -> u32
+    requires { ⌜ length (now d) ≡ drawBytes ⌝ }
+    ensures { λ r. ⌜ r ≡ paintTypeOf (now (d .entry)) ⌝ }
+{
+    u16_at(d, PAINT_TYPE_AT)
+}
+
+pub fn spread(d: &[u8]) -> u32
+    requires { ⌜ length (now d) ≡ drawBytes ⌝ }
+    ensures { λ r. ⌜ r ≡ spreadOf (now (d .entry)) ⌝ }
+{
+    u16_at(d, SPREAD_AT)
+}
+
+pub fn segment_count(d: &[u8]) -> usize
+    requires { ⌜ length (now d) ≡ drawBytes ⌝ }
+    ensures { λ r. ⌜ (r ≡ segmentCount (now (d .entry))) × (r < 256) ⌝ }
+{
+    wide(d[SEGMENT_COUNT_AT])
+}
+
+pub fn scissor_count(d: &[u8]) -> usize
+    requires { ⌜ length (now d) ≡ drawBytes ⌝ }
+    ensures { λ r. ⌜ (r ≡ scissorCount (now (d .entry))) × (r < 256) ⌝ }
+{
+    wide(d[SCISSOR_COUNT_AT])
+}
+
+pub fn stop_count(d: &[u8]) -> usize
+    requires { ⌜ length (now d) ≡ drawBytes ⌝ }
+    ensures { λ r. ⌜ (r ≡ stopCount (now (d .entry))) × (r < 256) ⌝ }
+{
+    wide(d[STOP_COUNT_AT])
+}
+
+fn wide(b: u8) -> usize
+    ensures { λ r. ⌜ (r ≡ b) × (r < 256) ⌝ }
+{
+    b as usize
+}
+
+// The matrix before conversion.
+pub fn matrix(d: &[u8]) -> Matrix
+    requires { ⌜ length (now d) ≡ drawBytes ⌝ }
+    ensures { λ r. ⌜ r ≡ matrixOf (now (d .entry)) ⌝ }
+{
+    Matrix {
+        sx: float_at(d, MATRIX_AT),
+        shy: float_at(d, MATRIX_AT + 4),
+        shx: float_at(d, MATRIX_AT + 8),
+        sy: float_at(d, MATRIX_AT + 12),
+        tx: float_at(d, TRANSLATION_AT),
+        ty: float_at(d, TRANSLATION_AT + 4),
+    }
+}
+
+// What the draw paints with.
+pub fn paint(d: &[u8]) -> Paint
+    requires { ⌜ length (now d) ≡ drawBytes ⌝ }
+    ensures { λ r. ⌜ r ≡ paintOf (now (d .entry)) ⌝ }
+{
+    if paint_type(d) == PAINT_LINEAR {
+        Paint::Linear(linear_points(d))
+    } else {
+        Paint::Solid(color(d))
+    }
+}
+
+fn color(d: &[u8]) -> Color
+    requires { ⌜ length (now d) ≡ drawBytes ⌝ }
+    ensures { λ r. ⌜ r ≡ colorOf (now (d .entry)) ⌝ }
+{
+    Color {
+        r: float_at(d, COLOR_AT),
+        g: float_at(d, COLOR_AT + 4),
+        b: float_at(d, COLOR_AT + 8),
+        a: float_at(d, COLOR_AT + 12),
+    }
+}
+
+fn linear_points(d: &[u8]) -> LinearPoints
+    requires { ⌜ length (now d) ≡ drawBytes ⌝ }
+    ensures { λ r. ⌜ r ≡ linearOf (now (d .entry)) ⌝ }
+{
+    LinearPoints {
+        x0: float_at(d, LINEAR_AT),
+        y0: float_at(d, LINEAR_AT + 4),
+        x1: float_at(d, LINEAR_AT + 8),
+        y1: float_at(d, LINEAR_AT + 12),
+    }
+}
+
+// The float at a place, NaN for each of the patterns that are.
+fn float_at(d: &[u8], at: usize) -> f32
+    requires { ⌜ at + 4 ≤ length (now d) ⌝ }
+    ensures { λ r. ⌜ r ≡ f32At (now (d .entry)) at ⌝ }
+{
+    let v = f32_at(d, at);
+    match v {
+        Real::Number(x) => x,
+        Real::Nan => not_a_number(),
+    }
+}
+
+fn not_a_number() -> f32
+    ensures { λ r. ⌜ r ≡ nan ⌝ }
+{
+    let zero: f32 = 0.0;
+    zero / zero
+}
+
+// The bytes of the scissors.
+pub fn scissors(d: &[u8]) -> &[u8]
+    requires { ⌜ length (now d) ≡ drawBytes ⌝ }
+    ensures { λ r. ⌜ now r ≡ scissorsOf (now (d .entry)) ⌝ }
+{
+    &d[SCISSORS_AT..STOPS_AT]
+}
+
+// The bytes of the stops.
+pub fn stops(d: &[u8]) -> &[u8]
+    requires { ⌜ length (now d) ≡ drawBytes ⌝ }
+    ensures { λ r. ⌜ now r ≡ stopsOf (now (d .entry)) ⌝ }
+{
+    &d[STOPS_AT..SEGMENTS_AT]
+}
+
+// The segments, a byte each.
+pub fn segments(d: &[u8]) -> &[u8]
+    requires { ⌜ length (now d) ≡ drawBytes ⌝ }
+    ensures { λ r. ⌜ now r ≡ segmentsOf (now (d .entry)) ⌝ }
+{
+    &d[SEGMENTS_AT..COORDINATES_AT]
+}
+
+// The bytes of the coordinates.
+pub fn coordinates(d: &[u8]) -> &[u8]
+    requires { ⌜ length (now d) ≡ drawBytes ⌝ }
+    ensures { λ r. ⌜ now r ≡ coordinatesOf (now (d .entry)) ⌝ }
+{
+    &d[COORDINATES_AT..DRAW_BYTES]
+}

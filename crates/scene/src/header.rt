@@ -1,0 +1,82 @@
+// Block 0: its fields, and their rules.
+use crate::FieldFault;
+use crate::faults::must;
+use crate::faults::or_else;
+use crate::faults::unused;
+use crate::layout::BACKGROUND_AT;
+use crate::layout::COUNT_AT;
+use crate::layout::DRAW_LIMIT;
+use crate::layout::HEADER_END;
+use crate::layout::HEIGHT_AT;
+use crate::layout::PAYLOAD_BYTES;
+use crate::layout::RESERVED_AT;
+use crate::layout::SIDE_LIMIT;
+use crate::layout::WIDTH_AT;
+use color::Pixel;
+use fixed::u16_at;
+ghost use mathlib.Core.Path.{_≡_};
+ghost use Prim.Native.Nat.{_≤_, _<_};
+ghost use lib.ListN.{length};
+ghost use mathlib.Core.Bool.{_&&_};
+ghost use lib.Dec.{leb};
+ghost use Rattle.scene.specs.Layout.{blockBytes, sideLimit};
+ghost use Rattle.scene.specs.Header.{widthOf, heightOf, countOf, backgroundOf};
+ghost use Rattle.scene.specs.Rules.{headerRules};
+
+// The picture's width, in pixels.
+pub fn width(s: &[u8]) -> usize
+    requires { ⌜ blockBytes ≤ length (now s) ⌝ }
+    ensures { λ r. ⌜ (r ≡ widthOf (now (s .entry))) × (r < 65536) ⌝ }
+{
+    u16_at(s, WIDTH_AT) as usize
+}
+
+// The picture's height.
+pub fn height(s: &[u8]) -> usize
+    requires { ⌜ blockBytes ≤ length (now s) ⌝ }
+    ensures { λ r. ⌜ (r ≡ heightOf (now (s .entry))) × (r < 65536) ⌝ }
+{
+    u16_at(s, HEIGHT_AT) as usize
+}
+
+// The number of draws.
+pub fn count(s: &[u8]) -> usize
+    requires { ⌜ blockBytes ≤ length (now s) ⌝ }
+    ensures { λ r. ⌜ (r ≡ countOf (now (s .entry))) × (r < 65536) ⌝ }
+{
+    u16_at(s, COUNT_AT) as usize
+}
+
+// The background as given, not premultiplied.
+pub fn background(s: &[u8]) -> Pixel
+    requires { ⌜ blockBytes ≤ length (now s) ⌝ }
+    ensures { λ r. ⌜ r ≡ backgroundOf (now (s .entry)) ⌝ }
+{
+    Pixel {
+        r: s[BACKGROUND_AT],
+        g: s[BACKGROUND_AT + 1],
+        b: s[BACKGROUND_AT + 2],
+        a: s[BACKGROUND_AT + 3],
+    }
+}
+
+// The fields in order.
+pub fn header_rules(s: &[u8]) -> FieldFault
+    requires { ⌜ blockBytes ≤ length (now s) ⌝ }
+    ensures { λ r. ⌜ r ≡ headerRules (now (s .entry)) ⌝ }
+{
+    let width = u16_at(s, WIDTH_AT);
+    let height = u16_at(s, HEIGHT_AT);
+    let zeros = unused(s, HEADER_END, PAYLOAD_BYTES);
+    let reserved = or_else(must(u16_at(s, RESERVED_AT) == 0, RESERVED_AT), zeros);
+    let count = or_else(must(u16_at(s, COUNT_AT) <= DRAW_LIMIT, COUNT_AT), reserved);
+    let tall = or_else(must(is_side(height), HEIGHT_AT), count);
+    or_else(must(is_side(width), WIDTH_AT), tall)
+}
+
+// A side of a picture: 1 to 1,024 pixels.
+fn is_side(n: u32) -> bool
+    ensures { λ r. ⌜ r ≡ leb 1 n && leb n sideLimit ⌝ }
+{
+    1 <= n && n <= SIDE_LIMIT
+}

@@ -1,0 +1,100 @@
+// The scene file's sizes, limits and places: each number of the paper stands here once, under its name.
+
+// Blocks of 512 bytes: 508 of payload, 254 words, then the check of two 16-bit numbers.
+pub const BLOCK_BYTES: usize = 512;
+
+pub const PAYLOAD_BYTES: usize = 508;
+
+pub const PAYLOAD_WORDS: u32 = 254;
+
+pub const CHECK_MODULUS: u32 = 65521;
+
+// A draw has four blocks, whose payloads joined are 2,032 bytes.
+pub const DRAW_BLOCKS: usize = 4;
+
+pub const DRAW_BYTES: usize = 2032;
+
+// Block 0.
+pub const WIDTH_AT: usize = 0;
+
+pub const HEIGHT_AT: usize = 2;
+
+pub const COUNT_AT: usize = 4;
+
+pub const RESERVED_AT: usize = 6;
+
+pub const BACKGROUND_AT: usize = 8;
+
+pub const HEADER_END: usize = 12;
+
+pub const SIDE_LIMIT: u32 = 1024;
+
+pub const DRAW_LIMIT: u32 = 64;
+
+// The draw number of what is not in a draw.
+pub const NO_DRAW: usize = 64;
+
+// A draw.
+pub const FLAGS_AT: usize = 0;
+
+pub const BLEND_AT: usize = 2;
+
+pub const PAINT_TYPE_AT: usize = 4;
+
+pub const SPREAD_AT: usize = 6;
+
+pub const SEGMENT_COUNT_AT: usize = 8;
+
+pub const SCISSOR_COUNT_AT: usize = 9;
+
+pub const STOP_COUNT_AT: usize = 10;
+
+pub const PADDING_AT: usize = 11;
+
+pub const MATRIX_AT: usize = 12;
+
+pub const TRANSLATION_AT: usize = 28;
+
+pub const COLOR_AT: usize = 36;
+
+pub const LINEAR_AT: usize = 52;
+
+pub const SCISSORS_AT: usize = 68;
+
+pub const STOPS_AT: usize = 132;
+
+pub const SEGMENTS_AT: usize = 772;
+
+pub const COORDINATES_AT: usize = 900;
+
+pub const FLAGS_LIMIT: u32 = 8;
+
+pub const SEGMENT_LIMIT: usize = 128;
+
+pub const SCISSOR_LIMIT: usize = 4;
+
+pub const STOP_LIMIT: usize = 32;
+
+pub const SCISSOR_BYTES: usize = 16;
+
+pub const STOP_BYTES: usize = 20;
+
+pub const STOP_FLOATS: usize = 5;
+
+// The limits of floats, as powers of 2: 256 and 32,768 in the matrix, 4,096 in the linear points.
+pub const LINEAR_LOG: u32 = 8;
+pub const TRANSLATION_LOG: u32 = 15;
+pub const POINT_LOG: u32 = 12;
+
+// Paint types and spread modes.
+pub const PAINT_COLOR: u32 = 0x1B00;
+pub const PAINT_LINEAR: u32 = 0x1B01;
+pub const SPREAD_PAD: u32 = 0x1C00;
+pub const SPREAD_REFLECT: u32 = 0x1C02;
+
+// Codes.
+pub const BAD_CHECKSUM: u16 = 0xB001;
+
+pub const BAD_LENGTH: u16 = 0xB002;
+
+pub const ILLEGAL_ARGUMENT: u16 = 0x1001;
