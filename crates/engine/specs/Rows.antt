@@ -5,7 +5,13 @@ use Rattle.color.specs.declared.Pixel.{Pixel}
 use Rattle.path.specs.declared.Edge.{Edge}
 use Rattle.blend.specs.PorterDuff.{composite}
 use Rattle.coverage.specs.Winding.{coverage}
+use mathlib.Core.Path.{_≡_}
+use lib.IntN.{ℤ}
+use Rattle.path.specs.Stored.{edgesOf}
+use Rattle.coverage.specs.Engine.{Ready}
 use Rattle.coverage.specs.Scissors.{scissored}
+use Rattle.scene.specs.Fields.{blendOf, nonZeroRule, scissoring, scissorCount}
+use Rattle.engine.specs.Picture.{drawEdges}
 use Rattle.paint.specs.Buffers.{Near, Held, stopsIn, linearAt}
 use Rattle.engine.specs.declared.Style.{Style}
 use Rattle.engine.specs.declared.Shade.{Shade}
@@ -28,3 +34,12 @@ shadeAt (Linear g) offsets colors x y = linearAt g (stopsIn offsets colors (g .c
 abbrev pub Shaded : Shade → List ℕ → List ℕ → Type 0
 Shaded (Solid p) offsets colors = Unit
 Shaded (Linear g) offsets colors = Near (g .points) × Held offsets colors (g .count)
+
+-- how a draw is filled, by its bytes
+abbrev pub styleOf : List ℕ → Style
+styleOf d = record { mode = blendOf d; nonzero = nonZeroRule d; scissoring = scissoring d; scissors = scissorCount d }
+
+-- the scratch holds the n edges of draw d, and zeros after them
+pub record Laid (d : List ℕ) (scratch : List ℤ) (n : ℕ) : Type 0 where
+  pub ready : Ready scratch n
+  pub edges : edgesOf scratch n ≡ drawEdges d

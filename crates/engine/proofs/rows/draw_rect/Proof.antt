@@ -124,11 +124,11 @@ loop-again c =
     let paint = shadeAt (a .shade) (a .offsets .now) (a .colors .now) in
     let wide : length (l .cover) ≡ a .a .x1 - a .a .x0 = l .inv .4 ∙ s .pre .1 .1 .1 .1 .0 in
     let q = r .ensures .1
-        ∙ ap₂
-        (λ (k : ℕ) (z : List ℤ). run k (λ i. stepWith (a .style) (edgesOf z (a .n)) (a .scissors .now) paint (a .a .x0 + i) (l .y) (pixelIn (take ((l .y * a .width + a .a .x1) * 4 - (l .y * a .width + a .a .x0) * 4) (drop ((l .y * a .width + a .a .x0) * 4) (l .surface))) i)))
-        wide (l .inv .3) in
+    ∙ ap₂
+    (λ (k : ℕ) (z : List ℤ). run k (λ i. stepWith (a .style) (edgesOf z (a .n)) (a .scissors .now) paint (a .a .x0 + i) (l .y) (pixelIn (take ((l .y * a .width + a .a .x1) * 4 - (l .y * a .width + a .a .x0) * 4) (drop ((l .y * a .width + a .a .x0) * 4) (l .surface))) i)))
+    wide (l .inv .3) in
     let t = step-turn (a .width) (a .height) (a .a) (stepWith (a .style) (edgesOf (a .scratch .now) (a .n)) (a .scissors .now) paint) (l .surface) (a .surface .now) (r .last .0) (l .y)
-        ((l .y * a .width + a .a .x0) * 4) ((l .y * a .width + a .a .x1) * 4) (o .0) (o .1 .0 .across) (o .1 .0 .wide) (l .inv .0) (omega (arith, o .1 .0 .high, c .before .before .before .before .before .before .before .before .before .before .before .before .loop-test .taken)) (l .inv .6) refl refl q in (
+    ((l .y * a .width + a .a .x0) * 4) ((l .y * a .width + a .a .x1) * 4) (o .0) (o .1 .0 .across) (o .1 .0 .wide) (l .inv .0) (omega (arith, o .1 .0 .high, c .before .before .before .before .before .before .before .before .before .before .before .before .loop-test .taken)) (l .inv .6) refl refl q in (
       omega (arith, l .inv .0),
       omega (arith, c .before .before .before .before .before .before .before .before .before .before .before .before .loop-test .taken),
       ap length t ∙ overlay-length (a .width) (a .height) _ _ (a .surface .now) ∙ sym (o .0),

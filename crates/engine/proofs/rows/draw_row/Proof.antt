@@ -53,8 +53,7 @@ returns : tie.Need-returns
 returns c =
     let a = c .before .before .before .before .before .before .before .before .before .before .before .before .before .before .before .before .before .before .before .before .args in
     let r = c .before .before .before .before .before .before .before .before .before .before .before .cover-row in
-    let paint = shadeAt (a .shade) (a .offsets .now) (a .colors .now) in
-    (
+    let paint = shadeAt (a .shade) (a .offsets .now) (a .colors .now) in (
       r .ensures .0,
       c .before .before .before .before .shade-row .ensures
           ∙ row-steps (a .style) (edgesOf (a .scratch .now) (a .n)) (a .scissors .now) (a .x) (a .y) (length (a .cover .now)) _ (a .row .now) paint (λ i. paint (a .x + i) (a .y)) (r .ensures .1) (λ i l. refl),

@@ -71,7 +71,6 @@ returns-2 c =
     ∙ row-painted (a .mode) (length (a .cover .now)) (a .cover .now) (a .row .now) _ _ refl (c .before .before .before .before .before .before .before .linear-row .ensures)
     ∙ ap (λ (s : Shade). compositeRow (a .mode) (a .cover .now) (λ i. shadeAt s (a .offsets .now) (a .colors .now) (a .x + i) (a .y)) (a .row .now)) (sym (g .1))
 
-
 pub shade-row-spec : {M : Type 1} → statement M
 shade-row-spec =
     tie.close

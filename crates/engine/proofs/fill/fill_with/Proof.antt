@@ -1,0 +1,93 @@
+use borrow.Author.Needs.{needs}
+use Rattle.engine.proofs.fill.fill_with.Statement.{statement}
+use Rattle.engine.proofs.fill.fill_with.Tie as tie
+use Rattle.engine.proofs.fill.fill_with.Reads as reads
+use Rattle.engine.proofs.fill.fill_with.Lts as lts
+use Rattle.engine.proofs.fill.style.Reads as style-reads
+use Rattle.engine.proofs.rows.draw_rect.Reads as draw-rect-reads
+use Rattle.scene.proofs.fields.scissors.Reads as scissors-reads
+
+-- src/fill.rt:52:13
+sub-k : tie.Need-sub-k
+sub-k c = search needs
+
+-- src/fill.rt:53:13
+mul-m : tie.Need-mul-m
+mul-m c = search needs
+
+-- src/fill.rt:58:9
+scissors-requires : tie.Need-scissors-requires
+scissors-requires c κs = search needs
+
+-- src/fill.rt:59:9
+style-requires : tie.Need-style-requires
+style-requires c κs = search needs
+
+-- src/fill.rt:60:9
+sub-draw-rect : tie.Need-sub-draw-rect
+sub-draw-rect c = search needs
+
+-- src/fill.rt:60:9
+part-draw-rect-start : tie.Need-part-draw-rect-start
+part-draw-rect-start c = search needs
+
+-- src/fill.rt:60:9
+part-draw-rect-end : tie.Need-part-draw-rect-end
+part-draw-rect-end c = search needs
+
+-- src/fill.rt:64:9
+sub-draw-rect-2 : tie.Need-sub-draw-rect-2
+sub-draw-rect-2 c = search needs
+
+-- src/fill.rt:64:9
+part-draw-rect-start-2 : tie.Need-part-draw-rect-start-2
+part-draw-rect-start-2 c = search needs
+
+-- src/fill.rt:64:9
+part-draw-rect-end-2 : tie.Need-part-draw-rect-end-2
+part-draw-rect-end-2 c = search needs
+
+-- src/fill.rt:54:5
+draw-rect-requires : tie.Need-draw-rect-requires
+draw-rect-requires c κs = search needs
+
+-- src/fill.rt:30:1
+same-length : tie.Need-same-length
+same-length c = search needs
+
+-- src/fill.rt:30:1
+same-length-2 : tie.Need-same-length-2
+same-length-2 c = search needs
+
+-- src/fill.rt:30:1
+same-length-3 : tie.Need-same-length-3
+same-length-3 c = search needs
+
+-- src/fill.rt:30:1
+same-length-4 : tie.Need-same-length-4
+same-length-4 c = search needs
+
+-- src/fill.rt:30:1
+returns : tie.Need-returns
+returns c = search needs
+
+pub fill-with-spec : {M : Type 1} → statement M
+fill-with-spec =
+    tie.close
+    (tie.spec
+    sub-k
+    mul-m
+    scissors-requires
+    style-requires
+    sub-draw-rect
+    part-draw-rect-start
+    part-draw-rect-end
+    sub-draw-rect-2
+    part-draw-rect-start-2
+    part-draw-rect-end-2
+    draw-rect-requires
+    same-length
+    same-length-2
+    same-length-3
+    same-length-4
+    returns)
