@@ -5,11 +5,13 @@ use mathlib.Core.Bool.{Bool, true, false}
 use Prim.Native.Nat.{ℕ, _+_, _*_, _≤_, _<_}
 use native.Mathlib.Nat.{le-trans}
 use native.Mathlib.Omega.{arith}
-use lib.ListN.{length, getD}
+use lib.ListN.{length, getD, drop, length-take, length-drop}
 use Rattle.lists.specs.Lists.{upto, tab}
 use Rattle.lists.proofs.Laws.{upto-same, tab-at, tab-length}
 use Rattle.color.specs.declared.Pixel.{Pixel}
-use Rattle.raster.specs.Surface.{run, pixelIn}
+use Rattle.rect.specs.declared.Rect.{Rect}
+use Rattle.raster.specs.Surface.{run, pixelIn, pixelOf, overlay}
+use Rattle.scene.specs.Fields.{scissorsOf}
 use Rattle.raster.proofs.Pixels.{run-at}
 use Rattle.blend.specs.PorterDuff.{composite}
 use Rattle.blend.specs.Rows.{Coverage, compositeRow}
@@ -73,3 +75,12 @@ row-painted mode n c d s f e o =
     (λ i l.
     ap (λ (q : Pixel). composite mode (getD c i 0) q (pixelIn d i))
     (ap (λ (z : List ℕ). pixelIn z i) o ∙ run-at n f i (rw e at l)))
+
+-- ---- a draw's bytes taken apart
+pub scissors-length : (d : List ℕ) → length d ≡ 2032 → length (scissorsOf d) ≡ 64
+scissors-length d e = length-take 64 (drop 68 d) ∙ rw (length-drop 68 d) (omega arith)
+
+-- the same step in other words, at every pixel
+pub overlay-parts : (w h : ℕ) (a : Rect) (surface : List ℕ) (paint : ℕ → ℕ → Pixel) (s t : Style) (es fs : List Edge) (b c : List ℕ) → s ≡ t → es ≡ fs → b ≡ c
+    → overlay w h a (λ x y. stepWith s es b paint x y (pixelOf w surface x y)) surface ≡ overlay w h a (λ x y. stepWith t fs c paint x y (pixelOf w surface x y)) surface
+overlay-parts w h a surface paint s t es fs b c e f g = rw (e, f, g)

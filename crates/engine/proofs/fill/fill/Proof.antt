@@ -1,3 +1,4 @@
+use mathlib.Core.Path.{refl}
 use borrow.Author.Needs.{needs}
 use Rattle.engine.proofs.fill.fill.Statement.{statement}
 use Rattle.engine.proofs.fill.fill.Tie as tie
@@ -15,7 +16,9 @@ slice-aggregate-fill-with-2 c = search needs
 
 -- src/fill.rt:93:5
 fill-with-requires : tie.Need-fill-with-requires
-fill-with-requires c κs = search needs
+fill-with-requires c κs =
+    let p = c .before .before .before .before .before .before .before .before .pre in
+    (p .0, (p .1 .0, (p .1 .1 .0, (p .1 .1 .1, (refl, refl)))))
 
 -- src/fill.rt:72:1
 same-length : tie.Need-same-length
@@ -27,7 +30,7 @@ same-length-2 c = search needs
 
 -- src/fill.rt:72:1
 returns : tie.Need-returns
-returns c = search needs
+returns c = (c .before .before .before .before .before .fill-with .ensures .0, c .before .before .before .before .before .fill-with .ensures .1)
 
 pub fill-spec : {M : Type 1} → statement M
 fill-spec =

@@ -26,7 +26,12 @@ scissor-count-requires c κs = search needs
 
 -- src/fill.rt:17:1
 returns : tie.Need-returns
-returns c = search needs
+returns c =
+    let m = c .before .before .before .blend-mode .ensures in
+    let z = c .before .before .non-zero-rule .ensures in
+    let s = c .before .scissoring .ensures in
+    let n = c .scissor-count .ensures .0 in
+    λ i. record { mode = m i; nonzero = z i; scissoring = s i; scissors = n i }
 
 pub style-spec : {M : Type 1} → statement M
 style-spec =
