@@ -17,6 +17,7 @@ use Rattle.fixed.specs.Floor.{floorDiv}
 use Rattle.fixed.proofs.Within.{Within, of-fits}
 use Rattle.fixed.proofs.Poly.{var, from-within}
 use Rattle.fixed.proofs.Poly as P
+use Rattle.fixed.proofs.Means.{Num, keep, param, shr, tight}
 use Rattle.fixed.proofs.Round.{from-floor}
 use Rattle.rect.specs.declared.Rect.{Rect}
 use Rattle.path.specs.declared.Edge.{Edge}
@@ -34,12 +35,15 @@ pub outer-next : (greater axis : Bool) (l : List ℤ) (i : ℕ) → 0 < i
 outer-next greater axis l i h =
     ap (λ (k : ℕ). outerOf greater axis (edgesOf l k)) (add-one i) ∙ outer-more greater axis (edgesOf l i) (edgeAt l i) (rw (tab-length i (edgeAt l)) h)
 
--- the column or row of a 32-bit coordinate
+-- the column or row of a 32-bit coordinate, in a local
 pub pixel-size : (z : ℤ) → SFits w32 z → Within 8388608 (floorDiv z 256)
 pixel-size z f =
     let h = from-floor (var z) 256 (lit< tt) in
     let k = from-within (var z) (of-fits f) in
     P.within 8388608 (var (floorDiv z 256)) (omega arith) (omega arith)
+
+abbrev pub pixel : (z : ℤ) → SFits w32 z → Num
+pixel z f = keep w32 (tight 8388608 (shr (param w32 z f) 256) (pixel-size z f)) tt
 
 -- a number cut to 0..n
 pub above-zero : (z : ℤ) → leZ z (pos 0) ≡ false → T (nonNeg z)
@@ -61,7 +65,10 @@ boxFrom width height es = record {
   y1 = within height (floorDiv (outerOf true true es) 256 +ℤ pos 1);
 }
 
-pub box-some : (width height : ℕ) (es : List Edge) → 0 < length es → boxOf width height es ≡ boxFrom width height es
+some-box : (width height : ℕ) (es : List Edge) → 0 < length es → boxOf width height es ≡ boxFrom width height es
 unfolding boxOf
-box-some width height [] h = absurd (not-suc-le-zero h)
-box-some width height (e ∷ es) h = refl
+some-box width height [] h = absurd (not-suc-le-zero h)
+some-box width height (e ∷ es) h = refl
+
+pub box-some : (width height : ℕ) (l : List ℤ) (n : ℕ) → 0 < n → boxOf width height (edgesOf l n) ≡ boxFrom width height (edgesOf l n)
+box-some width height l n h = some-box width height (edgesOf l n) (rw (tab-length n (edgeAt l)) h)

@@ -4,7 +4,8 @@ use path::Edge;
 use rect::Rect;
 ghost use mathlib.Core.Path.{_≡_};
 ghost use Prim.Native.Nat.{_*_, _<_, _≤_};
-ghost use lib.IntN.{natAbs};
+ghost use mathlib.Core.Bool.{true, false};
+ghost use lib.IntN.{pos, _+ℤ_};
 ghost use lib.ListN.{length};
 ghost use Rattle.fixed.specs.Floor.{floorDiv};
 ghost use Rattle.path.specs.Boxes.{outer, endOf, outerOf, within, boxOf};
@@ -23,23 +24,30 @@ pub fn bounds(edges: &[i32], n: usize, width: usize, height: usize) -> Rect
             y1: 0,
         };
     }
-    let left = pixel(outer_end(edges, n, false, false));
-    let low = pixel(outer_end(edges, n, false, true));
-    let right = pixel(outer_end(edges, n, true, false));
-    let high = pixel(outer_end(edges, n, true, true));
     Rect {
-        x0: within(width, left),
-        y0: within(height, low),
-        x1: within(width, right + 1),
-        y1: within(height, high + 1),
+        x0: first_pixel(edges, n, false, width),
+        y0: first_pixel(edges, n, true, height),
+        x1: past_pixel(edges, n, false, width),
+        y1: past_pixel(edges, n, true, height),
     }
 }
 
-// The column or row of the pixel that a coordinate lies in.
-fn pixel(z: i32) -> i32
-    ensures { λ r. ⌜ (r ≡ floorDiv z 256) × (natAbs r ≤ 8388608) ⌝ }
+// The first column (false) or row (true) of the n edges, on a surface of that size.
+fn first_pixel(edges: &[i32], n: usize, axis: bool, size: usize) -> usize
+    requires { ⌜ ((0 < n) × (n * 4 ≤ length (now edges))) × (size ≤ 1024) ⌝ }
+    ensures { λ r. ⌜ r ≡ within size (floorDiv (outerOf false axis (edgesOf (now (edges .entry)) n)) 256) ⌝ }
 {
-    z >> 8
+    let least = outer_end(edges, n, false, axis);
+    within(size, least >> 8)
+}
+
+// The one after the last.
+fn past_pixel(edges: &[i32], n: usize, axis: bool, size: usize) -> usize
+    requires { ⌜ ((0 < n) × (n * 4 ≤ length (now edges))) × (size ≤ 1024) ⌝ }
+    ensures { λ r. ⌜ r ≡ within size (floorDiv (outerOf true axis (edgesOf (now (edges .entry)) n)) 256 +ℤ pos 1) ⌝ }
+{
+    let greatest = outer_end(edges, n, true, axis);
+    within(size, (greatest >> 8) + 1)
 }
 
 // A column or row number, cut to 0..n.
