@@ -69,7 +69,7 @@ fn fill_with(
 }
 
 // The same with buffers of its own.
-fn fill(
+pub fn fill(
     surface: &mut [u8],
     scratch: &mut [i32],
     n: usize,

@@ -1,4 +1,5 @@
 // Drawing a scene inside a rectangle of the surface: the background, then every draw in order.
+pub mod draws;
 pub mod fill;
 pub mod rows;
 

@@ -107,8 +107,7 @@ returns : tie.Need-returns
 returns c =
     let s = c .before .before .before .before .before .before .before .before .before .before .before .before .before .before .before .before .before .before .before .before .before in
     let a = s .args in
-    let r = c .before .before .before .before .before .before .before .draw-rect in
-    (
+    let r = c .before .before .before .before .before .before .before .draw-rect in (
       r .ensures .0,
       r .ensures .1
           ∙ overlay-parts (a .width) (a .height) (a .a) (a .surface .now) (shadeAt (a .shade) (a .offsets .now) (a .colors .now)) _ (styleOf (a .d .now)) _ (drawEdges (a .d .now)) _ (scissorsOf (a .d .now))
