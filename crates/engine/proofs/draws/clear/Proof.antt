@@ -1,14 +1,21 @@
 use borrow.Author.Needs.{needs}
+use mathlib.Core.Path.{_≡_}
+use Prim.Native.Nat.{_-_, _≤_}
+use native.Mathlib.Omega.{arith}
+use lib.ListN.{length, replicate, length-set}
+use lib.IntN.{pos}
+use Rattle.lists.specs.Lists.{over}
+use Rattle.lists.proofs.Laws.{fill-turn, fill-all}
 use Rattle.engine.proofs.draws.clear.Statement.{statement}
 use Rattle.engine.proofs.draws.clear.Tie as tie
 use Rattle.engine.proofs.draws.clear.Reads as reads
 use Rattle.engine.proofs.draws.clear.Lts as lts
 
 abbrev Inv-loop : tie.InvT-loop
-Inv-loop s₀ i₀ s i = ?
+Inv-loop s₀ i₀ s i = (i ≤ length s₀) × (length s ≡ length s₀) × (s ≡ over (replicate i (pos 0)) s₀)
 
 abbrev μ-loop : tie.MeasureT-loop
-μ-loop s₀ i₀ s i = ?
+μ-loop s₀ i₀ s i = length s₀ - i
 
 -- src/draws.rt:20:5
 loop-holds : tie.Need-loop-holds Inv-loop μ-loop
@@ -32,7 +39,8 @@ loop-less c = search needs
 
 -- src/draws.rt:20:5
 loop-again : tie.Need-loop-again Inv-loop μ-loop
-loop-again c = search needs
+loop-again c =
+    (search needs, simp length-set (omega arith), fill-turn (c .before .loop .s) (c .before .before .args .s .now) (c .before .loop .i) _ (c .before .loop .inv .2) (omega arith))
 
 -- src/draws.rt:16:1
 same-length : tie.Need-same-length Inv-loop μ-loop
@@ -40,7 +48,7 @@ same-length c = search needs
 
 -- src/draws.rt:16:1
 returns : tie.Need-returns Inv-loop μ-loop
-returns c = search needs
+returns c = fill-all (c .before .loop .s) (c .before .before .args .s .now) (c .before .loop .i) _ (c .before .loop .inv .2) (omega arith)
 
 pub clear-spec : {M : Type 1} → statement M
 clear-spec =
