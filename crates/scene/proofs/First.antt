@@ -10,7 +10,8 @@ use native.Mathlib.Omega.{arith}
 use lib.ListN.{getD}
 use lib.Dec.{eqb}
 use borrow.Author.Tests.{eq-eqb, ne-eqb, eqb-false}
-use Rattle.scene.specs.Faults.{soonest, fine, firstOf, must, unused}
+use Rattle.scene.specs.Faults.{soonest, fine, firstOf, must, unused, accepted, firstFault, demand}
+use Rattle.scene.specs.declared.Fault.{Fault}
 
 module _ {A : Type 0} (code : A → ℕ) (none : A) (calm : code none ≡ 0) (f : ℕ → A) where
   pub first-turn : (n : ℕ) → soonest code none n f ≡ none → f n ≡ none → soonest code none (n + 1) f ≡ none
@@ -29,6 +30,15 @@ module _ (t : ℕ → Bool) (p : ℕ → ℕ) where
   pub rules-hit : (n m : ℕ) → n < m → firstOf n (λ i. must (t i) (p i)) ≡ fine → t n ≡ false → firstOf m (λ i. must (t i) (p i)) ≡ must false (p n)
   rules-hit n m l h e =
       first-hit (λ f. f .code) fine refl (λ i. must (t i) (p i)) n m l h (rw e (eqb-false 0x1001 0 refl)) ∙ rw e
+
+-- demands on a scene: t i must hold, or g i is the fault
+module _ (t : ℕ → Bool) (g : ℕ → Fault) where
+  pub demands-turn : (n : ℕ) → firstFault n (λ i. demand (t i) (g i)) ≡ accepted → t n ≡ true → firstFault (n + 1) (λ i. demand (t i) (g i)) ≡ accepted
+  demands-turn n h e = first-turn (λ f. f .code) accepted refl (λ i. demand (t i) (g i)) n h (rw e)
+
+  pub demands-hit : (n m : ℕ) → n < m → firstFault n (λ i. demand (t i) (g i)) ≡ accepted → t n ≡ false → (g n .code ≡ 0 → ⊥)
+      → firstFault m (λ i. demand (t i) (g i)) ≡ g n
+  demands-hit n m l h e b = first-hit (λ f. f .code) accepted refl (λ i. demand (t i) (g i)) n m l h (rw e b) ∙ rw e
 
 -- zero bytes: the loop stands at a place of its own
 module _ (d : List ℕ) (from to at : ℕ) (begun : from ≤ at) where

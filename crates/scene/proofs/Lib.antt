@@ -1,9 +1,15 @@
 -- Laws of the scene file:
---     Copies   bytes copied in order
---     Same     lists whose first bytes are the same
---     First    the first fault of several
---     Sizes    rules on floats, by their bit patterns
+--     Copies     bytes copied in order
+--     Same       lists whose first bytes are the same
+--     First      the first fault of several
+--     Sizes      rules on floats, by their bit patterns
+--     Paths      the rules of a path, from the walk over it
+--     Accepted   what a scene and a draw have that the rules accept
+--     Verdicts   the verdict, by how far the rules are kept
 pub mod Copies
 pub mod Same
 pub mod First
 pub mod Sizes
+pub mod Paths
+pub mod Accepted
+pub mod Verdicts

@@ -5,3 +5,4 @@ pub mod Header
 pub mod Fields
 pub mod Faults
 pub mod Rules
+pub mod Accepted

@@ -86,10 +86,12 @@ inHeader f = cond (eqb (f .code) 0) accepted (fault (f .code) noDraw (f .place))
 abbrev pub inDraw : ℕ → FieldFault → Fault
 inDraw i f = cond (eqb (f .code) 0) accepted (fault (f .code) i (fileOffset i (f .place)))
 
+unfoldable pub checkFaults : List ℕ → ℕ → Fault
+checkFaults s i =
+    firstFault drawBlocks (λ j. demand (blockRight s (blockOf i + j)) (fault badChecksum i (blockBytes * (blockOf i + j) + payloadBytes)))
+
 unfoldable pub drawFault : List ℕ → ℕ → Fault
-drawFault s i =
-    orFault (firstFault drawBlocks (λ j. demand (blockRight s (blockOf i + j)) (fault badChecksum i (blockBytes * (blockOf i + j) + payloadBytes))))
-    (inDraw i (drawRules (drawOf s i)))
+drawFault s i = orFault (checkFaults s i) (inDraw i (drawRules (drawOf s i)))
 
 -- the first fault of a scene
 unfoldable pub sceneFault : List ℕ → Fault

@@ -8,6 +8,7 @@ use fixed::u32_at;
 ghost use mathlib.Core.Path.{_≡_};
 ghost use Prim.Native.Nat.{_+_, _*_, _^_, _≤_};
 ghost use lib.ListN.{length};
+ghost use Rattle.scene.specs.Layout.{drawBytes};
 ghost use Rattle.scene.specs.Faults as Faults;
 ghost use Rattle.scene.specs.Faults.{orElse};
 
@@ -21,6 +22,7 @@ const EXPONENT_ONE: u32 = 0x800000;
 
 // A rule: a place that must be as the paper says.
 pub fn must(ok: bool, place: usize) -> FieldFault
+    requires { ⌜ place ≤ drawBytes ⌝ }
     ensures { λ r. ⌜ r ≡ Faults.must ok place ⌝ }
 {
     if ok {
@@ -28,7 +30,7 @@ pub fn must(ok: bool, place: usize) -> FieldFault
     } else {
         FieldFault {
             code: ILLEGAL_ARGUMENT,
-            place,
+            place: place as u16,
         }
     }
 }
@@ -42,7 +44,7 @@ pub fn or_else(f: FieldFault, g: FieldFault) -> FieldFault
 
 // Every byte from a place up to another is zero.
 pub fn unused(d: &[u8], from: usize, to: usize) -> FieldFault
-    requires { ⌜ to ≤ length (now d) ⌝ }
+    requires { ⌜ (to ≤ length (now d)) × (to ≤ drawBytes) ⌝ }
     ensures { λ r. ⌜ r ≡ Faults.unused (now (d .entry)) from to ⌝ }
 {
     let mut at = from;
@@ -57,7 +59,7 @@ pub fn unused(d: &[u8], from: usize, to: usize) -> FieldFault
 
 // n floats from a place on are at most 2^log in size.
 pub fn limited(d: &[u8], log: u32, at: usize, n: usize) -> FieldFault
-    requires { ⌜ (log ≤ 15) × (at + 4 * n ≤ length (now d)) ⌝ }
+    requires { ⌜ (log ≤ 15) × (at + 4 * n ≤ length (now d)) × (at + 4 * n ≤ drawBytes) ⌝ }
     ensures { λ r. ⌜ r ≡ Faults.limited (now (d .entry)) (2 ^ log) at n ⌝ }
 {
     let limit = (EXPONENT_BIAS + log) * EXPONENT_ONE;
@@ -74,7 +76,7 @@ pub fn limited(d: &[u8], log: u32, at: usize, n: usize) -> FieldFault
 
 // n floats from a place on are no NaNs.
 pub fn numbers(d: &[u8], at: usize, n: usize) -> FieldFault
-    requires { ⌜ at + 4 * n ≤ length (now d) ⌝ }
+    requires { ⌜ (at + 4 * n ≤ length (now d)) × (at + 4 * n ≤ drawBytes) ⌝ }
     ensures { λ r. ⌜ r ≡ Faults.numbers (now (d .entry)) at n ⌝ }
 {
     let mut i = 0;

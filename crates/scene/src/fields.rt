@@ -8,13 +8,13 @@ use crate::layout::LINEAR_AT;
 use crate::layout::MATRIX_AT;
 use crate::layout::PAINT_LINEAR;
 use crate::layout::PAINT_TYPE_AT;
-use crate::layout::SCISSORS_AT;
 use crate::layout::SCISSOR_COUNT_AT;
-use crate::layout::SEGMENTS_AT;
+use crate::layout::SCISSORS_AT;
 use crate::layout::SEGMENT_COUNT_AT;
+use crate::layout::SEGMENTS_AT;
 use crate::layout::SPREAD_AT;
-use crate::layout::STOPS_AT;
 use crate::layout::STOP_COUNT_AT;
+use crate::layout::STOPS_AT;
 use crate::layout::TRANSLATION_AT;
 use color::Color;
 use fixed::Real;
@@ -22,12 +22,16 @@ use fixed::f32_at;
 use fixed::u16_at;
 use paint::LinearPoints;
 use paint::Paint;
+use path::Converted;
+use path::FixedMatrix;
 use path::Matrix;
 ghost use mathlib.Core.Path.{_≡_};
+ghost use mathlib.Core.Bool.{true};
 ghost use Prim.Native.Nat.{_+_, _≤_, _<_};
 ghost use lib.ListN.{length};
 ghost use lib.Ieee.{nan};
 ghost use Rattle.fixed.specs.Floats.{f32At};
+ghost use Rattle.path.specs.Matrices.{matrixInLimits, fixedMatrix};
 ghost use Rattle.scene.specs.Layout.{drawBytes};
 ghost use Rattle.scene.specs.Fields as Fields;
 ghost use Rattle.scene.specs.Fields.{flagsOf, bit, nonZeroRule, rampPremultiplied, blendOf, paintTypeOf, spreadOf, segmentCount, scissorCount, stopCount};
@@ -125,6 +129,25 @@ pub fn matrix(d: &[u8]) -> Matrix
         sy: float_at(d, MATRIX_AT + 12),
         tx: float_at(d, TRANSLATION_AT),
         ty: float_at(d, TRANSLATION_AT + 4),
+    }
+}
+
+// The matrix in 1/65,536, where its entries are within their limits.
+pub fn fixed_matrix(d: &[u8]) -> FixedMatrix
+    requires { ⌜ (length (now d) ≡ drawBytes) × (matrixInLimits (matrixOf (now d)) ≡ true) ⌝ }
+    ensures { λ r. ⌜ r ≡ fixedMatrix (matrixOf (now (d .entry))) ⌝ }
+{
+    let c = FixedMatrix::from_floats(matrix(d));
+    match c {
+        Converted::Within(m) => m,
+        Converted::OutOfLimits => FixedMatrix {
+            sx: 0,
+            shy: 0,
+            shx: 0,
+            sy: 0,
+            tx: 0,
+            ty: 0,
+        },
     }
 }
 

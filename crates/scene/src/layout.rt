@@ -83,13 +83,18 @@ pub const STOP_FLOATS: usize = 5;
 
 // The limits of floats, as powers of 2: 256 and 32,768 in the matrix, 4,096 in the linear points.
 pub const LINEAR_LOG: u32 = 8;
+
 pub const TRANSLATION_LOG: u32 = 15;
+
 pub const POINT_LOG: u32 = 12;
 
 // Paint types and spread modes.
 pub const PAINT_COLOR: u32 = 0x1B00;
+
 pub const PAINT_LINEAR: u32 = 0x1B01;
+
 pub const SPREAD_PAD: u32 = 0x1C00;
+
 pub const SPREAD_REFLECT: u32 = 0x1C02;
 
 // Codes.

@@ -5,6 +5,7 @@ pub mod fields;
 pub mod header;
 pub mod layout;
 pub mod rules;
+pub mod verdict;
 
 // The two sums of a block's check.
 pub struct Checksum {
@@ -15,7 +16,7 @@ pub struct Checksum {
 // The first fault among fields: its code, 0 for none, and the place that the rules met, in the bytes that are judged.
 pub struct FieldFault {
     pub code: u16,
-    pub place: usize,
+    pub place: u16,
 }
 
 // A scene's first fault: its code, 0 for none, the draw number, and the offset in the file.

@@ -1,0 +1,42 @@
+-- What a scene and a draw have that the rules accept, for the contracts and proofs of those that take them. A reviewer of the paper need not
+-- read it: all of it follows from the rules.
+use Prim.Native.Nat.{ℕ, _+_, _*_, _≤_, _<_}
+use mathlib.Core.Path.{_≡_}
+use mathlib.Core.List.{List}
+use mathlib.Core.Bool.{true, false, _&&_, _||_}
+use lib.ListN.{length}
+use lib.Dec.{leb, eqb}
+use lib.Ieee.{isNan}
+use Rattle.fixed.specs.Floats.{f32At, atMost}
+use Rattle.blend.specs.PorterDuff.{isMode}
+use Rattle.paint.specs.Gradient.{spreadPad, spreadReflect}
+use Rattle.paint.specs.Paints.{paintColor, paintLinear}
+use Rattle.path.specs.Matrices.{matrixInLimits, fixedMatrix}
+use Rattle.path.specs.Segments.{faultTo}
+use Rattle.scene.specs.Layout.{blockBytes, sideLimit, drawLimit, segmentLimit, scissorLimit, stopLimit, colorAt, linearAt, stopsAt}
+use Rattle.scene.specs.Blocks.{blockOf, drawOf}
+use Rattle.scene.specs.Header.{widthOf, heightOf, countOf}
+use Rattle.scene.specs.Fields.{blendOf, paintTypeOf, spreadOf, segmentCount, scissorCount, stopCount, matrixOf, segmentsOf, coordinatesOf}
+use Rattle.scene.specs.Rules.{linearPointLimit, drawRules}
+
+pub record AcceptedDraw (d : List ℕ) : Type 0 where
+  pub mode : isMode (blendOf d) ≡ true
+  pub paintType : (eqb (paintTypeOf d) paintColor || eqb (paintTypeOf d) paintLinear) ≡ true
+  pub spread : (leb spreadPad (spreadOf d) && leb (spreadOf d) spreadReflect) ≡ true
+  pub segments : segmentCount d ≤ segmentLimit
+  pub scissors : scissorCount d ≤ scissorLimit
+  pub stops : stopCount d ≤ stopLimit
+  pub matrix : matrixInLimits (matrixOf d) ≡ true
+  pub color : (i : ℕ) → i < 4 → isNan (f32At d (colorAt + 4 * i)) ≡ false
+  pub points : (i : ℕ) → i < 4 → atMost linearPointLimit (f32At d (linearAt + 4 * i)) ≡ true
+  pub stopFloats : (i : ℕ) → i < 5 * stopCount d → isNan (f32At d (stopsAt + 4 * i)) ≡ false
+  pub path : faultTo (fixedMatrix (matrixOf d)) (segmentsOf d) (coordinatesOf d) (segmentCount d) .code ≡ 0
+
+pub record AcceptedScene (s : List ℕ) : Type 0 where
+  pub widthLeast : 1 ≤ widthOf s
+  pub widthMost : widthOf s ≤ sideLimit
+  pub heightLeast : 1 ≤ heightOf s
+  pub heightMost : heightOf s ≤ sideLimit
+  pub count : countOf s ≤ drawLimit
+  pub bytes : length s ≡ blockBytes * blockOf (countOf s)
+  pub draws : (i : ℕ) → i < countOf s → drawRules (drawOf s i) .code ≡ 0
