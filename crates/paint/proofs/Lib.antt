@@ -1,12 +1,22 @@
--- Laws of gradients:
---     Sizes    signed numbers of which a size is known
---     Slope    dx² + dy²
---     Folded   t modulo 65,536
+-- Laws of paint.
+--
+-- Gradients:
+--     Sizes       signed numbers of which a size is known
+--     Slope       dx² + dy², and rows with one t
+--     Folded      t modulo 65,536
 --     Quotients   floor division from one numerator to the next
 --     Walk        t from pixel to pixel of a row
---     Mix      a channel between two stops
+--
+-- Ramps:
+--     Mix         a channel between two stops
+--     Lookup      the search for the stops around t
 --     Reals       floats read from bytes
---     Lookup   the search for the stops around t
+--     Built       stops stored one after the other
+--     Ends        which stops are kept, and the two ends
+--
+-- For callers:
+--     Sound       what buffers that hold a ramp keep to, and that paint is made of bytes
+--     Painted     what the code paints is the paint of the definitions
 pub mod Sizes
 pub mod Slope
 pub mod Folded
@@ -15,3 +25,7 @@ pub mod Walk
 pub mod Mix
 pub mod Reals
 pub mod Lookup
+pub mod Built
+pub mod Ends
+pub mod Sound
+pub mod Painted

@@ -2,8 +2,9 @@
 -- reviewer of the paper need not read it.
 use Prim.Native.Nat.{ℕ, zero, suc, _*_, _≤_, _<_}
 use mathlib.Core.Path.{_≡_}
-use mathlib.Core.List.{List, [], _∷_}
+use mathlib.Core.List.{List, [], _∷_, _++_}
 use mathlib.Core.Bool.{Bool, false, cond}
+use lib.Dec.{eqb}
 use lib.ListN.{length, getD}
 use lib.IntN.{ℤ, pos, natAbs, _+ℤ_, _-ℤ_, _*ℤ_}
 use lib.Signed.{ltZ}
@@ -14,6 +15,7 @@ use Rattle.fixed.specs.Floor.{floorDiv, floorMod}
 use Rattle.color.specs.declared.Pixel.{Pixel}
 use Rattle.raster.specs.Surface.{pixelIn}
 use Rattle.paint.specs.Gradient.{one, projection, squaredLength, linearT}
+use Rattle.paint.specs.Ramps.{stop, black, white, withEnd}
 use Rattle.paint.specs.Paints.{gradientColor}
 use Rattle.paint.specs.declared.FixedPoints.{FixedPoints}
 use Rattle.paint.specs.declared.LinearGradient.{LinearGradient}
@@ -26,6 +28,13 @@ pub record Near (p : FixedPoints) : Type 0 where
   pub y0 : natAbs (p .y0) ≤ 1048576
   pub x1 : natAbs (p .x1) ≤ 1048576
   pub y1 : natAbs (p .y1) ≤ 1048576
+
+-- four bytes
+pub record Bytes (p : Pixel) : Type 0 where
+  pub r : p .r < 256
+  pub g : p .g < 256
+  pub b : p .b < 256
+  pub a : p .a < 256
 
 -- ---- floats as they are read: a NaN is less than none
 abbrev pub lessReal : Real → Real → Bool
@@ -52,6 +61,28 @@ pub record Held (offsets colors : List ℕ) (count : ℕ) : Type 0 where
   pub bytes : count * 4 ≤ length colors
   pub first : getD offsets 0 0 ≡ 0
   pub below : (i : ℕ) → i < count → getD offsets i 0 ≤ one
+
+-- ---- the ramp as it is built, stop after stop
+-- room for 32 stops and two ends
+pub record Room (offsets colors : List ℕ) : Type 0 where
+  pub places : 34 ≤ length offsets
+  pub bytes : 136 ≤ length colors
+
+-- an end at 0 before the first
+abbrev pub withFirst : List Stop → List Stop
+withFirst [] = []
+withFirst (a ∷ rest) = cond (eqb (a .offset) 0) (a ∷ rest) (stop 0 (a .color) ∷ a ∷ rest)
+
+-- one more, or none: the first with its end
+abbrev pub grown : List Stop → List Stop → List Stop
+grown l [] = l
+grown [] (s ∷ more) = withFirst (s ∷ [])
+grown (a ∷ l) (s ∷ more) = (a ∷ l) ++ (s ∷ [])
+
+-- an end at 65,536 after the last; without any, black and white
+abbrev pub closed : List Stop → List Stop
+closed [] = stop 0 black ∷ stop one white ∷ []
+closed (a ∷ rest) = withEnd a rest
 
 -- ---- t along a row: the numerator over the squared length, from pixel to pixel
 abbrev pub quotientOf : ℤ → ℕ → Quotient

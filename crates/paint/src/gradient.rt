@@ -1,12 +1,29 @@
 // The linear gradient's t at a pixel and along a row, and the spread modes.
 use crate::FixedPoints;
+use crate::LinearPoints;
 use crate::Quotient;
+use fixed::Fixed;
 ghost use mathlib.Core.Path.{_≡_};
 ghost use Prim.Native.Nat.{_+_, _*_, _≤_};
 ghost use lib.IntN.{pos, natAbs, _+ℤ_, _-ℤ_, _*ℤ_};
-ghost use Rattle.paint.specs.Gradient.{one, centre, squaredLength, projection, linearT, mapped};
+ghost use mathlib.Core.Bool.{true};
+ghost use Rattle.fixed.specs.Floats.{atMost, scaled};
+ghost use Rattle.paint.specs.Gradient.{fixedPoints, one, centre, squaredLength, projection, linearT, mapped};
 ghost use lib.Signed.{_<ℤ_};
 ghost use Rattle.paint.specs.Buffers.{Near, Moderate, quotientOf, addQuotients, quotientAt, rowStep};
+
+// The points of a draw in 1/256 pixel.
+pub fn fixed_points(p: LinearPoints) -> FixedPoints
+    requires { ⌜ (atMost 4096 (p .x0) ≡ true) × (atMost 4096 (p .y0) ≡ true) × (atMost 4096 (p .x1) ≡ true) × (atMost 4096 (p .y1) ≡ true) ⌝ }
+    ensures { λ r. ⌜ (r ≡ fixedPoints p) × Near r ⌝ }
+{
+    FixedPoints {
+        x0: coordinate(p.x0),
+        y0: coordinate(p.y0),
+        x1: coordinate(p.x1),
+        y1: coordinate(p.y1),
+    }
+}
 
 // t at the pixel (x, y).
 pub fn linear_t(p: FixedPoints, x: usize, y: usize) -> i64
@@ -36,6 +53,14 @@ pub fn spread(mode: u32, t: i64) -> i64
         return rest;
     }
     t
+}
+
+fn coordinate(v: f32) -> i64
+    requires { ⌜ atMost 4096 v ≡ true ⌝ }
+    ensures { λ r. ⌜ (r ≡ scaled 256 v) × (natAbs r ≤ 1048576) ⌝ }
+{
+    let f = fixed::gradient_point(v);
+    if let Fixed::Value(z) = f { z } else { 0 }
 }
 
 // What t is 65,536ths of: the projection of the pixel's centre, 65,536 times.

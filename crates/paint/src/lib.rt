@@ -1,4 +1,5 @@
 // Paint: the colour of a pixel, from a plain colour or a linear gradient.
+pub mod build;
 pub mod gradient;
 pub mod ramp;
 pub mod row;

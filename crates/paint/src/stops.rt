@@ -32,7 +32,10 @@ fn falls_at(stops: &[u8], i: usize) -> bool
     requires { ⌜ (1 ≤ i) × (20 * i + 4 ≤ length (now stops)) ⌝ }
     ensures { λ r. ⌜ r ≡ Ieee.lt (offsetAt (now (stops .entry)) i) (offsetAt (now (stops .entry)) (i - 1)) ⌝ }
 {
-    less(fixed::f32_at(stops, 20 * i), fixed::f32_at(stops, 20 * (i - 1)))
+    less(
+        fixed::f32_at(stops, 20 * i),
+        fixed::f32_at(stops, 20 * (i - 1)),
+    )
 }
 
 // a < b, which no NaN is.

@@ -40,8 +40,7 @@ loop-again : tie.Need-loop-again Inv-loop μ-loop
 loop-again c =
     let l = c .before .before .before .loop in
     let a = c .before .before .before .before .before .before .args in
-    let e : l .j + 1 - 1 ≡ l .j = omega arith in
-    (
+    let e : l .j + 1 - 1 ≡ l .j = omega arith in (
       omega arith,
       omega arith,
       rw e (c .if1 .left),

@@ -66,8 +66,7 @@ loop-holds c =
 add-quotients-requires : tie.Need-add-quotients-requires Inv-loop μ-loop
 add-quotients-requires c κs =
     let s = start c in
-    let p = s .args .g .points in
-    (
+    let p = s .args .g .points in (
       moderate c,
       rw (c .before .before .before .before .before .row-step .ensures) (step-moderate p (s .pre .1 .1) (s .pre .0 .0)),
       rw (length-is c) (length-moderate p (s .pre .1 .1) (s .pre .0 .0)),
@@ -78,19 +77,18 @@ loop-again c =
     let l = c .before .before .before .before .loop in
     let s = start (c .before) in
     let a = s .args in
-    let e : a .x + (l .i + 1) ≡ at (c .before) + 1 = omega arith in
-    (
+    let e : a .x + (l .i + 1) ≡ at (c .before) + 1 = omega arith in (
       search needs,
       simp length-set (omega arith),
       c .add-quotients .ensures
-      ∙ rw (l .inv .2, c .before .before .before .before .before .before .row-step .ensures, length-is (c .before), e) (next-pixel (a .g .points) (s .pre .1 .1) (at (c .before)) (a .y)),
+          ∙ rw (l .inv .2, c .before .before .before .before .before .before .row-step .ensures, length-is (c .before), e) (next-pixel (a .g .points) (s .pre .1 .1) (at (c .before)) (a .y)),
       emit-four (λ k. bytesOf (linearAt (a .g) (stopsIn (a .offsets .now) (a .colors .now) (a .g .count)) (a .x + k) (a .y))) (l .row) (a .row .now) (l .i) (l .i * 4) (l .i + 1) _ _ _ _
-      (λ n. refl)
-      (sym (ap bytesOf (shaded (c .before))))
-      (l .inv .3)
-      (omega arith)
-      (omega arith)
-      (omega arith),
+          (λ n. refl)
+          (sym (ap bytesOf (shaded (c .before))))
+          (l .inv .3)
+          (omega arith)
+          (omega arith)
+          (omega arith),
     )
 
 returns : tie.Need-returns Inv-loop μ-loop
