@@ -18,6 +18,7 @@ use Rattle.raster.proofs.Pixels.{raster-at, raster-length, surface-same}
 use Rattle.raster.proofs.Overlay.{less-or, overlay-in, overlay-out, overlay-length}
 use Rattle.scene.specs.Blocks.{drawOf, sameDraw}
 use Rattle.scene.specs.Header.{widthOf, heightOf, countOf, backgroundOf}
+use Rattle.engine.proofs.Steps.{step-out}
 use Rattle.engine.specs.Picture.{drawStep, drawAll, firstDraws, pixelAt, picture}
 use Rattle.damage.specs.Damage.{has, changedAt, drawBox, boxAt, sameBackground, damageOf}
 use Rattle.damage.proofs.Changes.{same-equal, draw-length, changed-past, changed-gone, changed-bytes, box-there, same-background, damage-whole}
@@ -46,12 +47,13 @@ module _ (s : List ℕ) (x y : ℕ) (p : Pixel) where
       (λ k. rw (le-ltb n (countOf s) (le-of-suc-le-suc k)) (run-all n (le-of-suc-le-suc k)))
       (eq-or-lt-of-le l)
 
-module _ (step-out : (d : List ℕ) (w h x y : ℕ) (p : Pixel) → x < w → y < h → (Inside (drawBox w h d) x y → ⊥) → drawStep d x y p ≡ p)
+module _
     (old new : List ℕ) (w h : ℕ)
     (bo : length old ≡ 512 * (1 + 4 * countOf old)) (bn : length new ≡ 512 * (1 + 4 * countOf new))
   where
     -- outside its box, draw i does nothing
     step-none : (s : List ℕ) (i x y : ℕ) (p : Pixel) → x < w → y < h → (Inside (boxAt w h s i) x y → ⊥) → stepAt s i x y p ≡ p
+    unfolding drawBox
     step-none s i x y p k l o =
         less-or i (countOf s)
         (λ m. rw (lt-ltb i (countOf s) m) (step-out (drawOf s i) w h x y p k l (rw (box-there w h s i m) at o)))
