@@ -38,7 +38,18 @@ pub fn paint_outline(
         Paint::Solid(c) => {
             let none = [0u32; 1];
             let empty = [0u8; 1];
-            fill(surface, scratch, n, d, width, height, a, Shade::Solid(paint::row::solid_pixel(c)), &none, &empty);
+            fill(
+                surface,
+                scratch,
+                n,
+                d,
+                width,
+                height,
+                a,
+                Shade::Solid(paint::row::solid_pixel(c)),
+                &none,
+                &empty,
+            );
         }
         Paint::Linear(p) => {
             paint_linear(surface, scratch, n, d, width, height, a, p);
@@ -67,12 +78,29 @@ fn paint_linear(
     let mut offsets = [0u32; 34];
     let mut colors = [0u8; 136];
     let premultiply = scene::fields::ramp_premultiplied(d);
-    let count = paint::build::build_ramp(scene::fields::stops(d), scene::fields::stop_count(d), premultiply, &mut offsets, &mut colors);
+    let count = paint::build::build_ramp(
+        scene::fields::stops(d),
+        scene::fields::stop_count(d),
+        premultiply,
+        &mut offsets,
+        &mut colors,
+    );
     let g = LinearGradient {
         points: paint::gradient::fixed_points(p),
         spread: scene::fields::spread(d),
         premultiply,
         count,
     };
-    fill(surface, scratch, n, d, width, height, a, Shade::Linear(g), &offsets, &colors);
+    fill(
+        surface,
+        scratch,
+        n,
+        d,
+        width,
+        height,
+        a,
+        Shade::Linear(g),
+        &offsets,
+        &colors,
+    );
 }

@@ -10,6 +10,7 @@ use Rattle.raster.proofs.Pixels.{raster-length, raster-at}
 use Rattle.raster.proofs.Overlay.{overlay-in, overlay-out}
 use Rattle.scene.specs.Header.{widthOf, heightOf, countOf}
 use Rattle.scene.specs.Rules.{sceneFault}
+use Rattle.scene.proofs.Accepted.{accepted-scene}
 use Rattle.engine.specs.Picture.{pixelAt, picture}
 use Rattle.damage.specs.Damage.{damage}
 use Rattle.damage.proofs.Redraw.{redraw-right}
@@ -31,7 +32,7 @@ pub record Lent (s surface : List ℕ) (scratch : ℕ) : Type 0 where
   pub space : 12300 ≤ scratch
 
 accepted-length : (s : List ℕ) → Accepted s → length s ≡ 512 * (1 + 4 * countOf s)
-accepted-length s a = ?
+accepted-length s a = accepted-scene s a .bytes
 
 module _ (s surface : List ℕ) (scratch : ℕ) (a : Accepted s) (lent : Lent s surface scratch) where
   draw-passes : drawRefusal s (length surface) scratch .code ≡ 0

@@ -89,13 +89,12 @@ returns c =
     let points = c .before .before .before .before .before .before .before .before .before .fixed-points in
     let spread = c .before .before .before .before .before .before .before .before .spread in
     let premultiply = c .before .before .before .before .before .before .before .before .before .before .before .before .before .before .before .before .before .ramp-premultiplied in
-    let g : LinearGradient = record { points = points .result; spread = spread .result; premultiply = premultiply .result; count = ramp .result } in
-    (
+    let g : LinearGradient = record { points = points .result; spread = spread .result; premultiply = premultiply .result; count = ramp .result } in (
       r .ensures .0,
       own-paint (a .d .now) (a .surface .now) (r .last .0) (a .width) (a .height) (a .a) (Linear g) (ramp .last .1 .1 .1 .0) (ramp .last .1 .1 .1 .1 .0)
-      (linear-shade (a .d .now) (a .p) g (ramp .last .1 .1 .1 .0) (ramp .last .1 .1 .1 .1 .0) _ _ (s .pre .1 .1 .1) (points .ensures .0) (spread .ensures) (premultiply .ensures)
-      (c .before .before .before .before .before .before .before .before .before .before .before .before .before .before .before .before .stops .ensures) (c .before .before .before .before .before .before .before .before .before .before .before .before .before .before .before .stop-count .ensures .0) (ramp .ensures .0))
-      (r .ensures .1),
+          (linear-shade (a .d .now) (a .p) g (ramp .last .1 .1 .1 .0) (ramp .last .1 .1 .1 .1 .0) _ _ (s .pre .1 .1 .1) (points .ensures .0) (spread .ensures) (premultiply .ensures)
+          (c .before .before .before .before .before .before .before .before .before .before .before .before .before .before .before .before .stops .ensures) (c .before .before .before .before .before .before .before .before .before .before .before .before .before .before .before .stop-count .ensures .0) (ramp .ensures .0))
+          (r .ensures .1),
     )
 
 pub paint-linear-spec : {M : Type 1} → statement M

@@ -62,11 +62,10 @@ returns c =
     let a = s .args in
     let r = c .before .before .before .fill in
     let p = c .before .before .before .before .before .before .solid-pixel in
-    let m = c .before .before .before .before .before .before .before .before .before .before .paint2 .given in
-    (
+    let m = c .before .before .before .before .before .before .before .before .before .before .paint2 .given in (
       r .ensures .0,
       own-paint (a .d .now) (a .surface .now) (r .last .0) (a .width) (a .height) (a .a) (Solid (p .result)) _ _
-      (solid-shade (a .d .now) (m .0 .0) (p .result) _ _ (sym (c .before .before .before .before .before .before .before .before .before .before .before .before .paint .ensures) ∙ m .1) (p .ensures)) (r .ensures .1),
+          (solid-shade (a .d .now) (m .0 .0) (p .result) _ _ (sym (c .before .before .before .before .before .before .before .before .before .before .before .before .paint .ensures) ∙ m .1) (p .ensures)) (r .ensures .1),
     )
 
 -- src/brush.rt:21:1

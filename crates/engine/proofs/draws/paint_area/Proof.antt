@@ -43,8 +43,7 @@ paint-draws-requires : tie.Need-paint-draws-requires
 paint-draws-requires c κs =
     let s = c .before .before .before .before .before .before .before .before .before .before .before .before .before .before in
     let p = s .pre .1 .1 in
-    let z = c .before .before .before .before .before .before .before .before .before .before .clear in
-    (
+    let z = c .before .before .before .before .before .before .before .before .before .before .clear in (
       (s .pre .0 .0, (s .pre .0 .1, refl)),
       ((omega (arith, z .kept .0, s .pre .1 .0), z .ensures ∙ ap (λ (k : ℕ). replicate k (pos 0)) (sym (z .kept .0))), (c .before .before .before .before .before .fill-rect .kept .0 ∙ p .0, p .1)),
     )
@@ -64,11 +63,10 @@ returns c =
     let a = s .args in
     let t = c .before .before .before .before .paint-draws in
     let f = c .before .before .before .before .before .before .before .before .before .before .fill-rect in
-    let p = c .before .before .before .before .before .before .before .before .before .before .before .premultiplied in
-    (
+    let p = c .before .before .before .before .before .before .before .before .before .before .before .premultiplied in (
       t .ensures .0 ∙ c .before .before .before .before .before .before .before .before .before .before .before .before .before .before .before .clear .ensures,
       background-then (a .scene .now) (f .last .0) (t .last .0) (a .surface .now) (a .width) (a .height) (a .n) (p .result) (a .a) (s .pre .0 .1)
-      (p .ensures ∙ ap premultiplied (c .before .before .before .before .before .before .before .before .before .before .before .before .background .ensures)) (f .ensures) (t .ensures .1),
+          (p .ensures ∙ ap premultiplied (c .before .before .before .before .before .before .before .before .before .before .before .before .background .ensures)) (f .ensures) (t .ensures .1),
     )
 
 pub paint-area-spec : {M : Type 1} → statement M

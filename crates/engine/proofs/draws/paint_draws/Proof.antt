@@ -47,8 +47,7 @@ paint-draw-requires c κs =
     let s = c .before .before .before .before .before .before .before .before .before .before .before .before in
     let l = c .before .before .before .before .before .before .before .before .loop in
     let r = c .before .before .before .before .before .read-draw in
-    let e = s .pre .0 .0 .draws (l .i) (omega (arith, s .pre .0 .1 .0)) in
-    (
+    let e = s .pre .0 .0 .draws (l .i) (omega (arith, s .pre .0 .1 .0)) in (
       (r .kept .1 .1 .0 ∙ l .inv .3 ∙ s .pre .0 .1 .1, subst AcceptedDraw (sym (r .ensures)) (accepted-draw (drawOf (s .args .scene .now) (l .i)) e)),
       (
         subst (λ (z : List ℤ). (12300 ≤ length z) × (z ≡ replicate (length z) (pos 0))) (sym (l .inv .2)) (s .pre .1 .0),

@@ -48,8 +48,7 @@ returns c =
     let ss = c .before .before .before .before .before .segments .ensures in
     let cs = c .before .before .before .coordinates .ensures in
     let n = c .before .before .before .before .segment-count .ensures .0 in
-    let f = c .before .flatten in
-    (
+    let f = c .before .flatten in (
       edges-laid d _ _ _ _ m ss cs n (s .pre .0 .1) l _ _ (s .pre .1 .0) (s .pre .1 .1) (f .ensures .0) (f .ensures .1),
       edges-cleared d _ _ _ _ m ss cs n (s .pre .0 .1) l _ _ (s .pre .1 .0) (s .pre .1 .1) (f .ensures .0) (f .ensures .1),
     )
