@@ -22,7 +22,7 @@ const EXPONENT_BIAS: u32 = 127;
 
 const EXPONENT_ONE: u32 = 0x800000;
 
-// A rule: a place that must be as the paper says.
+// A rule, and the place that must keep it.
 pub fn must(ok: bool, place: usize) -> FieldFault
     requires { ⌜ place ≤ drawBytes ⌝ }
     ensures { λ r. ⌜ r ≡ Faults.must ok place ⌝ }
