@@ -1,12 +1,12 @@
 -- Bytes copied in order: one by one, and a part at a time.
-use mathlib.Core.Path.{_≡_, refl, sym, ap, _∙_}
+use mathlib.Core.Path.{_≡_, sym, ap, _∙_}
 use mathlib.Core.List.{List, _++_, append-assoc}
 use Prim.Native.Nat.{ℕ, _+_, _≤_, _<_}
 use native.Mathlib.Numerals.{add-one}
 use native.Mathlib.Omega.{arith}
 use lib.ListN.{length, getD, set, take, drop, length-append, length-take, length-drop}
 use lib.Seq.{length-take-le, take-suc, take-at, getD-drop}
-use Rattle.lists.specs.Lists.{upto, over, total}
+use Rattle.lists.specs.Lists.{upto, over}
 use Rattle.lists.proofs.Laws.{over-put, over-all, upto-more}
 
 -- the byte at i is copied, after those before it
@@ -22,10 +22,6 @@ module _ (s d : List ℕ) (at : ℕ) where
 
   pub copy-end : (o : List ℕ) (i : ℕ) → i ≡ length d → at + length d ≤ length s → o ≡ over (take i (drop at s)) d → o ≡ take (length d) (drop at s)
   copy-end o i q h e = e ∙ rw q (over-all (take (length d) (drop at s)) d (taken (length d) h))
-
--- a sum that begins at start takes up its next term
-pub sum-turn : (start : ℕ) (f : ℕ → ℕ) (i a x : ℕ) → a ≡ start + total i f → x ≡ f i → a + x ≡ start + total (i + 1) f
-sum-turn start f i a x e q = rw (add-one, e, q) (omega arith)
 
 -- the part f j, of m bytes, is stored at i after the parts before it
 module _ {A : Type 0} (s q : List A) (i m w : ℕ) (fits : i + m ≤ length s) (wide : length q ≡ m) where

@@ -1,5 +1,5 @@
 -- The first fault of several: a turn of a loop that meets none, and one that meets it.
-use mathlib.Core.Path.{_≡_, refl, sym, ap, _∙_}
+use mathlib.Core.Path.{_≡_, refl, _∙_}
 use mathlib.Core.Bool.{Bool, true, false}
 use mathlib.Core.Logic.{⊎-elim}
 use mathlib.Core.List.{List}
@@ -21,6 +21,11 @@ module _ {A : Type 0} (code : A → ℕ) (none : A) (calm : code none ≡ 0) (f 
   first-hit n zero l h b = absurd (not-suc-le-zero l)
   first-hit n (suc m) l h b =
       ⊎-elim (λ e. rw (← e, h, calm)) (λ k. rw (first-hit n m k h b, ne-eqb (code (f n)) 0 b)) (eq-or-lt-of-le (le-of-suc-le-suc l))
+
+-- the same faults in the same places
+pub first-same : {A : Type 0} (code : A → ℕ) (none : A) (f g : ℕ → A) (n : ℕ) → ((i : ℕ) → f i ≡ g i) → soonest code none n f ≡ soonest code none n g
+first-same code none f g zero h = refl
+first-same code none f g (suc n) h = rw (first-same code none f g n h, h n)
 
 -- rules on fields: t i must hold at the place p i
 module _ (t : ℕ → Bool) (p : ℕ → ℕ) where

@@ -1,4 +1,5 @@
 -- Laws of the scene file:
+--     Sums       a sum that begins at a start value
 --     Copies     bytes copied in order
 --     Same       lists whose first bytes are the same
 --     First      the first fault of several
@@ -6,10 +7,11 @@
 --     Paths      the rules of a path, from the walk over it
 --     Accepted   what a scene and a draw have that the rules accept
 --     Verdicts   the verdict, by how far the rules are kept
-pub mod Copies
-pub mod Same
-pub mod First
-pub mod Sizes
-pub mod Paths
+mod Sums
+mod Copies
+mod Same
+mod First
+mod Sizes
+mod Paths
 pub mod Accepted
-pub mod Verdicts
+mod Verdicts

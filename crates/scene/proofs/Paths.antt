@@ -1,5 +1,5 @@
 -- The rules of a draw's path, from what the walk over it answers.
-use mathlib.Core.Path.{_≡_, refl, sym, ap, _∙_}
+use mathlib.Core.Path.{_≡_, sym, ap, _∙_}
 use mathlib.Core.List.{List}
 use mathlib.Core.Bool.{Bool, true, false, cond}
 use Prim.Native.Nat.{ℕ, zero, suc, _+_, _*_, _≤_}
@@ -18,7 +18,6 @@ use Rattle.path.proofs.Faults.{accepted-ready}
 use Rattle.scene.specs.Fields.{matrixOf, segmentsOf, coordinatesOf, segmentCount}
 use Rattle.scene.specs.Faults.{orElse, unused}
 use Rattle.scene.specs.Rules.{pathRules, restRules}
-use Rattle.scene.specs.declared.FieldFault.{FieldFault}
 
 either : (t : Bool) (f g : PathFault) (k : ℕ) → f .segment ≤ k → g .segment ≤ k → cond t f g .segment ≤ k
 either true f g k a b = a

@@ -13,7 +13,7 @@ use Rattle.paint.specs.Gradient.{spreadPad, spreadReflect}
 use Rattle.paint.specs.Paints.{paintColor, paintLinear}
 use Rattle.path.specs.Matrices.{matrixInLimits, fixedMatrix}
 use Rattle.path.specs.Segments.{faultTo}
-use Rattle.scene.specs.Layout.{blockBytes, sideLimit, drawLimit, segmentLimit, scissorLimit, stopLimit, colorAt, linearAt, stopsAt}
+use Rattle.scene.specs.Layout.{blockBytes, sideLimit, drawLimit, segmentLimit, scissorLimit, stopLimit, colorAt, linearAt, stopsAt, stopFloats}
 use Rattle.scene.specs.Blocks.{blockOf, drawOf}
 use Rattle.scene.specs.Header.{widthOf, heightOf, countOf}
 use Rattle.scene.specs.Fields.{blendOf, paintTypeOf, spreadOf, segmentCount, scissorCount, stopCount, matrixOf, segmentsOf, coordinatesOf}
@@ -29,7 +29,7 @@ pub record AcceptedDraw (d : List ℕ) : Type 0 where
   pub matrix : matrixInLimits (matrixOf d) ≡ true
   pub color : (i : ℕ) → i < 4 → isNan (f32At d (colorAt + 4 * i)) ≡ false
   pub points : (i : ℕ) → i < 4 → atMost linearPointLimit (f32At d (linearAt + 4 * i)) ≡ true
-  pub stopFloats : (i : ℕ) → i < 5 * stopCount d → isNan (f32At d (stopsAt + 4 * i)) ≡ false
+  pub stopFloats : (i : ℕ) → i < stopFloats * stopCount d → isNan (f32At d (stopsAt + 4 * i)) ≡ false
   pub path : faultTo (fixedMatrix (matrixOf d)) (segmentsOf d) (coordinatesOf d) (segmentCount d) .code ≡ 0
 
 pub record AcceptedScene (s : List ℕ) : Type 0 where

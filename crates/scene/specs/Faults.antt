@@ -28,7 +28,7 @@ orElse = sooner (λ f. f .code)
 abbrev pub firstOf : ℕ → (ℕ → FieldFault) → FieldFault
 firstOf = soonest (λ f. f .code) fine
 
--- a rule: a place that must be as the paper says
+-- a rule, and the place that must keep it
 abbrev pub must : Bool → ℕ → FieldFault
 must ok place = cond ok fine (record { code = illegalArgument; place = place })
 
@@ -36,10 +36,11 @@ must ok place = cond ok fine (record { code = illegalArgument; place = place })
 abbrev pub unused : List ℕ → ℕ → ℕ → FieldFault
 unused d from to = firstOf (to - from) (λ i. must (eqb (getD d (from + i) 0) 0) (from + i))
 
--- n floats from a place on: at most b in size, and not NaN
+-- n floats from a place on are at most b in size, which no infinity and no NaN is
 abbrev pub limited : List ℕ → ℕ → ℕ → ℕ → FieldFault
 limited d b at n = firstOf n (λ i. must (atMost b (f32At d (at + 4 * i))) (at + 4 * i))
 
+-- n floats from a place on are no NaNs
 abbrev pub numbers : List ℕ → ℕ → ℕ → FieldFault
 numbers d at n = firstOf n (λ i. must (not (isNan (f32At d (at + 4 * i)))) (at + 4 * i))
 

@@ -1,5 +1,5 @@
 -- A draw's fields, of its 2,032 bytes d.
-use Prim.Native.Nat.{ℕ, _+_, _*_, _/_, _%_, _-_, _^_}
+use Prim.Native.Nat.{ℕ, _+_, _/_, _%_, _-_, _^_}
 use mathlib.Core.List.{List}
 use mathlib.Core.Bool.{Bool, true, false}
 use lib.ListN.{getD, take, drop}

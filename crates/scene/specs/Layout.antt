@@ -99,6 +99,10 @@ segmentsAt = 772
 abbrev pub coordinatesAt : ℕ
 coordinatesAt = 900
 
+-- bits 0 to 2; the others are 0
+abbrev pub flagsLimit : ℕ
+flagsLimit = 8
+
 abbrev pub segmentLimit : ℕ
 segmentLimit = 128
 
@@ -113,6 +117,9 @@ scissorBytes = 16
 
 abbrev pub stopBytes : ℕ
 stopBytes = 20
+
+abbrev pub stopFloats : ℕ
+stopFloats = 5
 
 -- codes
 abbrev pub badChecksum : ℕ

@@ -12,7 +12,7 @@ use Rattle.path.specs.Matrices.{linearLimit, translationLimit, fixedMatrix}
 use Rattle.path.specs.Segments.{faultTo, walkTo}
 use Rattle.scene.specs.Layout.{blockBytes, payloadBytes, drawBlocks, widthAt, heightAt, countAt, reservedAt, headerEnd, sideLimit, drawLimit, noDraw}
 use Rattle.scene.specs.Layout.{flagsAt, blendAt, paintTypeAt, spreadAt, segmentCountAt, scissorCountAt, stopCountAt, paddingAt, matrixAt, translationAt, colorAt, linearAt}
-use Rattle.scene.specs.Layout.{scissorsAt, stopsAt, segmentsAt, coordinatesAt, drawBytes, segmentLimit, scissorLimit, stopLimit, scissorBytes, stopBytes, badChecksum, badLength}
+use Rattle.scene.specs.Layout.{scissorsAt, stopsAt, segmentsAt, coordinatesAt, drawBytes, flagsLimit, segmentLimit, scissorLimit, stopLimit, scissorBytes, stopBytes, stopFloats, badChecksum, badLength}
 use Rattle.scene.specs.Blocks.{blockRight, blockOf, drawOf, fileOffset}
 use Rattle.scene.specs.Header.{widthOf, heightOf, countOf}
 use Rattle.scene.specs.Fields.{flagsOf, blendOf, paintTypeOf, spreadOf, segmentCount, scissorCount, stopCount, matrixOf, segmentsOf, coordinatesOf}
@@ -23,7 +23,7 @@ use Rattle.scene.specs.declared.Fault.{Fault}
 abbrev pub linearPointLimit : ℕ
 linearPointLimit = 4096
 
--- ---- a draw's fields, in layout order
+-- ---- a draw's fields, in layout order: the counts and the zero after them come last in the head, and before all that follows
 unfoldable pub countRules : List ℕ → FieldFault
 countRules d =
     orElse (must (leb (segmentCount d) segmentLimit) segmentCountAt)
@@ -33,12 +33,13 @@ countRules d =
 
 unfoldable pub headRules : List ℕ → FieldFault
 headRules d =
-    orElse (must (ltb (flagsOf d) 8) flagsAt)
+    orElse (must (ltb (flagsOf d) flagsLimit) flagsAt)
     (orElse (must (isMode (blendOf d)) blendAt)
     (orElse (must (eqb (paintTypeOf d) paintColor || eqb (paintTypeOf d) paintLinear) paintTypeAt)
     (orElse (must (leb spreadPad (spreadOf d) && leb (spreadOf d) spreadReflect) spreadAt)
     (countRules d))))
 
+-- the matrix, the colour and the linear points, whatever the paint type
 unfoldable pub floatRules : List ℕ → FieldFault
 floatRules d =
     orElse (limited d linearLimit matrixAt 4)
@@ -46,10 +47,11 @@ floatRules d =
     (orElse (numbers d colorAt 4)
     (limited d linearPointLimit linearAt 4)))
 
+-- unused scissors, used stops, unused stops
 unfoldable pub listRules : List ℕ → FieldFault
 listRules d =
     orElse (unused d (scissorsAt + scissorBytes * scissorCount d) stopsAt)
-    (orElse (numbers d stopsAt (5 * stopCount d))
+    (orElse (numbers d stopsAt (stopFloats * stopCount d))
     (unused d (stopsAt + stopBytes * stopCount d) segmentsAt))
 
 -- the path, segment by segment
@@ -82,14 +84,16 @@ headerRules s =
 abbrev pub inHeader : FieldFault → Fault
 inHeader f = cond (eqb (f .code) 0) accepted (fault (f .code) noDraw (f .place))
 
--- draw i: its four checks, then its own rules
+-- a fault of draw i
 abbrev pub inDraw : ℕ → FieldFault → Fault
 inDraw i f = cond (eqb (f .code) 0) accepted (fault (f .code) i (fileOffset i (f .place)))
 
+-- the checks of draw i's blocks
 unfoldable pub checkFaults : List ℕ → ℕ → Fault
 checkFaults s i =
     firstFault drawBlocks (λ j. demand (blockRight s (blockOf i + j)) (fault badChecksum i (blockBytes * (blockOf i + j) + payloadBytes)))
 
+-- draw i: its four checks, then its own rules
 unfoldable pub drawFault : List ℕ → ℕ → Fault
 drawFault s i = orFault (checkFaults s i) (inDraw i (drawRules (drawOf s i)))
 

@@ -6,11 +6,13 @@ use crate::FieldFault;
 use crate::layout::ILLEGAL_ARGUMENT;
 use fixed::u32_at;
 ghost use mathlib.Core.Path.{_≡_};
-ghost use Prim.Native.Nat.{_+_, _*_, _^_, _≤_};
+ghost use Prim.Native.Nat.{_+_, _*_, _%_, _^_, _≤_};
 ghost use lib.ListN.{length};
+ghost use lib.Dec.{leb};
+ghost use Rattle.fixed.specs.Little.{u32At};
 ghost use Rattle.scene.specs.Layout.{drawBytes};
 ghost use Rattle.scene.specs.Faults as Faults;
-ghost use Rattle.scene.specs.Faults.{orElse};
+ghost use Rattle.scene.specs.Faults.{orElse, firstOf};
 
 const SIGN: u32 = 0x80000000;
 
@@ -20,7 +22,7 @@ const EXPONENT_BIAS: u32 = 127;
 
 const EXPONENT_ONE: u32 = 0x800000;
 
-// A rule: a place that must be as the paper says.
+// A rule, and the place that must keep it.
 pub fn must(ok: bool, place: usize) -> FieldFault
     requires { ⌜ place ≤ drawBytes ⌝ }
     ensures { λ r. ⌜ r ≡ Faults.must ok place ⌝ }
@@ -62,16 +64,7 @@ pub fn limited(d: &[u8], log: u32, at: usize, n: usize) -> FieldFault
     requires { ⌜ (log ≤ 15) × (at + 4 * n ≤ length (now d)) × (at + 4 * n ≤ drawBytes) ⌝ }
     ensures { λ r. ⌜ r ≡ Faults.limited (now (d .entry)) (2 ^ log) at n ⌝ }
 {
-    let limit = (EXPONENT_BIAS + log) * EXPONENT_ONE;
-    let mut i = 0;
-    while i < n {
-        let place = at + 4 * i;
-        if limit < u32_at(d, place) % SIGN {
-            return must(false, place);
-        }
-        i += 1;
-    }
-    must(true, 0)
+    patterns(d, (EXPONENT_BIAS + log) * EXPONENT_ONE, at, n)
 }
 
 // n floats from a place on are no NaNs.
@@ -79,10 +72,18 @@ pub fn numbers(d: &[u8], at: usize, n: usize) -> FieldFault
     requires { ⌜ (at + 4 * n ≤ length (now d)) × (at + 4 * n ≤ drawBytes) ⌝ }
     ensures { λ r. ⌜ r ≡ Faults.numbers (now (d .entry)) at n ⌝ }
 {
+    patterns(d, INFINITY, at, n)
+}
+
+// The bit patterns of n floats from a place on are at most a limit, without their signs.
+fn patterns(d: &[u8], limit: u32, at: usize, n: usize) -> FieldFault
+    requires { ⌜ (at + 4 * n ≤ length (now d)) × (at + 4 * n ≤ drawBytes) ⌝ }
+    ensures { λ r. ⌜ r ≡ firstOf n (λ i. Faults.must (leb (u32At (now (d .entry)) (at + 4 * i) % 2147483648) limit) (at + 4 * i)) ⌝ }
+{
     let mut i = 0;
     while i < n {
         let place = at + 4 * i;
-        if INFINITY < u32_at(d, place) % SIGN {
+        if limit < u32_at(d, place) % SIGN {
             return must(false, place);
         }
         i += 1;

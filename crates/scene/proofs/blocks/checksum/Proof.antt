@@ -1,20 +1,16 @@
-use mathlib.Core.Path.{_≡_, refl, sym, ap, _∙_}
-use Prim.Native.Nat.{ℕ, suc, _+_, _-_, _*_, _%_, _≤_, _<_}
-use mathlib.Core.Bool.{Bool, true, false}
+-- `scene::blocks::checksum` meets its contract.
+use mathlib.Core.Path.{_≡_, ap, _∙_}
+use Prim.Native.Nat.{suc, _+_, _-_, _*_, _≤_}
 use native.Mathlib.Nat.{mul-le-mul}
 use native.Mathlib.Numerals.{add-one}
 use native.Mathlib.Omega.{arith}
-use lib.ListN.{length, getD, set, take, drop, length-set}
-use Rattle.lists.specs.Lists.{total, upto, over}
+use Rattle.lists.specs.Lists.{total}
 use Rattle.fixed.specs.Little.{u16At}
 use Rattle.scene.specs.Blocks.{checksumOf}
-use Rattle.scene.proofs.Copies.{sum-turn}
+use Rattle.scene.proofs.Sums.{sum-turn}
 use borrow.Author.Needs.{needs}
 use Rattle.scene.proofs.blocks.checksum.Statement.{statement}
 use Rattle.scene.proofs.blocks.checksum.Tie as tie
-use Rattle.scene.proofs.blocks.checksum.Reads as reads
-use Rattle.scene.proofs.blocks.checksum.Lts as lts
-use Rattle.fixed.proofs.u16_at.Reads as u16-at-reads
 
 abbrev Inv-loop : tie.InvT-loop
 Inv-loop start s at plain₀ weighted₀ place₀ i₀ plain weighted place i =
@@ -28,38 +24,12 @@ abbrev μ-loop : tie.MeasureT-loop
 product : (c : tie.After-u16-at Inv-loop μ-loop) → (c .before .before .loop .i + 1) * c .u16-at .result ≤ 254 * 65535
 product c = mul-le-mul {n₁ = c .before .before .loop .i + 1} {m₁ = c .u16-at .result} {n₂ = 254} {m₂ = 65535} (omega arith) (omega arith)
 
-loop-holds : tie.Need-loop-holds Inv-loop μ-loop
-loop-holds c = search needs
-
--- src/blocks.rt:26:13
-u16-at-requires : tie.Need-u16-at-requires Inv-loop μ-loop
-u16-at-requires c κs = search needs
-
--- src/blocks.rt:27:9
-add-i : tie.Need-add-i Inv-loop μ-loop
-add-i c = search needs
-
--- src/blocks.rt:28:9
-add-plain : tie.Need-add-plain Inv-loop μ-loop
-add-plain c = search needs
-
--- src/blocks.rt:29:21
 mul-weighted : tie.Need-mul-weighted Inv-loop μ-loop
 mul-weighted c = omega (arith, product c)
 
--- src/blocks.rt:29:9
 add-weighted : tie.Need-add-weighted Inv-loop μ-loop
 add-weighted c = omega (arith, product c)
 
--- src/blocks.rt:30:9
-add-place : tie.Need-add-place Inv-loop μ-loop
-add-place c = search needs
-
--- src/blocks.rt:25:5
-loop-less : tie.Need-loop-less Inv-loop μ-loop
-loop-less c = search needs
-
--- src/blocks.rt:25:5
 loop-again : tie.Need-loop-again Inv-loop μ-loop
 loop-again c =
     let l = c .before .before .loop in
@@ -73,15 +43,6 @@ loop-again c =
       sum-turn (a .start) (λ k. suc k * u16At (a .s .now) (a .at + 2 * k)) (l .i) (l .weighted) ((l .i + 1) * c .u16-at .result) (l .inv .5) (rw (w, add-one)),
     )
 
--- src/blocks.rt:33:16
-cast-t12 : tie.Need-cast-t12 Inv-loop μ-loop
-cast-t12 c = search needs
-
--- src/blocks.rt:34:19
-cast-t14 : tie.Need-cast-t14 Inv-loop μ-loop
-cast-t14 c = search needs
-
--- src/blocks.rt:17:1
 returns : tie.Need-returns Inv-loop μ-loop
 unfolding checksumOf
 returns c =
@@ -95,15 +56,15 @@ checksum-spec =
     (tie.spec
     Inv-loop
     μ-loop
-    loop-holds
-    u16-at-requires
-    add-i
-    add-plain
+    (λ c. search needs)
+    (λ c κs. search needs)
+    (λ c. search needs)
+    (λ c. search needs)
     mul-weighted
     add-weighted
-    add-place
-    loop-less
+    (λ c. search needs)
+    (λ c. search needs)
     loop-again
-    cast-t12
-    cast-t14
+    (λ c. search needs)
+    (λ c. search needs)
     returns)

@@ -1,23 +1,16 @@
-use mathlib.Core.Path.{_≡_, refl, sym, ap, _∙_}
-use Prim.Native.Nat.{ℕ, suc, _+_, _-_, _*_, _%_, _≤_, _<_}
-use mathlib.Core.Bool.{Bool, true, false}
-use native.Mathlib.Numerals.{add-one}
+-- `scene::blocks::read_draw` meets its contract.
+use mathlib.Core.Path.{_≡_, ap, _∙_}
+use Prim.Native.Nat.{ℕ, _+_, _-_, _*_, _≤_}
 use native.Mathlib.Omega.{arith}
-use lib.ListN.{length, getD, set, take, drop, length-set, length-append, length-take, length-drop}
-use lib.Dec.{eqb}
+use lib.ListN.{length, take, drop}
 use mathlib.Core.List.{List}
-use borrow.Author.Tests.{eq-eqb, ne-eqb}
-use Rattle.lists.specs.Lists.{total, upto, over}
-use lib.Seq.{length-take-le}
+use Rattle.lists.specs.Lists.{upto}
 use Rattle.lists.proofs.Laws.{part-length, take-end}
 use Rattle.scene.specs.Blocks.{drawOf, blockOf}
 use Rattle.scene.proofs.Copies.{part-kept, part-turn}
 use borrow.Author.Needs.{needs}
 use Rattle.scene.proofs.blocks.read_draw.Statement.{statement}
 use Rattle.scene.proofs.blocks.read_draw.Tie as tie
-use Rattle.scene.proofs.blocks.read_draw.Reads as reads
-use Rattle.scene.proofs.blocks.read_draw.Lts as lts
-use Rattle.scene.proofs.blocks.copy.Reads as copy-reads
 
 abbrev Inv-loop : tie.InvT-loop
 Inv-loop s i out₀ first j₀ out j =
@@ -26,62 +19,12 @@ Inv-loop s i out₀ first j₀ out j =
 abbrev μ-loop : tie.MeasureT-loop
 μ-loop s i out₀ first j₀ out j = 4 - j
 
--- src/blocks.rt:55:21
-mul-first : tie.Need-mul-first Inv-loop μ-loop
-mul-first c = search needs
-
--- src/blocks.rt:55:17
-add-first : tie.Need-add-first Inv-loop μ-loop
-add-first c = search needs
-
--- src/blocks.rt:57:5
-loop-holds : tie.Need-loop-holds Inv-loop μ-loop
-loop-holds c = search needs
-
--- src/blocks.rt:58:18
-mul-at : tie.Need-mul-at Inv-loop μ-loop
-mul-at c = search needs
-
--- src/blocks.rt:59:32
-add-copy : tie.Need-add-copy Inv-loop μ-loop
-add-copy c = search needs
-
--- src/blocks.rt:59:17
-mul-copy : tie.Need-mul-copy Inv-loop μ-loop
-mul-copy c = search needs
-
--- src/blocks.rt:59:57
-add-copy-2 : tie.Need-add-copy-2 Inv-loop μ-loop
-add-copy-2 c = search needs
-
--- src/blocks.rt:59:44
-sub-copy : tie.Need-sub-copy Inv-loop μ-loop
-sub-copy c = search needs
-
--- src/blocks.rt:59:44
-part-copy-start : tie.Need-part-copy-start Inv-loop μ-loop
-part-copy-start c = search needs
-
--- src/blocks.rt:59:44
-part-copy-end : tie.Need-part-copy-end Inv-loop μ-loop
-part-copy-end c = search needs
-
--- src/blocks.rt:59:9
 copy-requires : tie.Need-copy-requires Inv-loop μ-loop
 copy-requires c κs =
     let l = c .before .before .loop in
     let a = c .before .before .before .before .before .args in
     rw (part-length (l .out) (508 * l .j) (508 * l .j + 508) (omega arith) (omega arith)) (omega arith)
 
--- src/blocks.rt:60:9
-add-j : tie.Need-add-j Inv-loop μ-loop
-add-j c = search needs
-
--- src/blocks.rt:57:5
-loop-less : tie.Need-loop-less Inv-loop μ-loop
-loop-less c = search needs
-
--- src/blocks.rt:57:5
 loop-again : tie.Need-loop-again Inv-loop μ-loop
 loop-again c =
     let l = c .before .before .before .before .before .loop in
@@ -97,11 +40,9 @@ loop-again c =
       part-turn (l .out) q (508 * l .j) 508 (508 * l .j + 508 - 508 * l .j) (omega arith) w f (l .j) (508 * (l .j + 1)) (omega arith) (l .inv .2) h,
     )
 
--- src/blocks.rt:50:1
 same-length : tie.Need-same-length Inv-loop μ-loop
 same-length c = c .before .loop .inv .1
 
--- src/blocks.rt:50:1
 returns : tie.Need-returns Inv-loop μ-loop
 unfolding drawOf
 returns c =
@@ -115,19 +56,19 @@ read-draw-spec =
     (tie.spec
     Inv-loop
     μ-loop
-    mul-first
-    add-first
-    loop-holds
-    mul-at
-    add-copy
-    mul-copy
-    add-copy-2
-    sub-copy
-    part-copy-start
-    part-copy-end
+    (λ c. search needs)
+    (λ c. search needs)
+    (λ c. search needs)
+    (λ c. search needs)
+    (λ c. search needs)
+    (λ c. search needs)
+    (λ c. search needs)
+    (λ c. search needs)
+    (λ c. search needs)
+    (λ c. search needs)
     copy-requires
-    add-j
-    loop-less
+    (λ c. search needs)
+    (λ c. search needs)
     loop-again
     same-length
     returns)

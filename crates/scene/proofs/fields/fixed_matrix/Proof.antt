@@ -1,4 +1,5 @@
-use mathlib.Core.Path.{_≡_, refl, sym, ap, _∙_}
+-- `scene::fields::fixed_matrix` meets its contract.
+use mathlib.Core.Path.{_≡_, sym, ap, _∙_}
 use mathlib.Core.Bool.{true}
 use Rattle.path.specs.declared.Matrix.{Matrix}
 use Rattle.path.specs.declared.FixedMatrix.{FixedMatrix}
@@ -16,10 +17,6 @@ use Rattle.path.proofs.Converted.{the-type}
 use borrow.Author.Needs.{needs}
 use Rattle.scene.proofs.fields.fixed_matrix.Statement.{statement}
 use Rattle.scene.proofs.fields.fixed_matrix.Tie as tie
-use Rattle.scene.proofs.fields.fixed_matrix.Reads as reads
-use Rattle.scene.proofs.fields.fixed_matrix.Lts as lts
-use Rattle.path.proofs.FixedMatrix.from_floats.Reads as from-floats-reads
-use Rattle.scene.proofs.fields.matrix.Reads as matrix-reads
 
 -- a matrix in its limits is converted
 is-within : (m : Matrix) → matrixInLimits m ≡ true → converted m ≡ Within (fixedMatrix m)
@@ -33,26 +30,9 @@ not-out OutOfLimits h f e = let z : _≡_ {A = ℕ} 0 1 = cc in omega arith
 within : (m : Matrix) (f : FixedMatrix) → matrixInLimits m ≡ true → converted m ≡ Within f → f ≡ fixedMatrix m
 within m f h e = let w = is-within m h in cc
 
-matrix-requires : tie.Need-matrix-requires
-matrix-requires c κs = search needs
-
--- src/fields.rt:140:9
-from-floats-requires : tie.Need-from-floats-requires
-from-floats-requires c κs = search needs
-
--- src/fields.rt:142:27
-enum-known-c : tie.Need-enum-known-c
-enum-known-c c = search needs
-
--- src/fields.rt:143:35
-enum-told : tie.Need-enum-told
-enum-told c = search needs
-
--- src/fields.rt:136:1
 returns : tie.Need-returns
 returns c = within (matrixOf (c .before .before .before .before .before .before .args .d .now)) (c .before .c .given .0 .0) (c .before .before .before .before .before .before .pre .1) (sym (c .before .before .before .from-floats .ensures ∙ ap converted (c .before .before .before .before .matrix .ensures)) ∙ c .before .c .given .1)
 
--- src/fields.rt:136:1
 returns-2 : tie.Need-returns-2
 returns-2 c =
     let s = c .before .before .before .before .before in
@@ -63,4 +43,4 @@ returns-2 c =
 pub fixed-matrix-spec : {M : Type 1} → statement M
 fixed-matrix-spec =
     tie.close
-    (tie.spec matrix-requires from-floats-requires enum-known-c enum-told returns returns-2)
+    (tie.spec (λ c κs. search needs) (λ c κs. search needs) (λ c. search needs) (λ c. search needs) returns returns-2)

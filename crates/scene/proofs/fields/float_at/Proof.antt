@@ -1,3 +1,4 @@
+-- `scene::fields::float_at` meets its contract.
 use mathlib.Core.Path.{sym, ap, _∙_}
 use lib.Ieee.{binary32, nanBits, ofBits}
 use Rattle.fixed.specs.Little.{u32At}
@@ -7,34 +8,12 @@ use Rattle.scene.proofs.Sizes.{nan-read}
 use borrow.Author.Needs.{needs}
 use Rattle.scene.proofs.fields.float_at.Statement.{statement}
 use Rattle.scene.proofs.fields.float_at.Tie as tie
-use Rattle.scene.proofs.fields.float_at.Reads as reads
-use Rattle.scene.proofs.fields.float_at.Lts as lts
-use Rattle.fixed.proofs.f32_at.Reads as f32-at-reads
-use Rattle.scene.proofs.fields.not_a_number.Reads as not-a-number-reads
 
--- src/fields.rt:172:9
-f32-at-requires : tie.Need-f32-at-requires
-f32-at-requires c κs = search needs
-
--- src/fields.rt:174:22
-enum-known-v : tie.Need-enum-known-v
-enum-known-v c = search needs
-
--- src/fields.rt:175:22
-enum-told : tie.Need-enum-told
-enum-told c = search needs
-
--- src/fields.rt:175:22
-not-a-number-requires : tie.Need-not-a-number-requires
-not-a-number-requires c κs = search needs
-
--- src/fields.rt:168:1
 returns : tie.Need-returns
 returns c =
     let a = c .before .before .before .before .before .args in
     number-told (nanBits binary32 (u32At (a .d .now) (a .at))) (f32At (a .d .now) (a .at)) (c .before .v .given .0 .0) (sym (c .before .before .before .f32-at .ensures) ∙ c .before .v .given .1) .0
 
--- src/fields.rt:168:1
 returns-2 : tie.Need-returns-2
 returns-2 c =
     let a = c .before .before .before .before .before .args in
@@ -46,4 +25,4 @@ returns-2 c =
 pub float-at-spec : {M : Type 1} → statement M
 float-at-spec =
     tie.close
-    (tie.spec f32-at-requires enum-known-v enum-told not-a-number-requires returns returns-2)
+    (tie.spec (λ c κs. search needs) (λ c. search needs) (λ c. search needs) (λ c κs. search needs) returns returns-2)

@@ -1,15 +1,11 @@
+-- `scene::header::is_side` meets its contract.
 use borrow.Author.Tests.{le-leb, lt-leb}
-use borrow.Author.Needs.{needs}
 use Rattle.scene.proofs.header.is_side.Statement.{statement}
 use Rattle.scene.proofs.header.is_side.Tie as tie
-use Rattle.scene.proofs.header.is_side.Reads as reads
-use Rattle.scene.proofs.header.is_side.Lts as lts
 
--- src/header.rt:78:1
 returns : tie.Need-returns
 returns c = rw (le-leb 1 (c .before .args .n) (c .if1 .taken))
 
--- src/header.rt:78:1
 returns-2 : tie.Need-returns-2
 returns-2 c = rw (lt-leb 1 (c .before .args .n) (c .if1 .left))
 

@@ -1,15 +1,11 @@
+-- `scene::rules::is_paint` meets its contract.
 use borrow.Author.Tests.{eq-eqb, ne-eqb}
-use borrow.Author.Needs.{needs}
 use Rattle.scene.proofs.rules.is_paint.Statement.{statement}
 use Rattle.scene.proofs.rules.is_paint.Tie as tie
-use Rattle.scene.proofs.rules.is_paint.Reads as reads
-use Rattle.scene.proofs.rules.is_paint.Lts as lts
 
--- src/rules.rt:79:1
 returns : tie.Need-returns
 returns c = rw (eq-eqb (c .before .args .n) 0x1B00 (c .if1 .taken))
 
--- src/rules.rt:79:1
 returns-2 : tie.Need-returns-2
 returns-2 c = rw (ne-eqb (c .before .args .n) 0x1B00 (c .if1 .left))
 

@@ -1,11 +1,8 @@
-use mathlib.Core.Path.{_≡_, refl, sym, ap, _∙_}
-use Prim.Native.Nat.{ℕ, _+_, _-_, _*_, _≤_, _<_}
-use mathlib.Core.Bool.{Bool, true, false}
+-- `scene::rules::path_rules` meets its contract.
+use mathlib.Core.Path.{_≡_, _∙_}
+use Prim.Native.Nat.{_*_, _≤_}
 use native.Mathlib.Omega.{arith}
-use lib.ListN.{length}
-use borrow.Author.Tests.{eq-eqb, ne-eqb, eqb-false, not-true, not-false}
 use Rattle.lists.proofs.Laws.{part-length}
-use Rattle.path.specs.declared.Checked.{Checked}
 use Rattle.path.specs.Matrices.{fixedMatrix}
 use Rattle.path.specs.Answers.{checkedTo}
 use Rattle.path.proofs.Entries.{matrix-limited}
@@ -14,15 +11,6 @@ use Rattle.scene.proofs.Paths.{path-segment, path-refused, path-used, p
 use borrow.Author.Needs.{needs}
 use Rattle.scene.proofs.rules.path_rules.Statement.{statement}
 use Rattle.scene.proofs.rules.path_rules.Tie as tie
-use Rattle.scene.proofs.rules.path_rules.Reads as reads
-use Rattle.scene.proofs.rules.path_rules.Lts as lts
-use Rattle.path.proofs.rules.check.Reads as check-reads
-use Rattle.scene.proofs.faults.or_else.Reads as or-else-reads
-use Rattle.scene.proofs.faults.unused.Reads as unused-reads
-use Rattle.scene.proofs.fields.coordinates.Reads as coordinates-reads
-use Rattle.scene.proofs.fields.fixed_matrix.Reads as fixed-matrix-reads
-use Rattle.scene.proofs.fields.segment_count.Reads as segment-count-reads
-use Rattle.scene.proofs.fields.segments.Reads as segments-reads
 
 -- what the walk over the draw's path answers
 answer : (c : tie.After-check)
@@ -43,23 +31,6 @@ used c =
     let d = k .before .before .before .before .before .before .args .d .now in
     rw (part-length d 900 2032 (omega arith) (omega (arith, k .before .before .before .before .before .before .pre .0 .0))) at (path-used d (k .check .result) (answer k) (c .if1 .left))
 
--- src/rules.rt:148:9
-segment-count-requires : tie.Need-segment-count-requires
-segment-count-requires c κs = search needs
-
--- src/rules.rt:149:25
-fixed-matrix-requires : tie.Need-fixed-matrix-requires
-fixed-matrix-requires c κs = search needs
-
--- src/rules.rt:149:42
-segments-requires : tie.Need-segments-requires
-segments-requires c κs = search needs
-
--- src/rules.rt:149:55
-coordinates-requires : tie.Need-coordinates-requires
-coordinates-requires c κs = search needs
-
--- src/rules.rt:149:9
 check-requires : tie.Need-check-requires
 check-requires c κs =
     let s = c .before .before .before .before .before in (
@@ -67,45 +38,23 @@ check-requires c κs =
       rw (c .before .segments .ensures, part-length (s .args .d .now) 772 900 (omega arith) (omega arith)) (omega (arith, c .before .before .before .segment-count .ensures .0, s .pre .0 .1)),
     )
 
--- src/rules.rt:154:21
 add-t10 : tie.Need-add-t10
 add-t10 c = omega (arith, segment (c .before .before .before .before))
 
--- src/rules.rt:154:20
 cast-t11 : tie.Need-cast-t11
 cast-t11 c = omega (arith, segment (c .before .before .before .before))
 
--- src/rules.rt:152:9
 returns : tie.Need-returns
 returns c =
     let k = c .before .before .before .before in
     path-refused (k .before .before .before .before .before .before .args .d .now) (k .check .result) (answer k) (c .before .if1 .taken)
 
--- src/rules.rt:157:55
 mul-unused : tie.Need-mul-unused
 mul-unused c = omega (arith, used (c .before))
 
--- src/rules.rt:157:38
 add-unused : tie.Need-add-unused
 add-unused c = omega (arith, used (c .before))
 
--- src/rules.rt:157:9
-unused-requires : tie.Need-unused-requires
-unused-requires c κs = search needs
-
--- src/rules.rt:158:23
-add-unused-2 : tie.Need-add-unused-2
-add-unused-2 c = search needs
-
--- src/rules.rt:158:13
-unused-requires-2 : tie.Need-unused-requires-2
-unused-requires-2 c κs = search needs
-
--- src/rules.rt:158:5
-or-else-requires : tie.Need-or-else-requires
-or-else-requires c κs = search needs
-
--- src/rules.rt:143:1
 returns-2 : tie.Need-returns-2
 returns-2 c =
     let k = c .before .before .before .before .before .before .before in
@@ -118,18 +67,18 @@ pub path-rules-spec : {M : Type 1} → statement M
 path-rules-spec =
     tie.close
     (tie.spec
-    segment-count-requires
-    fixed-matrix-requires
-    segments-requires
-    coordinates-requires
+    (λ c κs. search needs)
+    (λ c κs. search needs)
+    (λ c κs. search needs)
+    (λ c κs. search needs)
     check-requires
     add-t10
     cast-t11
     returns
     mul-unused
     add-unused
-    unused-requires
-    add-unused-2
-    unused-requires-2
-    or-else-requires
+    (λ c κs. search needs)
+    (λ c. search needs)
+    (λ c κs. search needs)
+    (λ c κs. search needs)
     returns-2)

@@ -1,12 +1,12 @@
-use mathlib.Core.Path.{_≡_, refl, sym, ap, _∙_}
+-- `scene::verdict::verdict` meets its contract.
+use mathlib.Core.Path.{_≡_, sym, ap, _∙_}
 use mathlib.Core.List.{List}
-use mathlib.Core.Bool.{Bool, true, false, _&&_}
-use Prim.Native.Nat.{ℕ, _+_, _*_, _%_, _≤_, _<_}
+use mathlib.Core.Bool.{true, _&&_}
+use Prim.Native.Nat.{ℕ, _%_}
 use lib.ListN.{length}
 use lib.Dec.{eqb, leb}
 use borrow.Author.Tests.{not-true, not-false}
-use Rattle.scene.specs.Blocks.{blockRight, blockOf}
-use Rattle.scene.specs.Header.{countOf}
+use Rattle.scene.specs.Blocks.{blockRight}
 use Rattle.scene.specs.Faults.{fault, firstFault}
 use Rattle.scene.specs.Rules.{headerRules, inHeader, drawFault}
 use Rattle.scene.proofs.Accepted.{header-count}
@@ -14,15 +14,6 @@ use Rattle.scene.proofs.Verdicts.{whole-length, bad-length, bad-check, 
 use borrow.Author.Needs.{needs}
 use Rattle.scene.proofs.verdict.verdict.Statement.{statement}
 use Rattle.scene.proofs.verdict.verdict.Tie as tie
-use Rattle.scene.proofs.verdict.verdict.Reads as reads
-use Rattle.scene.proofs.verdict.verdict.Lts as lts
-use Rattle.scene.proofs.blocks.block_right.Reads as block-right-reads
-use Rattle.scene.proofs.header.count.Reads as count-reads
-use Rattle.scene.proofs.header.header_rules.Reads as header-rules-reads
-use Rattle.scene.proofs.verdict.draw_faults.Reads as draw-faults-reads
-use Rattle.scene.proofs.verdict.fault.Reads as fault-reads
-use Rattle.scene.proofs.verdict.in_header.Reads as in-header-reads
-use Rattle.scene.proofs.verdict.whole_blocks.Reads as whole-blocks-reads
 
 -- what the tests passed tell
 abbrev scene : tie.Else1 → List ℕ
@@ -37,44 +28,23 @@ right c = sym (c .before .block-right .ensures) ∙ not-false _ (c .if2 .left)
 calm : (c : tie.Else3) → headerRules (scene (c .before .before .before .before .before)) .code ≡ 0
 calm c = sym (ap (λ f. f .code) (c .before .before .header-rules .ensures)) ∙ c .if3 .left
 
--- src/verdict.rt:31:9
-whole-blocks-requires : tie.Need-whole-blocks-requires
-whole-blocks-requires c κs = search needs
-
--- src/verdict.rt:32:9
-fault-requires : tie.Need-fault-requires
-fault-requires c κs = search needs
-
--- src/verdict.rt:32:9
 returns : tie.Need-returns
 returns c =
     c .fault .ensures
     ∙ sym (bad-length (c .before .before .before .before .args .s .now) (sym (c .before .before .whole-blocks .ensures) ∙ not-true _ (c .before .if1 .taken)))
 
--- src/verdict.rt:34:9
 block-right-requires : tie.Need-block-right-requires
 block-right-requires c κs = whole-length (scene c) (whole c)
 
--- src/verdict.rt:35:9
-fault-requires-2 : tie.Need-fault-requires-2
-fault-requires-2 c κs = search needs
-
--- src/verdict.rt:35:9
 returns-2 : tie.Need-returns-2
 returns-2 c =
     let e = c .before .before .before in
     c .fault2 .ensures
     ∙ sym (bad-check (scene e) (whole e) (sym (c .before .before .block-right .ensures) ∙ not-true _ (c .before .if2 .taken)))
 
--- src/verdict.rt:37:9
 header-rules-requires : tie.Need-header-rules-requires
 header-rules-requires c κs = whole-length (scene (c .before .before)) (whole (c .before .before))
 
--- src/verdict.rt:39:9
-in-header-requires : tie.Need-in-header-requires
-in-header-requires c κs = search needs
-
--- src/verdict.rt:39:9
 returns-3 : tie.Need-returns-3
 returns-3 c =
     let e = c .before .before .before .before .before .before in
@@ -82,27 +52,9 @@ returns-3 c =
     c .in-header .ensures ∙ ap inHeader (h .ensures)
     ∙ sym (bad-header (scene e) (whole e) (right (c .before .before .before .before)) (rw (← h .ensures) (c .before .if3 .taken)))
 
--- src/verdict.rt:41:9
 count-requires : tie.Need-count-requires
 count-requires c κs = whole-length (scene (c .before .before .before .before .before)) (whole (c .before .before .before .before .before))
 
--- src/verdict.rt:42:38
-mul-if4 : tie.Need-mul-if4
-mul-if4 c = search needs
-
--- src/verdict.rt:42:34
-add-if4 : tie.Need-add-if4
-add-if4 c = search needs
-
--- src/verdict.rt:42:19
-mul-if4-2 : tie.Need-mul-if4-2
-mul-if4-2 c = search needs
-
--- src/verdict.rt:43:9
-fault-requires-3 : tie.Need-fault-requires-3
-fault-requires-3 c κs = search needs
-
--- src/verdict.rt:43:9
 returns-4 : tie.Need-returns-4
 returns-4 c =
     let e = c .before .before .before .before .before .before .before .before in
@@ -110,12 +62,10 @@ returns-4 c =
     ∙ sym (bad-count (scene e) (whole e) (right (c .before .before .before .before .before .before)) (calm (c .before .before .before))
     (rw (← c .before .before .count .ensures .0) (c .before .if4 .taken)))
 
--- src/verdict.rt:45:5
 draw-faults-requires : tie.Need-draw-faults-requires
 draw-faults-requires c κs =
     (c .if4 .left, rw (c .before .count .ensures .0) (header-count (scene (c .before .before .before .before .before .before .before)) (calm (c .before .before))))
 
--- src/verdict.rt:28:1
 returns-5 : tie.Need-returns-5
 returns-5 c =
     let e = c .before .before .before .before .before .before .before .before in
@@ -128,20 +78,20 @@ pub verdict-spec : {M : Type 1} → statement M
 verdict-spec =
     tie.close
     (tie.spec
-    whole-blocks-requires
-    fault-requires
+    (λ c κs. search needs)
+    (λ c κs. search needs)
     returns
     block-right-requires
-    fault-requires-2
+    (λ c κs. search needs)
     returns-2
     header-rules-requires
-    in-header-requires
+    (λ c κs. search needs)
     returns-3
     count-requires
-    mul-if4
-    add-if4
-    mul-if4-2
-    fault-requires-3
+    (λ c. search needs)
+    (λ c. search needs)
+    (λ c. search needs)
+    (λ c κs. search needs)
     returns-4
     draw-faults-requires
     returns-5)

@@ -1,16 +1,12 @@
+-- `scene::verdict::whole_blocks` meets its contract.
 use Prim.Native.Nat.{_%_}
 use borrow.Author.Tests.{eq-eqb, ne-eqb}
-use borrow.Author.Needs.{needs}
 use Rattle.scene.proofs.verdict.whole_blocks.Statement.{statement}
 use Rattle.scene.proofs.verdict.whole_blocks.Tie as tie
-use Rattle.scene.proofs.verdict.whole_blocks.Reads as reads
-use Rattle.scene.proofs.verdict.whole_blocks.Lts as lts
 
--- src/verdict.rt:49:1
 returns : tie.Need-returns
 returns c = rw (eq-eqb (c .before .args .length % 512) 0 (c .if1 .taken))
 
--- src/verdict.rt:49:1
 returns-2 : tie.Need-returns-2
 returns-2 c = rw (ne-eqb (c .before .args .length % 512) 0 (c .if1 .left))
 
