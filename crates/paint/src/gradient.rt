@@ -5,7 +5,7 @@ use crate::Quotient;
 use fixed::Fixed;
 ghost use mathlib.Core.Path.{_≡_};
 ghost use Prim.Native.Nat.{_+_, _*_, _≤_};
-ghost use lib.IntN.{pos, natAbs, _+ℤ_, _-ℤ_, _*ℤ_};
+ghost use lib.IntN.{pos, natAbs, _-ℤ_, _*ℤ_};
 ghost use mathlib.Core.Bool.{true};
 ghost use Rattle.fixed.specs.Floats.{atMost, scaled};
 ghost use Rattle.paint.specs.Gradient.{fixedPoints, one, centre, squaredLength, projection, linearT, mapped};

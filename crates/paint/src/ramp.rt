@@ -54,10 +54,13 @@ fn mix_pixel(xi: u32, xj: u32, t: u32, ci: Pixel, cj: Pixel) -> Pixel
     }
 }
 
-// Between the channels ci at xi and cj at xj, to the nearest.
+// Between the channels ci at xi and cj at xj, to the nearest. Equal channels need no division.
 fn mix_byte(xi: u32, xj: u32, t: u32, ci: u8, cj: u8) -> u8
     requires { ⌜ (xi ≤ t) × (t < xj) × (xj ≤ 65536) ⌝ }
     ensures { λ r. ⌜ r ≡ mixByte xi xj t ci cj ⌝ }
 {
+    if ci == cj {
+        return ci;
+    }
     (((ci as u32) * (xj - t) + (cj as u32) * (t - xi) + (xj - xi) / 2) / (xj - xi)) as u8
 }
