@@ -1,7 +1,7 @@
 -- Interpolation, once for every channel: each interpolated channel lies between its two stops.
 use mathlib.Core.Path.{_≡_}
 use Prim.Native.Nat.{ℕ, suc, _+_, _-_, _*_, _/_, _≤_, _<_}
-use native.Mathlib.Nat.{le-div-iff-mul-le, div-lt-iff-lt-mul, mul-le-mul-right}
+use native.Mathlib.Nat.{le-div-iff-mul-le, div-lt-iff-lt-mul, mul-le-mul-right, le-refl, le-antisymm}
 use native.Mathlib.Omega.{arith}
 use Rattle.paint.specs.Ramps.{mixByte}
 
@@ -29,3 +29,7 @@ module _ (xi xj t ci cj : ℕ) (from : xi ≤ t) (to : t < xj) where
 
   pub mix-below : (hi : ℕ) → ci ≤ hi → cj ≤ hi → mixByte xi xj t ci cj ≤ hi
   mix-below hi h k = rounded-below hi (ci * (xj - t) + cj * (t - xi)) (xj - xi) (omega arith) (rw whole (weighed-below hi ci cj (xj - t) (t - xi) h k))
+
+  -- between equal channels there is nothing to mix
+  pub mix-same : ci ≡ cj → mixByte xi xj t ci cj ≡ ci
+  mix-same e = le-antisymm (mix-below ci (le-refl ci) (omega arith)) (mix-above ci (le-refl ci) (omega arith))

@@ -1,12 +1,10 @@
 -- What the code paints is the paint of the definitions.
-use mathlib.Core.Path.{_≡_, refl, ap, ap₂}
+use mathlib.Core.Path.{_≡_, refl, ap₂}
 use mathlib.Core.Bool.{Bool}
 use mathlib.Core.List.{List}
-use Prim.Native.Nat.{ℕ, _+_}
-use Rattle.lists.proofs.Laws.{upto-same}
+use Prim.Native.Nat.{ℕ}
 use Rattle.color.specs.declared.Color.{Color}
 use Rattle.color.specs.Channels.{bytesOfColor, premultiplied}
-use Rattle.raster.specs.Surface.{bytesOf, run}
 use Rattle.paint.specs.Gradient.{fixedPoints, linearT}
 use Rattle.paint.specs.Ramps.{rampOf}
 use Rattle.paint.specs.Paints.{gradientColor, paintAt}
@@ -26,7 +24,3 @@ module _ (p : LinearPoints) (g : LinearGradient) (stops : List ℕ) (n : ℕ) (r
   pub linear-paint : (x y : ℕ) → linearAt g ramp x y ≡ paintAt (Linear p) (g .spread) (g .premultiply) stops n x y
   unfolding paintAt
   linear-paint x y = ap₂ (λ (r : List Stop) (q : FixedPoints). gradientColor (g .spread) (g .premultiply) r (linearT q x y)) built points
-
-  pub linear-run : (k x y : ℕ) → run k (λ i. linearAt g ramp (x + i) y) ≡ run k (λ i. paintAt (Linear p) (g .spread) (g .premultiply) stops n (x + i) y)
-  linear-run k x y =
-      upto-same k (λ i. bytesOf (linearAt g ramp (x + i) y)) (λ i. bytesOf (paintAt (Linear p) (g .spread) (g .premultiply) stops n (x + i) y)) (λ i l. ap bytesOf (linear-paint (x + i) y))

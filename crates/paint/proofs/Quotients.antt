@@ -1,6 +1,6 @@
 -- A floor division that is carried from one numerator to the next: its parts are the only ones there are, and quotients add with a carry.
 use mathlib.Core.Path.{_≡_, refl, ap, ap₂, _∙_}
-use mathlib.Core.Bool.{Bool, true, false, cond}
+use mathlib.Core.Bool.{Bool, true, false}
 use Prim.Native.Nat.{ℕ, suc, _+_, _-_, _*_, _/_, _%_, _≤_, _<_}
 use native.Mathlib.Nat.{div-eq-of-lt-le, div-add-mod', mod-lt}
 use native.Mathlib.Omega.{arith}

@@ -1,15 +1,15 @@
 -- Floats read from bytes, where a NaN has an answer of its own.
 use mathlib.Core.Path.{_≡_, refl, sym, ap, _∙_, subst}
 use mathlib.Core.Bool.{Bool, true, false}
-use mathlib.Core.List.{List, [], _∷_}
+use mathlib.Core.List.{List}
 use Prim.Native.Nat.{ℕ}
 use lib.Dec.{T}
-use lib.Ieee.{Float, nan, inf, fin, binary32, ofBits, nanBits, isNan, lt, mul, add, toUnsigned}
+use lib.Ieee.{Float, nan, inf, fin, binary32, nanBits, isNan, lt, mul, add, toUnsigned}
 use lib.Ieee.Bits.{nanBits-is}
 use Rattle.fixed.specs.Floats.{realOf, realAt, f32At}
 use Rattle.fixed.specs.Little.{u32At}
 use Rattle.fixed.specs.declared.Real.{Real}
-use Rattle.fixed.specs.declared.Real.the-variants.{Number, Nan}
+use Rattle.fixed.specs.declared.Real.the-variants.{Number}
 use Rattle.fixed.proofs.Answers.{isNumber, number-told, no-number}
 use Rattle.color.specs.Channels.{channelByte}
 use Rattle.paint.specs.Buffers.{lessReal}

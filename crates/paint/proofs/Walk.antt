@@ -1,13 +1,11 @@
 -- t along a row, by quotients: each is the one before and the row's step, and none is large.
-use mathlib.Core.Path.{_≡_, refl, sym, ap, ap₂, _∙_, subst}
+use mathlib.Core.Path.{_≡_, sym, ap, _∙_}
 use mathlib.Core.List.{List}
 use Prim.Native.Nat.{ℕ, _+_, _*_, _≤_, _<_}
 use native.Mathlib.Nat.{le-trans}
 use native.Mathlib.Omega.{arith}
 use borrow.Author.Tests.{ne-eqb}
-use lib.Dec.{T, leb→le}
 use lib.IntN.{ℤ, pos, natAbs, _+ℤ_, _-ℤ_, _*ℤ_}
-use Rattle.fixed.specs.Floor.{floorDiv, floorMod}
 use Rattle.fixed.proofs.Within.{Within, within-pos, within-add, within-sub, within-mul, within-shr}
 use Rattle.fixed.proofs.Poly as P
 use Rattle.fixed.proofs.Poly.{_⊕_, _⊖_, _⊗_}

@@ -1,6 +1,6 @@
 -- The linear gradient's t at a pixel, and the spread modes ("Ramp").
 use Prim.Native.Nat.{ℕ, _+_, _-_, _*_, _%_}
-use mathlib.Core.Bool.{Bool, cond}
+use mathlib.Core.Bool.{cond}
 use lib.Dec.{eqb}
 use lib.IntN.{ℤ, pos, natAbs, _+ℤ_, _-ℤ_, _*ℤ_}
 use Rattle.fixed.specs.Floor.{floorDiv, floorMod}

@@ -3,12 +3,10 @@ use Prim.Native.Nat.{ℕ}
 use mathlib.Core.List.{List}
 use mathlib.Core.Bool.{Bool, cond}
 use lib.IntN.{ℤ}
-use Rattle.color.specs.declared.Color.{Color}
 use Rattle.color.specs.declared.Pixel.{Pixel}
 use Rattle.color.specs.Channels.{bytesOfColor, premultiplied}
 use Rattle.paint.specs.Gradient.{fixedPoints, linearT, mapped}
 use Rattle.paint.specs.Ramps.{rampOf, rampAt}
-use Rattle.paint.specs.declared.LinearPoints.{LinearPoints}
 use Rattle.paint.specs.declared.Paint.{Paint}
 use Rattle.paint.specs.declared.Stop.{Stop}
 use Rattle.paint.specs.declared.Paint.the-variants.{Solid, Linear}

@@ -1,9 +1,9 @@
 -- The ramp: from the stops' bytes to a list of stops, and its colour at t ("Ramp"). Stop i is five f32, offset, R, G, B, A, at 20 i.
 use Prim.Native.Nat.{ℕ, zero, suc, _+_, _-_, _*_, _/_}
-use mathlib.Core.List.{List, [], _∷_, _++_, map}
-use mathlib.Core.Bool.{Bool, true, false, cond, _||_}
+use mathlib.Core.List.{List, [], _∷_, map}
+use mathlib.Core.Bool.{Bool, false, cond, _||_}
 use lib.Dec.{ltb, eqb}
-use lib.IntN.{ℤ, pos, negsuc, natAbs}
+use lib.IntN.{ℤ, pos, natAbs}
 use lib.Signed.{ltZ}
 use lib.Ieee.{Float, lt}
 use Rattle.lists.specs.Lists.{upto}

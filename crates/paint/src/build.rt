@@ -12,6 +12,9 @@ ghost use Rattle.lists.specs.Lists.{upto};
 ghost use Rattle.paint.specs.Ramps.{stop, keptAt, prepared, rampOf};
 ghost use Rattle.paint.specs.Buffers.{Held, Room, stopsIn, withFirst, grown, closed};
 
+// The offset of a ramp's end.
+const END: u32 = 65536;
+
 // The ramp of n stops. Returns the number of stops that the buffers hold then.
 pub fn build_ramp(
     stops: &[u8],
@@ -99,15 +102,15 @@ fn close_ramp(offsets: &mut [u32], colors: &mut [u8], count: usize) -> usize
     ensures { λ r. ⌜ (stopsIn (now (offsets .exit)) (now (colors .exit)) r ≡ closed (stopsIn (now (offsets .entry)) (now (colors .entry)) count)) × (r ≤ 34) ⌝ }
 {
     if count == 0 {
-        two_stops(offsets, colors, gray(0), 65536, gray(255));
+        two_stops(offsets, colors, gray(0), END, gray(255));
         return 2;
     }
     let last = count - 1;
-    if offsets[last] == 65536 {
+    if offsets[last] == END {
         return count;
     }
     let c = raster::pixel(colors, last);
-    push(offsets, colors, count, 65536, c);
+    push(offsets, colors, count, END, c);
     count + 1
 }
 

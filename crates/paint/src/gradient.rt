@@ -5,12 +5,23 @@ use crate::Quotient;
 use fixed::Fixed;
 ghost use mathlib.Core.Path.{_≡_};
 ghost use Prim.Native.Nat.{_+_, _*_, _≤_};
-ghost use lib.IntN.{pos, natAbs, _+ℤ_, _-ℤ_, _*ℤ_};
+ghost use lib.IntN.{pos, natAbs, _-ℤ_, _*ℤ_};
 ghost use mathlib.Core.Bool.{true};
 ghost use Rattle.fixed.specs.Floats.{atMost, scaled};
 ghost use Rattle.paint.specs.Gradient.{fixedPoints, one, centre, squaredLength, projection, linearT, mapped};
 ghost use lib.Signed.{_<ℤ_};
 ghost use Rattle.paint.specs.Buffers.{Near, Moderate, quotientOf, addQuotients, quotientAt, rowStep};
+
+// t at the second point, where a ramp ends.
+pub const ONE: i64 = 65536;
+
+// What the numerator of t grows by from one pixel of a row to the next, for each 1/256 that the points lie apart: ONE times a pixel's 256.
+const ONE_PIXEL: i64 = 16777216;
+
+// Spread modes, by their numbers in the scene file. Any other pads.
+const REPEAT: u32 = 0x1C01;
+
+const REFLECT: u32 = 0x1C02;
 
 // The points of a draw in 1/256 pixel.
 pub fn fixed_points(p: LinearPoints) -> FixedPoints
@@ -33,7 +44,7 @@ pub fn linear_t(p: FixedPoints, x: usize, y: usize) -> i64
 {
     let d = squared_length(p);
     if d == 0 {
-        return 65536;
+        return ONE;
     }
     fixed::floor_div(numerator(p, x, y), d)
 }
@@ -42,13 +53,13 @@ pub fn linear_t(p: FixedPoints, x: usize, y: usize) -> i64
 pub fn spread(mode: u32, t: i64) -> i64
     ensures { λ r. ⌜ r ≡ mapped mode t ⌝ }
 {
-    if mode == 0x1C01 {
-        return fixed::floor_mod(t, 65536);
+    if mode == REPEAT {
+        return fixed::floor_mod(t, ONE);
     }
-    if mode == 0x1C02 {
-        let rest = fixed::floor_mod(t, 65536);
-        if fixed::floor_mod(fixed::floor_div(t, 65536), 2) == 1 {
-            return 65536 - rest;
+    if mode == REFLECT {
+        let rest = fixed::floor_mod(t, ONE);
+        if fixed::floor_mod(fixed::floor_div(t, ONE), 2) == 1 {
+            return ONE - rest;
         }
         return rest;
     }
@@ -69,7 +80,7 @@ fn numerator(p: FixedPoints, x: usize, y: usize) -> i64
     requires { ⌜ (x ≤ 1024) × (y ≤ 1024) ⌝ }
     ensures { λ r. ⌜ r ≡ pos one *ℤ projection p x y ⌝ }
 {
-    65536 * (along(p.x0, p.x1, x) + along(p.y0, p.y1, y))
+    ONE * (along(p.x0, p.x1, x) + along(p.y0, p.y1, y))
 }
 
 pub fn squared_length(p: FixedPoints) -> i64
@@ -108,7 +119,7 @@ pub fn row_step(p: FixedPoints) -> Quotient
     requires { ⌜ Near p × (natAbs (squaredLength p) ≡ 0 → ⊥) ⌝ }
     ensures { λ r. ⌜ r ≡ rowStep p ⌝ }
 {
-    quotient(16777216 * (p.x1 - p.x0), squared_length(p))
+    quotient(ONE_PIXEL * (p.x1 - p.x0), squared_length(p))
 }
 
 // n / d.

@@ -1,4 +1,5 @@
 // The ramp's colour at t. The stops lie in two lent buffers: the offset of stop i at i, and its colour's four bytes from 4 i on.
+use crate::gradient::ONE;
 use color::Pixel;
 ghost use mathlib.Core.Path.{_≡_};
 ghost use Prim.Native.Nat.{_-_, _≤_, _<_};
@@ -13,7 +14,7 @@ pub fn ramp_color(offsets: &[u32], colors: &[u8], count: usize, t: i64) -> Pixel
     if t < 0 {
         return raster::pixel(colors, 0);
     }
-    if t < 65536 {
+    if t < ONE {
         return color_between(offsets, colors, count, t as u32);
     }
     raster::pixel(colors, count - 1)
@@ -54,10 +55,13 @@ fn mix_pixel(xi: u32, xj: u32, t: u32, ci: Pixel, cj: Pixel) -> Pixel
     }
 }
 
-// Between the channels ci at xi and cj at xj, to the nearest.
+// Between the channels ci at xi and cj at xj, to the nearest. Equal channels need no division.
 fn mix_byte(xi: u32, xj: u32, t: u32, ci: u8, cj: u8) -> u8
     requires { ⌜ (xi ≤ t) × (t < xj) × (xj ≤ 65536) ⌝ }
     ensures { λ r. ⌜ r ≡ mixByte xi xj t ci cj ⌝ }
 {
+    if ci == cj {
+        return ci;
+    }
     (((ci as u32) * (xj - t) + (cj as u32) * (t - xi) + (xj - xi) / 2) / (xj - xi)) as u8
 }

@@ -12,6 +12,8 @@ ghost use Rattle.color.specs.Channels.{channelByte, premultiplied};
 ghost use Rattle.paint.specs.Ramps.{offsetAt, colorAt, fallsIn};
 ghost use Rattle.paint.specs.Buffers.{lessReal};
 
+const STOP_BYTES: usize = 20;
+
 // Does an offset fall below the one before it?
 pub fn falls(stops: &[u8], n: usize) -> bool
     requires { ⌜ 20 * n ≤ length (now stops) ⌝ }
@@ -33,8 +35,8 @@ fn falls_at(stops: &[u8], i: usize) -> bool
     ensures { λ r. ⌜ r ≡ Ieee.lt (offsetAt (now (stops .entry)) i) (offsetAt (now (stops .entry)) (i - 1)) ⌝ }
 {
     less(
-        fixed::f32_at(stops, 20 * i),
-        fixed::f32_at(stops, 20 * (i - 1)),
+        fixed::f32_at(stops, STOP_BYTES * i),
+        fixed::f32_at(stops, STOP_BYTES * (i - 1)),
     )
 }
 
@@ -55,7 +57,7 @@ pub fn offset_at(stops: &[u8], i: usize) -> Offset
     requires { ⌜ 20 * i + 4 ≤ length (now stops) ⌝ }
     ensures { λ r. ⌜ r ≡ offsetIn (offsetAt (now (stops .entry)) i) ⌝ }
 {
-    let x = fixed::f32_at(stops, 20 * i);
+    let x = fixed::f32_at(stops, STOP_BYTES * i);
     let Real::Number(v) = x else {
         return Offset::NotANumber;
     };
@@ -67,7 +69,7 @@ pub fn color_at(stops: &[u8], i: usize, premultiply: bool) -> Pixel
     requires { ⌜ 20 * i + 20 ≤ length (now stops) ⌝ }
     ensures { λ r. ⌜ r ≡ cond premultiply (premultiplied (colorAt (now (stops .entry)) i)) (colorAt (now (stops .entry)) i) ⌝ }
 {
-    let at = 20 * i;
+    let at = STOP_BYTES * i;
     let c = Pixel {
         r: channel_at(stops, at + 4),
         g: channel_at(stops, at + 8),

@@ -1,6 +1,6 @@
 -- `build::close_ramp` meets its contract.
-use mathlib.Core.Path.{_≡_, sym, ap, ap₂, _∙_}
-use mathlib.Core.List.{List, [], _∷_, _++_}
+use mathlib.Core.Path.{sym, ap, ap₂, _∙_}
+use mathlib.Core.List.{[], _∷_, _++_}
 use Prim.Native.Nat.{_-_}
 use native.Mathlib.Omega.{arith}
 use borrow.Author.Needs.{needs}
@@ -8,7 +8,6 @@ use Rattle.color.specs.declared.Pixel.{Pixel}
 use Rattle.paint.specs.Gradient.{one}
 use Rattle.paint.specs.Ramps.{stop}
 use Rattle.paint.specs.Buffers.{stopsIn}
-use Rattle.paint.specs.declared.Stop.{Stop}
 use Rattle.paint.proofs.Ends.{closed-none, closed-there, closed-more}
 use Rattle.paint.proofs.build.close_ramp.Statement.{statement}
 use Rattle.paint.proofs.build.close_ramp.Tie as tie

@@ -1,5 +1,4 @@
 -- `build::first_stop` meets its contract.
-use mathlib.Core.Path.{_≡_}
 use native.Mathlib.Omega.{arith}
 use borrow.Author.Tests.{eq-eqb, ne-eqb}
 use Rattle.paint.proofs.build.first_stop.Statement.{statement}

@@ -1,7 +1,6 @@
 -- `gradient::add_quotients` meets its contract: no sum overflows, by the sizes of the parts.
-use mathlib.Core.Path.{_≡_, ap₂}
+use mathlib.Core.Path.{_≡_}
 use mathlib.Core.Bool.{true, false}
-use lib.IntN.{_+ℤ_}
 use lib.Signed.{ltZ}
 use mir.Syntax.{w64}
 use Rattle.fixed.proofs.Means.{Num, need, keep, lit, add, sub}

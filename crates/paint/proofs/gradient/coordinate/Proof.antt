@@ -1,5 +1,5 @@
 -- `gradient::coordinate` meets its contract: a float of at most 4,096 has a whole number.
-use mathlib.Core.Path.{_≡_, sym, ap, _∙_, subst}
+use mathlib.Core.Path.{sym, ap, _∙_, subst}
 use Prim.Native.Nat.{_≤_}
 use lib.Dec.{T}
 use lib.IntN.{ℤ, natAbs}

@@ -1,5 +1,5 @@
 -- `gradient::fixed_points` meets its contract.
-use mathlib.Core.Path.{_≡_, _∙_}
+use mathlib.Core.Path.{_∙_}
 use mir.Syntax.{w64}
 use Rattle.fixed.proofs.Signed.{clean}
 use Rattle.paint.proofs.gradient.fixed_points.Statement.{statement}

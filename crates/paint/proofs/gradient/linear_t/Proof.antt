@@ -1,8 +1,7 @@
 -- `gradient::linear_t` meets its contract.
-use mathlib.Core.Path.{_≡_, sym, ap, ap₂, _∙_, subst}
+use mathlib.Core.Path.{_≡_, sym, ap, ap₂, _∙_}
 use borrow.Author.Tests.{eq-eqb, ne-eqb}
-use lib.IntN.{ℤ, pos, natAbs}
-use lib.Signed.{_<ℤ_}
+use lib.IntN.{ℤ, natAbs}
 use mir.Syntax.{w64}
 use Rattle.fixed.specs.Floor.{floorDiv}
 use Rattle.fixed.proofs.Signed.{back, zero-yes, zero-no}

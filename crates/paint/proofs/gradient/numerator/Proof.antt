@@ -1,5 +1,5 @@
 -- `gradient::numerator` meets its contract.
-use mathlib.Core.Path.{_≡_, _∙_, ap, ap₂}
+use mathlib.Core.Path.{_∙_, ap, ap₂}
 use lib.IntN.{ℤ, pos, _+ℤ_, _*ℤ_}
 use mir.Syntax.{w64}
 use Rattle.fixed.proofs.Means.{Num, need, keep, lit, add, mul}

@@ -1,5 +1,5 @@
 -- `gradient::quotient` meets its contract.
-use mathlib.Core.Path.{_≡_, ap, ap₂, _∙_}
+use mathlib.Core.Path.{ap₂, _∙_}
 use lib.IntN.{ℤ, pos, natAbs}
 use mir.Facts.{toZ-ofZ}
 use mir.Syntax.{w64}

@@ -1,5 +1,5 @@
 -- `gradient::quotient_at` meets its contract.
-use mathlib.Core.Path.{_≡_, ap₂, _∙_}
+use mathlib.Core.Path.{ap₂, _∙_}
 use lib.IntN.{ℤ, natAbs}
 use mir.Syntax.{w64}
 use Rattle.fixed.proofs.Signed.{back}

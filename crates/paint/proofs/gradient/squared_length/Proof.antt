@@ -1,5 +1,5 @@
 -- `gradient::squared_length` meets its contract.
-use mathlib.Core.Path.{_≡_, _∙_, ap₂}
+use mathlib.Core.Path.{_∙_, ap₂}
 use lib.IntN.{_+ℤ_}
 use mir.Syntax.{w64}
 use Rattle.fixed.proofs.Means.{Num, need, keep, add}

@@ -1,8 +1,8 @@
 -- `ramp::color_between` meets its contract: what is left to search gives the colour that the whole search gives.
-use mathlib.Core.Path.{_≡_, refl, sym, ap, _∙_}
-use Prim.Native.Nat.{_+_, _-_, _≤_, _<_}
+use mathlib.Core.Path.{_≡_, refl, sym, _∙_}
+use Prim.Native.Nat.{_+_, _-_, _≤_}
 use native.Mathlib.Omega.{arith}
-use lib.ListN.{length, getD}
+use lib.ListN.{getD}
 use Rattle.paint.specs.Ramps.{between}
 use Rattle.paint.specs.Buffers.{stopAt, stopsFrom}
 use Rattle.paint.proofs.Lookup.{between-here, between-on, between-end}

@@ -1,10 +1,10 @@
 -- `ramp::mix_byte` meets its contract: the products fit 24 bits, and the result lies between the two channels.
-use mathlib.Core.Path.{refl}
+use mathlib.Core.Path.{refl, sym}
 use Prim.Native.Nat.{_-_, _*_, _≤_}
 use native.Mathlib.Nat.{mul-le-mul}
 use native.Mathlib.Omega.{arith}
 use borrow.Author.Needs.{needs}
-use Rattle.paint.proofs.Mix.{mix-below}
+use Rattle.paint.proofs.Mix.{mix-below, mix-same}
 use Rattle.paint.proofs.ramp.mix_byte.Statement.{statement}
 use Rattle.paint.proofs.ramp.mix_byte.Tie as tie
 
@@ -14,18 +14,29 @@ left c = mul-le-mul {n₁ = c .args .ci} {m₁ = c .args .xj - c .args .t} {n₂
 right : (c : tie.Start) → c .args .cj * (c .args .t - c .args .xi) ≤ 255 * 65536
 right c = mul-le-mul {n₁ = c .args .cj} {m₁ = c .args .t - c .args .xi} {n₂ = 255} {m₂ = 65536} (omega arith) (omega arith)
 
+returns : tie.Need-returns
+returns c =
+    let a = c .before .args in
+    sym (mix-same (a .xi) (a .xj) (a .t) (a .ci) (a .cj) (c .before .pre .0) (c .before .pre .1) (c .if1 .taken))
+
+cast-result : tie.Need-cast-result
+cast-result c =
+    let a = c .before .args in
+    omega (arith, mix-below (a .xi) (a .xj) (a .t) (a .ci) (a .cj) (c .before .pre .0) (c .before .pre .1) 255 (omega arith) (omega arith))
+
 pub mix-byte-spec : {M : Type 1} → statement M
 mix-byte-spec =
     tie.close
     (tie.spec
+    returns
     (λ c. search needs)
-    (λ c. omega (arith, left c))
+    (λ c. omega (arith, left (c .before)))
     (λ c. search needs)
-    (λ c. omega (arith, right c))
-    (λ c. omega (arith, left c, right c))
+    (λ c. omega (arith, right (c .before)))
+    (λ c. omega (arith, left (c .before), right (c .before)))
     (λ c. search needs)
-    (λ c. omega (arith, left c, right c))
+    (λ c. omega (arith, left (c .before), right (c .before)))
     (λ c. search needs)
     (λ c. search needs)
-    (λ c. omega (arith, mix-below (c .args .xi) (c .args .xj) (c .args .t) (c .args .ci) (c .args .cj) (c .pre .0) (c .pre .1) 255 (omega arith) (omega arith)))
+    cast-result
     (λ c. refl))

@@ -1,6 +1,5 @@
 -- `row::linear_pixel` meets its contract.
-use mathlib.Core.Path.{_≡_, ap, _∙_}
-use lib.IntN.{ℤ}
+use mathlib.Core.Path.{ap, _∙_}
 use mir.Syntax.{w64}
 use Rattle.fixed.proofs.Signed.{back}
 use Rattle.paint.specs.Paints.{gradientColor}

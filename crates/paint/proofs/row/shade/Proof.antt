@@ -1,6 +1,5 @@
 -- `row::shade` meets its contract.
 use mathlib.Core.Path.{_≡_, ap, _∙_}
-use lib.IntN.{ℤ}
 use mir.Facts.{toZ-ofZ}
 use mir.Syntax.{w64}
 use Rattle.fixed.proofs.Signed.{back}

@@ -1,5 +1,5 @@
 -- `row::solid_pixel` meets its contract.
-use mathlib.Core.Path.{_≡_, ap, _∙_}
+use mathlib.Core.Path.{ap, _∙_}
 use Rattle.color.specs.Channels.{premultiplied}
 use Rattle.paint.proofs.row.solid_pixel.Statement.{statement}
 use Rattle.paint.proofs.row.solid_pixel.Tie as tie

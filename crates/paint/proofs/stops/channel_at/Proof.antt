@@ -1,5 +1,5 @@
 -- `stops::channel_at` meets its contract.
-use mathlib.Core.Path.{_≡_, sym, ap, _∙_}
+use mathlib.Core.Path.{sym, ap, _∙_}
 use borrow.Author.Needs.{needs}
 use Rattle.fixed.proofs.Answers.{no-number-arm}
 use Rattle.color.specs.Channels.{channelByte}

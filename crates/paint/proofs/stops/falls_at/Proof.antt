@@ -1,5 +1,5 @@
 -- `stops::falls_at` meets its contract.
-use mathlib.Core.Path.{_≡_, _∙_}
+use mathlib.Core.Path.{_∙_}
 use Prim.Native.Nat.{_-_, _*_}
 use borrow.Author.Needs.{needs}
 use Rattle.paint.proofs.Reals.{less-read}
