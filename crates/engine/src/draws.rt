@@ -1,33 +1,113 @@
 // The draws of a scene, one after the other, inside a rectangle of the surface. The scratch is zero before and after each draw.
+use crate::brush::paint_outline;
+use crate::edges::clear;
+use crate::edges::clear_edges;
+use crate::edges::lay_edges;
 use rect::Rect;
 ghost use mathlib.Core.Path.{_≡_};
-ghost use mathlib.Core.List.{_++_};
 ghost use Prim.Native.Nat.{_*_, _≤_};
 ghost use lib.IntN.{pos};
-ghost use lib.ListN.{length, replicate, drop};
+ghost use lib.ListN.{length, replicate};
 ghost use Rattle.rect.specs.Rects.{On};
 ghost use Rattle.raster.specs.Surface.{pixelOf, overlay};
 ghost use Rattle.scene.specs.Layout.{drawBytes};
+ghost use Rattle.scene.specs.Header.{countOf};
 ghost use Rattle.scene.specs.Accepted.{AcceptedDraw, AcceptedScene};
 ghost use Rattle.engine.specs.Picture.{drawStep, drawAll, firstDraws, pixelAt};
 ghost use Rattle.engine.specs.Rows.{Laid};
 
-// Zeros.
-pub fn clear(s: &mut [i32])
-    ensures { λ _. ⌜ now (s .exit) ≡ replicate (length (now (s .entry))) (pos 0) ⌝ }
+// A draw whose edges lie in the scratch, at every pixel of a; only its box is gone through.
+fn paint_inside(
+    surface: &mut [u8],
+    scratch: &mut [i32],
+    n: usize,
+    d: &[u8],
+    width: usize,
+    height: usize,
+    a: Rect,
+)
+    requires { ⌜ (length (now d) ≡ drawBytes) × AcceptedDraw (now d) ⌝ }
+    requires { ⌜ Laid (now d) (now scratch) n ⌝ }
+    requires { ⌜ (length (now surface) ≡ height * (width * 4)) × (On width height a × ((width ≤ 1024) × (height ≤ 1024))) ⌝ }
+    ensures { λ _. ⌜ now (scratch .exit) ≡ now (scratch .entry) ⌝ }
+    ensures { λ _. ⌜ now (surface .exit) ≡ overlay width height a (λ x y. drawStep (now (d .entry)) x y (pixelOf width (now (surface .entry)) x y)) (now (surface .entry)) ⌝ }
+{
+    let b = rect::meet(a, outline::bounds::bounds(scratch, n, width, height));
+    if rect::is_empty(b) {
+        return;
+    }
+    paint_outline(surface, scratch, n, d, width, height, b);
+}
+
+// A draw, at every pixel of a.
+fn paint_draw(
+    surface: &mut [u8],
+    scratch: &mut [i32],
+    d: &[u8],
+    width: usize,
+    height: usize,
+    a: Rect,
+)
+    requires { ⌜ (length (now d) ≡ drawBytes) × AcceptedDraw (now d) ⌝ }
+    requires { ⌜ (12300 ≤ length (now scratch)) × (now scratch ≡ replicate (length (now scratch)) (pos 0)) ⌝ }
+    requires { ⌜ (length (now surface) ≡ height * (width * 4)) × (On width height a × ((width ≤ 1024) × (height ≤ 1024))) ⌝ }
+    ensures { λ _. ⌜ now (scratch .exit) ≡ now (scratch .entry) ⌝ }
+    ensures { λ _. ⌜ now (surface .exit) ≡ overlay width height a (λ x y. drawStep (now (d .entry)) x y (pixelOf width (now (surface .entry)) x y)) (now (surface .entry)) ⌝ }
+{
+    let n = lay_edges(scratch, d);
+    paint_inside(surface, scratch, n, d, width, height, a);
+    clear_edges(scratch, n);
+}
+
+// The first n draws of a scene, at every pixel of a; d is a buffer for a draw.
+fn paint_draws(
+    surface: &mut [u8],
+    scratch: &mut [i32],
+    scene: &[u8],
+    d: &mut [u8],
+    width: usize,
+    height: usize,
+    n: usize,
+    a: Rect,
+)
+    requires { ⌜ AcceptedScene (now scene) × ((n ≡ countOf (now scene)) × (length (now d) ≡ drawBytes)) ⌝ }
+    requires { ⌜ (12300 ≤ length (now scratch)) × (now scratch ≡ replicate (length (now scratch)) (pos 0)) ⌝ }
+    requires { ⌜ (length (now surface) ≡ height * (width * 4)) × (On width height a × ((width ≤ 1024) × (height ≤ 1024))) ⌝ }
+    ensures { λ _. ⌜ now (scratch .exit) ≡ now (scratch .entry) ⌝ }
+    ensures { λ _. ⌜ now (surface .exit) ≡ overlay width height a (λ x y. drawAll (firstDraws (now (scene .entry)) n) x y (pixelOf width (now (surface .entry)) x y)) (now (surface .entry)) ⌝ }
 {
     let mut i = 0;
-    while i < s.len() {
-        s[i] = 0;
+    while i < n {
+        scene::blocks::read_draw(scene, i, d);
+        paint_draw(surface, scratch, d, width, height, a);
         i += 1;
     }
 }
 
-// Zeros in place of the n edges.
-fn clear_edges(scratch: &mut [i32], n: usize)
-    requires { ⌜ n * 4 ≤ length (now scratch) ⌝ }
-    ensures { λ _. ⌜ now (scratch .exit) ≡ replicate (n * 4) (pos 0) ++ drop (n * 4) (now (scratch .entry)) ⌝ }
+// The scene's picture, at every pixel of a. The scratch may hold anything before and is zero afterwards.
+pub fn paint_area(
+    surface: &mut [u8],
+    scratch: &mut [i32],
+    scene: &[u8],
+    width: usize,
+    height: usize,
+    n: usize,
+    a: Rect,
+)
+    requires { ⌜ AcceptedScene (now scene) × (n ≡ countOf (now scene)) ⌝ }
+    requires { ⌜ 12300 ≤ length (now scratch) ⌝ }
+    requires { ⌜ (length (now surface) ≡ height * (width * 4)) × (On width height a × ((width ≤ 1024) × (height ≤ 1024))) ⌝ }
+    ensures { λ _. ⌜ now (scratch .exit) ≡ replicate (length (now (scratch .entry))) (pos 0) ⌝ }
+    ensures { λ _. ⌜ now (surface .exit) ≡ overlay width height a (pixelAt (now (scene .entry))) (now (surface .entry)) ⌝ }
 {
-    let e = n * 4;
-    clear(&mut scratch[0..e]);
+    clear(scratch);
+    raster::fill_rect(
+        surface,
+        width,
+        height,
+        a,
+        scene::header::background(scene).premultiplied(),
+    );
+    let mut d = [0u8; 2032];
+    paint_draws(surface, scratch, scene, &mut d, width, height, n, a);
 }

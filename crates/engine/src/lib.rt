@@ -1,5 +1,7 @@
 // Drawing a scene inside a rectangle of the surface: the background, then every draw in order.
+pub mod brush;
 pub mod draws;
+pub mod edges;
 pub mod fill;
 pub mod rows;
 
