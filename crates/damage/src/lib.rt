@@ -1,4 +1,5 @@
 // The redrawn area of a change from one scene to another.
+use color::Pixel;
 use rect::Rect;
 ghost use mathlib.Core.Path.{_≡_};
 ghost use mathlib.Core.List.{foldl};
@@ -9,7 +10,7 @@ ghost use Rattle.rect.specs.Rects.{On, joinOf, smallest};
 ghost use Rattle.scene.specs.Layout.{drawBytes};
 ghost use Rattle.scene.specs.Header.{countOf};
 ghost use Rattle.scene.specs.Accepted.{AcceptedScene};
-ghost use Rattle.damage.specs.Damage.{changedAt, boxAt, boxesAt, changedBoxes, sameBackground, damageOf};
+ghost use Rattle.damage.specs.Damage.{changedAt, boxAt, boxesAt, changedBoxes, sameBytes, sameBackground, damageOf};
 
 // The box of draw i, if the scene has it; d is a buffer for a draw.
 fn box_at(
@@ -132,8 +133,15 @@ fn same_background(old: &[u8], new: &[u8]) -> bool
     requires { ⌜ AcceptedScene (now old) × AcceptedScene (now new) ⌝ }
     ensures { λ r. ⌜ r ≡ sameBackground (now (old .entry)) (now (new .entry)) ⌝ }
 {
-    let p = scene::header::background(old);
-    let q = scene::header::background(new);
+    same_bytes(
+        scene::header::background(old),
+        scene::header::background(new),
+    )
+}
+
+fn same_bytes(p: Pixel, q: Pixel) -> bool
+    ensures { λ r. ⌜ r ≡ sameBytes p q ⌝ }
+{
     if p.r != q.r {
         return false;
     }
