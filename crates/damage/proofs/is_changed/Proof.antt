@@ -1,3 +1,8 @@
+use lib.Dec.{ltb}
+use native.Mathlib.Omega.{arith}
+use mathlib.Core.Path.{sym, ap, _∙_}
+use Rattle.damage.proofs.Boxes.{changed-answer}
+use Rattle.damage.proofs.Changes.{changed-past, changed-gone}
 use borrow.Author.Needs.{needs}
 use Rattle.damage.proofs.is_changed.Statement.{statement}
 use Rattle.damage.proofs.is_changed.Tie as tie
@@ -17,11 +22,15 @@ count-requires-2 c κs = search needs
 
 -- src/lib.rt:52:9
 returns : tie.Need-returns
-returns c = search needs
+returns c =
+    let a = c .before .before .before .before .before .before .before .args in
+    sym (changed-past (a .old .now) (a .new .now) (a .i) (omega (arith, c .before .before .count .ensures .0, c .if1 .taken)) ∙ ap (ltb (a .i)) (sym (c .before .count2 .ensures .0)))
 
 -- src/lib.rt:55:9
 returns-2 : tie.Need-returns-2
-returns-2 c = search needs
+returns-2 c =
+    let a = c .before .before .before .before .before .before .before .before .args in
+    sym (changed-gone (a .old .now) (a .new .now) (a .i) (omega (arith, c .before .before .before .count .ensures .0, c .before .if1 .left)) (omega (arith, c .before .before .count2 .ensures .0, c .if2 .taken)))
 
 -- src/lib.rt:57:5
 read-draw-requires : tie.Need-read-draw-requires
@@ -45,7 +54,9 @@ same-length-2 c = search needs
 
 -- src/lib.rt:44:1
 returns-3 : tie.Need-returns-3
-returns-3 c = search needs
+returns-3 c =
+    let a = c .before .before .before .before .before .before .before .before .before .before .before .before .before .before .before .before .before .before .before .args in
+    changed-answer (a .old .now) (a .new .now) _ _ (a .i) (c .same-draw .result) (omega (arith, c .before .before .before .before .before .before .before .before .before .before .before .before .before .before .count .ensures .0, c .before .before .before .before .before .before .before .before .before .before .before .before .if1 .left)) (omega (arith, c .before .before .before .before .before .before .before .before .before .before .before .before .before .count2 .ensures .0, c .before .before .before .before .before .before .before .before .before .before .before .if2 .left)) (c .before .before .before .before .before .before .before .before .before .read-draw .ensures) (c .before .before .before .before .before .read-draw2 .ensures) (c .same-draw .ensures)
 
 pub is-changed-spec : {M : Type 1} → statement M
 is-changed-spec =

@@ -23,7 +23,7 @@ same-bytes-requires c κs = search needs
 returns : tie.Need-returns
 returns c =
     let a = c .before .before .before .before .before .args in
-    background-answer (a .old .now) (a .new .now) _ _ _ (c .before .before .before .background .ensures) (c .before .background2 .ensures) (c .same-bytes .ensures)
+    background-answer (a .old .now) (a .new .now) _ _ _ (c .before .before .background .ensures) (c .before .background2 .ensures) (c .same-bytes .ensures)
 
 pub same-background-spec : {M : Type 1} → statement M
 same-background-spec =
