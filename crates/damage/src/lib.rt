@@ -155,13 +155,7 @@ fn same_bytes(p: Pixel, q: Pixel) -> bool
 }
 
 // The redrawn area of the change from one accepted scene to another, on a surface of that size.
-pub fn damage(
-    old: &[u8],
-    new: &[u8],
-    scratch: &mut [i32],
-    width: usize,
-    height: usize,
-) -> Rect
+pub fn damage(old: &[u8], new: &[u8], scratch: &mut [i32], width: usize, height: usize) -> Rect
     requires { ⌜ AcceptedScene (now old) × AcceptedScene (now new) ⌝ }
     requires { ⌜ (width ≤ 1024) × (height ≤ 1024) ⌝ }
     requires { ⌜ (12300 ≤ length (now scratch)) × (now scratch ≡ replicate (length (now scratch)) (pos 0)) ⌝ }
