@@ -1,3 +1,4 @@
+pub mod Boxes
 pub mod Changes
 pub mod Members
 pub mod Smallest

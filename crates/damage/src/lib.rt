@@ -1,1 +1,176 @@
 // The redrawn area of a change from one scene to another.
+use color::Pixel;
+use rect::Rect;
+ghost use mathlib.Core.Path.{_≡_};
+ghost use mathlib.Core.List.{foldl};
+ghost use Prim.Native.Nat.{_≤_, max};
+ghost use lib.IntN.{pos};
+ghost use lib.ListN.{length, replicate};
+ghost use Rattle.rect.specs.Rects.{On, joinOf, smallest};
+ghost use Rattle.scene.specs.Layout.{drawBytes};
+ghost use Rattle.scene.specs.Header.{countOf};
+ghost use Rattle.scene.specs.Accepted.{AcceptedScene};
+ghost use Rattle.damage.specs.Damage.{changedAt, boxAt, boxesAt, changedBoxes, sameBytes, sameBackground, damageOf};
+
+// The box of draw i, if the scene has it; d is a buffer for a draw.
+fn box_at(
+    s: &[u8],
+    i: usize,
+    d: &mut [u8],
+    scratch: &mut [i32],
+    width: usize,
+    height: usize,
+) -> Rect
+    requires { ⌜ AcceptedScene (now s) × (length (now d) ≡ drawBytes) ⌝ }
+    requires { ⌜ (12300 ≤ length (now scratch)) × (now scratch ≡ replicate (length (now scratch)) (pos 0)) ⌝ }
+    requires { ⌜ (width ≤ 1024) × (height ≤ 1024) ⌝ }
+    ensures { λ r. ⌜ (r ≡ boxAt width height (now (s .entry)) i) × ((r .x1 ≤ width) × (r .y1 ≤ height)) ⌝ }
+    ensures { λ r. ⌜ now (scratch .exit) ≡ now (scratch .entry) ⌝ }
+{
+    let n = scene::header::count(s);
+    if n <= i {
+        return Rect {
+            x0: 0,
+            y0: 0,
+            x1: 0,
+            y1: 0,
+        };
+    }
+    scene::blocks::read_draw(s, i, d);
+    engine::edges::draw_bounds(scratch, d, width, height)
+}
+
+// Whether draw i is changed; d and e are buffers for a draw.
+fn is_changed(old: &[u8], new: &[u8], i: usize, d: &mut [u8], e: &mut [u8]) -> bool
+    requires { ⌜ AcceptedScene (now old) × AcceptedScene (now new) ⌝ }
+    requires { ⌜ (length (now d) ≡ drawBytes) × (length (now e) ≡ drawBytes) ⌝ }
+    ensures { λ r. ⌜ r ≡ changedAt (now (old .entry)) (now (new .entry)) i ⌝ }
+{
+    let m = scene::header::count(old);
+    let n = scene::header::count(new);
+    if m <= i {
+        return i < n;
+    }
+    if n <= i {
+        return true;
+    }
+    scene::blocks::read_draw(old, i, d);
+    scene::blocks::read_draw(new, i, e);
+    !scene::blocks::same_draw(d, e)
+}
+
+// The rectangle a with both boxes of draw i, if it is changed.
+fn grow(
+    a: Rect,
+    old: &[u8],
+    new: &[u8],
+    i: usize,
+    d: &mut [u8],
+    e: &mut [u8],
+    scratch: &mut [i32],
+    width: usize,
+    height: usize,
+) -> Rect
+    requires { ⌜ AcceptedScene (now old) × AcceptedScene (now new) ⌝ }
+    requires { ⌜ (length (now d) ≡ drawBytes) × (length (now e) ≡ drawBytes) ⌝ }
+    requires { ⌜ (12300 ≤ length (now scratch)) × (now scratch ≡ replicate (length (now scratch)) (pos 0)) ⌝ }
+    requires { ⌜ On width height a × ((width ≤ 1024) × (height ≤ 1024)) ⌝ }
+    ensures { λ r. ⌜ (r ≡ foldl joinOf a (boxesAt width height (now (old .entry)) (now (new .entry)) i)) × On width height r ⌝ }
+    ensures { λ r. ⌜ now (scratch .exit) ≡ now (scratch .entry) ⌝ }
+{
+    if is_changed(old, new, i, d, e) {
+        let before = box_at(old, i, d, scratch, width, height);
+        let after = box_at(new, i, e, scratch, width, height);
+        rect::join(rect::join(a, before), after)
+    } else {
+        a
+    }
+}
+
+// The number of draws of the scene that has more.
+fn most_draws(old: &[u8], new: &[u8]) -> usize
+    requires { ⌜ AcceptedScene (now old) × AcceptedScene (now new) ⌝ }
+    ensures { λ r. ⌜ r ≡ max (countOf (now (old .entry))) (countOf (now (new .entry))) ⌝ }
+{
+    let m = scene::header::count(old);
+    let n = scene::header::count(new);
+    if m < n { n } else { m }
+}
+
+// The smallest rectangle that holds both boxes of every changed draw.
+fn changed_boxes(
+    old: &[u8],
+    new: &[u8],
+    d: &mut [u8],
+    e: &mut [u8],
+    scratch: &mut [i32],
+    width: usize,
+    height: usize,
+) -> Rect
+    requires { ⌜ AcceptedScene (now old) × AcceptedScene (now new) ⌝ }
+    requires { ⌜ (length (now d) ≡ drawBytes) × (length (now e) ≡ drawBytes) ⌝ }
+    requires { ⌜ (12300 ≤ length (now scratch)) × (now scratch ≡ replicate (length (now scratch)) (pos 0)) ⌝ }
+    requires { ⌜ (width ≤ 1024) × (height ≤ 1024) ⌝ }
+    ensures { λ r. ⌜ (r ≡ smallest (changedBoxes width height (now (old .entry)) (now (new .entry)))) × On width height r ⌝ }
+    ensures { λ r. ⌜ now (scratch .exit) ≡ now (scratch .entry) ⌝ }
+{
+    let mut a = Rect {
+        x0: 0,
+        y0: 0,
+        x1: 0,
+        y1: 0,
+    };
+    let n = most_draws(old, new);
+    let mut i = 0;
+    while i < n {
+        a = grow(a, old, new, i, d, e, scratch, width, height);
+        i += 1;
+    }
+    a
+}
+
+fn same_background(old: &[u8], new: &[u8]) -> bool
+    requires { ⌜ AcceptedScene (now old) × AcceptedScene (now new) ⌝ }
+    ensures { λ r. ⌜ r ≡ sameBackground (now (old .entry)) (now (new .entry)) ⌝ }
+{
+    same_bytes(
+        scene::header::background(old),
+        scene::header::background(new),
+    )
+}
+
+fn same_bytes(p: Pixel, q: Pixel) -> bool
+    ensures { λ r. ⌜ r ≡ sameBytes p q ⌝ }
+{
+    if p.r != q.r {
+        return false;
+    }
+    if p.g != q.g {
+        return false;
+    }
+    if p.b != q.b {
+        return false;
+    }
+    p.a == q.a
+}
+
+// The redrawn area of the change from one accepted scene to another, on a surface of that size.
+pub fn damage(old: &[u8], new: &[u8], scratch: &mut [i32], width: usize, height: usize) -> Rect
+    requires { ⌜ AcceptedScene (now old) × AcceptedScene (now new) ⌝ }
+    requires { ⌜ (width ≤ 1024) × (height ≤ 1024) ⌝ }
+    requires { ⌜ (12300 ≤ length (now scratch)) × (now scratch ≡ replicate (length (now scratch)) (pos 0)) ⌝ }
+    ensures { λ r. ⌜ (r ≡ damageOf width height (now (old .entry)) (now (new .entry))) × On width height r ⌝ }
+    ensures { λ r. ⌜ now (scratch .exit) ≡ now (scratch .entry) ⌝ }
+{
+    if same_background(old, new) {
+        let mut d = [0u8; 2032];
+        let mut e = [0u8; 2032];
+        return changed_boxes(old, new, &mut d, &mut e, scratch, width, height);
+    }
+    Rect {
+        x0: 0,
+        y0: 0,
+        x1: width,
+        y1: height,
+    }
+}
