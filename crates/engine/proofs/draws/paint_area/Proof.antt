@@ -52,11 +52,10 @@ returns c =
     let a = s .args in
     let t = c .before .before .before .before .paint-draws in
     let f = c .before .before .before .before .before .before .before .before .before .before .fill-rect in
-    let p = c .before .before .before .before .before .before .before .before .before .before .before .premultiplied in
-    (
+    let p = c .before .before .before .before .before .before .before .before .before .before .before .premultiplied in (
       t .ensures .0,
       background-then (a .scene .now) (f .last .0) (t .last .0) (a .surface .now) (a .width) (a .height) (a .n) (p .result) (a .a) (s .pre .0 .1)
-      (p .ensures ∙ ap premultiplied (c .before .before .before .before .before .before .before .before .before .before .before .before .background .ensures)) (f .ensures) (t .ensures .1),
+          (p .ensures ∙ ap premultiplied (c .before .before .before .before .before .before .before .before .before .before .before .before .background .ensures)) (f .ensures) (t .ensures .1),
     )
 
 pub paint-area-spec : {M : Type 1} → statement M
