@@ -1,16 +1,14 @@
 -- Zeros after the edges.
-use mathlib.Core.Path.{_≡_, sym, ap, subst, _∙_}
+use mathlib.Core.Path.{_≡_, sym, ap, _∙_}
 use mathlib.Core.List.{List, [], _∷_, _++_, append-assoc, append-nil}
-use Prim.Native.Nat.{ℕ, zero, suc, _+_, _*_, _-_, _≤_, _<_}
+use Prim.Native.Nat.{ℕ, zero, suc, _+_, _*_, _-_, _≤_}
 use native.Mathlib.Omega.{arith}
 use native.Mathlib.Nat.{add-suc, add-zero}
 use lib.IntN.{ℤ, pos}
-use lib.ListN.{length, getD, take, drop, length-append, length-take, length-drop, take-append-drop, List·getD-append}
-use lib.Seq.{getD-take, getD-drop, drop-at, drop-length}
-use Rattle.lists.proofs.Laws.{tab-length, tab-at, tab-ext, upto-same}
-use Rattle.path.specs.declared.Edge.{Edge}
-use Rattle.path.specs.Stored.{edgeAt, edgesOf, Small}
-use Rattle.coverage.specs.Engine.{laid, zeros, cleared, Ready}
+use lib.ListN.{length, take, drop, length-take, length-drop, take-append-drop}
+use lib.Seq.{getD-drop}
+use Rattle.lists.proofs.Laws.{tab-length, tab-at, tab-ext}
+use Rattle.coverage.specs.Engine.{laid, zeros}
 
 zeros-drop : (k n : ℕ) → drop k (zeros n) ≡ zeros (n - k)
 zeros-drop k n =
@@ -33,42 +31,9 @@ clear-laid l n m h c =
     sym (take-append-drop (n * 4) l)
     ∙ ap (λ (t : List ℤ). take (n * 4) l ++ t) (c ∙ zeros-split m (length l - n * 4) (omega arith) ∙ ap (λ (t : List ℤ). zeros m ++ drop m t) (sym c))
 
--- all that stands after b lent and given back as zeros
-pub rest-zeroed : (l z : List ℤ) (b : ℕ) → z ≡ zeros (length (take (length l - b) (drop b l))) → take b l ++ (z ++ drop (length l - b) (drop b l)) ≡ take b l ++ zeros (length l - b)
-rest-zeroed l z b e =
-    let n : length (take (length l - b) (drop b l)) ≡ length l - b = simp (length-take, length-drop) (omega arith) in
-    let d : drop (length l - b) (drop b l) ≡ [] = ap (λ (k : ℕ). drop k (drop b l)) (sym (length-drop b l)) ∙ drop-length (drop b l) in
-    rw (d, append-nil, e, n)
-
 -- a part of m numbers lent and given back as zeros
 pub part-zeroed : (l z : List ℤ) (b m : ℕ) → b + m ≤ length l → z ≡ zeros (length (take (b + m - b) (drop b l))) → take b l ++ (z ++ drop (b + m - b) (drop b l)) ≡ laid b m l (zeros m)
 part-zeroed l z b m h e =
     let w : b + m - b ≡ m = omega arith in
     let n : length (take m (drop b l)) ≡ m = simp (length-take, length-drop) (omega arith) in
     rw (e, w, n)
-
--- ---- a cleared scratch is ready, and its edges are what they were
-module _ (l : List ℤ) (n : ℕ) (h : n * 4 ≤ length l) where
-  front : length (take (n * 4) l) ≡ n * 4
-  front = simp length-take (omega arith)
-
-  cleared-length : length (cleared l n) ≡ length l
-  cleared-length = length-append (take (n * 4) l) (zeros (length l - n * 4)) ∙ omega (arith, front, tab-length (length l - n * 4) (λ j. pos 0))
-
-  cleared-at : (j : ℕ) → j < n * 4 → getD (cleared l n) j (pos 0) ≡ getD l j (pos 0)
-  cleared-at j k = List·getD-append (take (n * 4) l) (zeros (length l - n * 4)) (pos 0) j (rw front k) ∙ getD-take (n * 4) l j (pos 0) k
-
-  cleared-edge : (i : ℕ) → i < n → edgeAt (cleared l n) i ≡ edgeAt l i
-  cleared-edge i k =
-      rw (cleared-at (i * 4) (omega arith), cleared-at (i * 4 + 1) (omega arith), cleared-at (i * 4 + 2) (omega arith), cleared-at (i * 4 + 3) (omega arith))
-
-  pub cleared-edges : edgesOf (cleared l n) n ≡ edgesOf l n
-  cleared-edges = upto-same n (λ i. edgeAt (cleared l n) i ∷ []) (λ i. edgeAt l i ∷ []) (λ i k. ap (λ (e : Edge). e ∷ []) (cleared-edge i k))
-
-  pub cleared-ready : n ≤ 2049 → 12300 ≤ length l → ((i : ℕ) → i < n → Small (edgeAt l i)) → Ready (cleared l n) n
-  cleared-ready few room small = record {
-    few = few;
-    room = subst (λ (k : ℕ). 12300 ≤ k) (sym cleared-length) room;
-    small = λ i k. subst Small (sym (cleared-edge i k)) (small i k);
-    clear = drop-at (take (n * 4) l) (zeros (length l - n * 4)) (n * 4) front ∙ ap (λ (k : ℕ). zeros (k - n * 4)) (sym cleared-length);
-  }

@@ -92,10 +92,6 @@ pub record Ready (l : List ℤ) (n : ℕ) : Type 0 where
   pub small : (i : ℕ) → i < n → Small (edgeAt l i)
   pub clear : drop (n * 4) l ≡ zeros (length l - n * 4)
 
--- l with zeros after its n edges
-abbrev pub cleared : List ℤ → ℕ → List ℤ
-cleared l n = take (n * 4) l ++ zeros (length l - n * 4)
-
 -- ---- the samples inside
 abbrev pub at : List ℤ → ℕ → ℤ
 at s j = getD s j (pos 0)

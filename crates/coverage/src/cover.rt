@@ -8,7 +8,6 @@
 //      32  . . . . | . . . .
 use crate::edges::add_edges;
 use crate::fill::zero_counts;
-use crate::fill::zero_numbers;
 use crate::samples::take_row;
 ghost use mathlib.Core.Path.{_≡_};
 ghost use Prim.Native.Nat.{_+_, _*_, _<_, _≤_, min};
@@ -16,16 +15,7 @@ ghost use lib.ListN.{length};
 ghost use Rattle.lists.specs.Lists.{tab};
 ghost use Rattle.path.specs.Stored.{edgesOf};
 ghost use Rattle.coverage.specs.Winding.{coverage};
-ghost use Rattle.coverage.specs.Engine.{Ready, cleared};
-
-// Zeros after the n edges, as `coverage_row` asks for.
-pub fn clear_sums(scratch: &mut [i32], n: usize)
-    requires { ⌜ n * 4 ≤ length (now scratch) ⌝ }
-    ensures { λ _. ⌜ now (scratch .exit) ≡ cleared (now (scratch .entry)) n ⌝ }
-{
-    let at = n * 4;
-    zero_numbers(&mut scratch[at..]);
-}
+ghost use Rattle.coverage.specs.Engine.{Ready};
 
 // k of each pixel from (x, y) on, in one row, of the path whose n edges stand in the scratch.
 pub fn coverage_row(

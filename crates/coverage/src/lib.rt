@@ -6,7 +6,6 @@ mod fill;
 mod samples;
 pub mod scissors;
 
-pub use crate::cover::clear_sums;
 pub use crate::cover::coverage_row;
 pub use crate::scissors::scissor_row;
 

@@ -1,6 +1,5 @@
 // The draws of a scene, one after the other, inside a rectangle of the surface. The scratch is zero before and after each draw.
 use crate::brush::paint_outline;
-use crate::edges::clear;
 use crate::edges::clear_edges;
 use crate::edges::lay_edges;
 use rect::Rect;
@@ -84,7 +83,7 @@ fn paint_draws(
     }
 }
 
-// The scene's picture, at every pixel of a. The scratch may hold anything before and is zero afterwards.
+// The scene's picture, at every pixel of a.
 pub fn paint_area(
     surface: &mut [u8],
     scratch: &mut [i32],
@@ -95,12 +94,11 @@ pub fn paint_area(
     a: Rect,
 )
     requires { ⌜ AcceptedScene (now scene) × (n ≡ countOf (now scene)) ⌝ }
-    requires { ⌜ 12300 ≤ length (now scratch) ⌝ }
+    requires { ⌜ (12300 ≤ length (now scratch)) × (now scratch ≡ replicate (length (now scratch)) (pos 0)) ⌝ }
     requires { ⌜ (length (now surface) ≡ height * (width * 4)) × (On width height a × ((width ≤ 1024) × (height ≤ 1024))) ⌝ }
-    ensures { λ _. ⌜ now (scratch .exit) ≡ replicate (length (now (scratch .entry))) (pos 0) ⌝ }
+    ensures { λ _. ⌜ now (scratch .exit) ≡ now (scratch .entry) ⌝ }
     ensures { λ _. ⌜ now (surface .exit) ≡ overlay width height a (pixelAt (now (scene .entry))) (now (surface .entry)) ⌝ }
 {
-    clear(scratch);
     raster::fill_rect(
         surface,
         width,

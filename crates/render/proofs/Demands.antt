@@ -1,35 +1,25 @@
 -- Demands 2 and 3, as theorems on the definitions that the contracts of `draw` and `redraw` cite.
 use mathlib.Core.Path.{_≡_, sym, ap, ap₂, _∙_}
 use mathlib.Core.List.{List}
-use Prim.Native.Nat.{ℕ, _+_, _*_, _≤_, _<_}
+use Prim.Native.Nat.{ℕ, _+_, _*_, _<_}
 use native.Mathlib.Omega.{arith}
 use lib.ListN.{length}
-use Rattle.rect.specs.Rects.{Inside, whole}
+use mathlib.Core.Bool.{true, false}
+use Rattle.rect.specs.declared.Rect.{Rect}
+use Rattle.rect.specs.Rects.{Inside, Holds, whole}
 use Rattle.raster.specs.Surface.{raster, overlay, pixelOf}
 use Rattle.raster.proofs.Pixels.{raster-length, raster-at}
 use Rattle.raster.proofs.Overlay.{overlay-in, overlay-out}
 use Rattle.scene.specs.Header.{widthOf, heightOf, countOf}
-use Rattle.scene.specs.Rules.{sceneFault}
 use Rattle.scene.proofs.Accepted.{accepted-scene}
 use Rattle.engine.specs.Picture.{pixelAt, picture}
-use Rattle.damage.specs.Damage.{damage}
+use Rattle.damage.specs.Damage.{damage, damageOf, sameBackground}
+use Rattle.damage.proofs.Smallest.{damage-holds, damage-least}
 use Rattle.damage.proofs.Redraw.{redraw-right}
 use Rattle.render.specs.Answers.{drawRefusal, redrawRefusal, acceptedAnswer, drawAnswer, drawSurface, redrawAnswer, redrawSurface}
+use Rattle.render.specs.Answers.{Accepted, OneSize, Lent, HoldsChanges}
 use Rattle.render.proofs.Refusals.{scene-passes, lent-passes, size-passes}
 use Rattle.render.proofs.Results.{chosen}
-
--- an accepted scene is one that passes every check before the surface's
-abbrev pub Accepted : List ℕ → Type 0
-Accepted s = sceneFault s .code ≡ 0
-
-pub record OneSize (old new : List ℕ) : Type 0 where
-  pub width : widthOf old ≡ widthOf new
-  pub height : heightOf old ≡ heightOf new
-
--- a surface of the scene's size, and enough room
-pub record Lent (s surface : List ℕ) (scratch : ℕ) : Type 0 where
-  pub size : length surface ≡ 4 * (widthOf s * heightOf s)
-  pub space : 12300 ≤ scratch
 
 accepted-length : (s : List ℕ) → Accepted s → length s ≡ 512 * (1 + 4 * countOf s)
 accepted-length s a = accepted-scene s a .bytes
@@ -63,6 +53,18 @@ module _ (old new surface : List ℕ) (scratch : ℕ) (o : Accepted old) (n : Ac
 
   leaves : redrawSurface old new surface scratch ≡ overlay (widthOf new) (heightOf new) (damage old new) (pixelAt new) surface
   leaves = chosen (redrawRefusal old new (length surface) scratch) _ _ redraw-passes
+
+  -- the area is the whole surface where the background differs
+  pub area-is-whole : sameBackground old new ≡ false → damage old new ≡ whole (widthOf new) (heightOf new)
+  unfolding damageOf
+  area-is-whole e = rw e
+
+  -- else it holds the boxes, old and new, of every changed draw, and every other rectangle that holds them holds it
+  pub area-holds-changes : sameBackground old new ≡ true → HoldsChanges old new (damage old new)
+  area-holds-changes = damage-holds (widthOf new) (heightOf new) old new
+
+  pub area-is-smallest : sameBackground old new ≡ true → (r : Rect) → HoldsChanges old new r → Holds r (damage old new)
+  area-is-smallest = damage-least (widthOf new) (heightOf new) old new
 
   -- inside the area every pixel is the second scene's full drawing
   pub inside-is-new : (x y : ℕ) → x < widthOf new → y < heightOf new → Inside (damage old new) x y

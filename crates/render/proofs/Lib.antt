@@ -1,3 +1,4 @@
 pub mod Refusals
 pub mod Results
 pub mod Demands
+pub mod Draws

@@ -1,23 +1,29 @@
 -- What holds where nothing is refused, and how refusals are chained.
-use mathlib.Core.Path.{_≡_, refl, sym, _∙_}
+use mathlib.Core.Path.{_≡_, refl, sym, ap, _∙_}
 use mathlib.Core.List.{List}
 use mathlib.Core.Bool.{Bool, true, false, cond, not}
-use Prim.Native.Nat.{ℕ, _+_, _*_, _≤_}
+use Prim.Native.Nat.{ℕ, _*_, _≤_, _<_}
 use native.Mathlib.Omega.{arith}
+use lib.IntN.{ℤ, pos}
+use lib.ListN.{length, replicate}
 use lib.Dec.{eqb, ltb}
-use borrow.Author.Tests.{eq-eqb, ne-eqb, eqb-false, eqb-true, ltb-false, le-ltb, not-false}
-use Rattle.rect.proofs.Laws.{either, both}
+use borrow.Author.Tests.{eq-eqb, ne-eqb, eqb-false, eqb-true, ltb-false, le-ltb, lt-ltb, not-false}
+use Rattle.rect.specs.declared.Rect.{Rect}
+use Rattle.rect.specs.Rects.{On, whole}
+use Rattle.rect.proofs.Laws.{either}
 use Rattle.scene.specs.Header.{widthOf, heightOf}
 use Rattle.scene.specs.Rules.{sceneFault}
+use Rattle.scene.proofs.Accepted.{accepted-scene}
 use Rattle.render.specs.declared.Refusal.{Refusal}
-use Rattle.render.specs.Answers.{nothing, refuse, orElse, sceneRefusal, lentRefusal, drawRefusal, sizeRefusal, redrawRefusal, choose}
+use Rattle.render.specs.Answers.{nothing, refuse, orElse, sceneRefusal, lentRefusal, drawRefusal, sizeRefusal, redrawRefusal}
 
 -- ---- a chain of refusals
-pub else-first : (f g : Refusal) → (f .code ≡ 0 → ⊥) → orElse f g ≡ f
-else-first f g n = rw (ne-eqb (f .code) 0 n)
+-- f answers the first of two, k the second
+pub first-refused : (f g h : Refusal) → f ≡ g → (f .code ≡ 0 → ⊥) → f ≡ orElse g h
+first-refused f g h e n = rw (← e, ne-eqb (f .code) 0 n)
 
-pub else-second : (f g : Refusal) → f .code ≡ 0 → orElse f g ≡ g
-else-second f g e = rw (eq-eqb (f .code) 0 e)
+pub first-passed : (f g k h : Refusal) → f ≡ g → f .code ≡ 0 → k ≡ h → k ≡ orElse g h
+first-passed f g k h e z d = rw (← e, eq-eqb (f .code) 0 z) d
 
 pub else-fine : (f g : Refusal) → orElse f g .code ≡ 0 → (f .code ≡ 0) × (g .code ≡ 0)
 else-fine f g e =
@@ -53,6 +59,14 @@ pub lent-passes : (w h surface scratch : ℕ) → surface ≡ 4 * (w * h) → 12
 unfolding lentRefusal
 lent-passes w h surface scratch e l = rw (eq-eqb surface (4 * (w * h)) e, le-ltb scratch 12300 l)
 
+pub lent-wrong : (w h surface scratch : ℕ) → (surface ≡ 4 * (w * h) → ⊥) → lentRefusal w h surface scratch ≡ refuse 0x1004 64 0
+unfolding lentRefusal
+lent-wrong w h surface scratch n = rw (ne-eqb surface (4 * (w * h)) n)
+
+pub lent-short : (w h surface scratch : ℕ) → surface ≡ 4 * (w * h) → scratch < 12300 → lentRefusal w h surface scratch ≡ refuse 0x1002 64 0
+unfolding lentRefusal
+lent-short w h surface scratch e l = rw (eq-eqb surface (4 * (w * h)) e, lt-ltb scratch 12300 l)
+
 pub size-fine : (old new : List ℕ) → sizeRefusal old new .code ≡ 0 → (widthOf old ≡ widthOf new) × (heightOf old ≡ heightOf new)
 unfolding sizeRefusal
 size-fine old new e =
@@ -66,6 +80,14 @@ size-fine old new e =
 pub size-passes : (old new : List ℕ) → widthOf old ≡ widthOf new → heightOf old ≡ heightOf new → sizeRefusal old new ≡ nothing
 unfolding sizeRefusal
 size-passes old new e f = rw (eq-eqb (widthOf old) (widthOf new) e, eq-eqb (heightOf old) (heightOf new) f)
+
+pub size-width : (old new : List ℕ) → (widthOf old ≡ widthOf new → ⊥) → sizeRefusal old new ≡ refuse 0x1001 64 1
+unfolding sizeRefusal
+size-width old new n = rw (ne-eqb (widthOf old) (widthOf new) n)
+
+pub size-height : (old new : List ℕ) → widthOf old ≡ widthOf new → (heightOf old ≡ heightOf new → ⊥) → sizeRefusal old new ≡ refuse 0x1001 64 1
+unfolding sizeRefusal
+size-height old new e n = rw (eq-eqb (widthOf old) (widthOf new) e, ne-eqb (heightOf old) (heightOf new) n)
 
 -- ---- what an accepted call has
 pub record Ready (s : List ℕ) (surface scratch : ℕ) : Type 0 where
@@ -100,3 +122,34 @@ redraw-ready old new surface scratch e =
       width = z .0;
       height = z .1;
     }
+
+-- an answer that passes was of an accepted scene
+pub scene-passed : (s : List ℕ) (k : ℕ) (f : Refusal) → f ≡ sceneRefusal s k → f .code ≡ 0 → sceneFault s .code ≡ 0
+scene-passed s k f e z = scene-fine s k (sym (ap (λ (g : Refusal). g .code) e) ∙ z)
+
+-- ---- what the engine asks for, where w and h are the sizes that were read
+module _ (s : List ℕ) (surface scratch w h : ℕ) (r : Ready s surface scratch) (e : w ≡ widthOf s) (f : h ≡ heightOf s) where
+  pub ready-size : surface ≡ h * (w * 4)
+  ready-size = r .size ∙ rw (← e, ← f) (omega arith)
+
+  pub ready-limits : (w ≤ 1024) × (h ≤ 1024)
+  ready-limits = rw (e, f) (accepted-scene s (r .scene) .widthMost, accepted-scene s (r .scene) .heightMost)
+
+  pub ready-within : (a : Rect) → On w h a → On 1024 1024 a
+  ready-within a o = record {
+    across = o .across;
+    wide = omega (arith, o .wide, ready-limits .0);
+    up = o .up;
+    high = omega (arith, o .high, ready-limits .1);
+  }
+
+pub whole-on : (w h : ℕ) → On w h (whole w h)
+whole-on w h = record { across = omega arith; wide = omega arith; up = omega arith; high = omega arith }
+
+-- a scene that passes has its first block
+pub accepted-block : (s : List ℕ) → sceneFault s .code ≡ 0 → 512 ≤ length s
+accepted-block s a = omega (arith, accepted-scene s a .bytes)
+
+-- a run of zeros of that length
+pub zeroed : (l m : List ℤ) → m ≡ replicate (length l) (pos 0) → length m ≡ length l → 12300 ≤ length l → (12300 ≤ length m) × (m ≡ replicate (length m) (pos 0))
+zeroed l m e k space = (omega (arith, k, space), e ∙ ap (λ (n : ℕ). replicate n (pos 0)) (sym k))

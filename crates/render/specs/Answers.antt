@@ -1,20 +1,20 @@
 -- What a call answers, and what surface and scratch hold afterwards ("Codes, and which comes first"; demands 1 to 3).
 -- The scratch numbers are the paper's working room.
-use Prim.Native.Nat.{ℕ, _*_, _-_}
+use Prim.Native.Nat.{ℕ, _*_, _-_, _≤_, _<_, max}
+use mathlib.Core.Path.{_≡_}
 use mathlib.Core.List.{List}
-use mathlib.Core.Bool.{Bool, cond, not, _&&_}
+use mathlib.Core.Bool.{true, cond, not, _&&_}
 use lib.ListN.{length, replicate}
 use lib.Dec.{ltb, eqb}
 use lib.IntN.{ℤ, pos}
 use Rattle.rect.specs.declared.Rect.{Rect}
-use Rattle.rect.specs.Rects.{whole}
+use Rattle.rect.specs.Rects.{whole, Holds}
 use Rattle.raster.specs.Surface.{overlay}
-use Rattle.scene.specs.declared.Fault.{Fault}
 use Rattle.scene.specs.Layout.{noDraw, illegalArgument}
-use Rattle.scene.specs.Header.{widthOf, heightOf}
+use Rattle.scene.specs.Header.{widthOf, heightOf, countOf}
 use Rattle.scene.specs.Rules.{sceneFault}
 use Rattle.engine.specs.Picture.{pixelAt, picture}
-use Rattle.damage.specs.Damage.{damage}
+use Rattle.damage.specs.Damage.{changedAt, boxAt, damage}
 use Rattle.render.specs.declared.Refusal.{Refusal}
 use Rattle.render.specs.declared.Answer.{Answer}
 
@@ -100,3 +100,23 @@ redrawSurface old new surface scratch =
 
 abbrev pub redrawScratch : List ℕ → List ℕ → ℕ → List ℤ → List ℤ
 redrawScratch old new surfaceBytes scratch = scratchAfter (redrawRefusal old new surfaceBytes (length scratch)) scratch
+
+-- ---- what the demands speak of
+-- an accepted scene: it passes every check of a scene
+abbrev pub Accepted : List ℕ → Type 0
+Accepted s = sceneFault s .code ≡ 0
+
+pub record OneSize (old new : List ℕ) : Type 0 where
+  pub width : widthOf old ≡ widthOf new
+  pub height : heightOf old ≡ heightOf new
+
+-- a surface of the scene's size, and enough room
+pub record Lent (s surface : List ℕ) (scratch : ℕ) : Type 0 where
+  pub size : length surface ≡ 4 * (widthOf s * heightOf s)
+  pub space : scratchNumbers ≤ scratch
+
+-- a rectangle that holds the boxes, old and new, of every changed draw
+abbrev pub HoldsChanges : List ℕ → List ℕ → Rect → Type 0
+HoldsChanges old new r =
+    (i : ℕ) → i < max (countOf old) (countOf new) → changedAt old new i ≡ true
+    → Holds r (boxAt (widthOf new) (heightOf new) old i) × Holds r (boxAt (widthOf new) (heightOf new) new i)

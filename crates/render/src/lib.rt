@@ -1,4 +1,14 @@
 // Rendering: the full drawing of a scene, and the quick redraw from one scene to another.
+pub mod judge;
+
+use crate::judge::judge_draw;
+use crate::judge::judge_redraw;
+use rect::Rect;
+ghost use mathlib.Core.Path.{_≡_};
+ghost use lib.ListN.{length};
+ghost use Rattle.rect.specs.Rects.{On};
+ghost use Rattle.render.specs.Answers.{refusedAnswer, acceptedAnswer, drawAnswer, drawSurface, drawScratch};
+ghost use Rattle.render.specs.Answers.{redrawAnswer, redrawSurface, redrawScratch};
 
 // Why a call is refused: its code, 0 for none, the draw number and the scene number.
 pub struct Refusal {
@@ -17,4 +27,76 @@ pub struct Answer {
     pub y: u32,
     pub width: u32,
     pub height: u32,
+}
+
+// Draws a scene in full. The scratch may hold anything before; afterwards it is zero, unless the call is refused.
+pub fn draw(scene: &[u8], surface: &mut [u8], scratch: &mut [i32]) -> Answer
+    ensures { λ r. ⌜ r ≡ drawAnswer (now (scene .entry)) (length (now (surface .entry))) (length (now (scratch .entry))) ⌝ }
+    ensures { λ _. ⌜ now (surface .exit) ≡ drawSurface (now (scene .entry)) (now (surface .entry)) (length (now (scratch .entry))) ⌝ }
+    ensures { λ _. ⌜ now (scratch .exit) ≡ drawScratch (now (scene .entry)) (length (now (surface .entry))) (now (scratch .entry)) ⌝ }
+{
+    let f = judge_draw(scene, surface.len(), scratch.len());
+    if f.code != 0 {
+        return refused(f);
+    }
+    let width = scene::header::width(scene);
+    let height = scene::header::height(scene);
+    let n = scene::header::count(scene);
+    let a = Rect {
+        x0: 0,
+        y0: 0,
+        x1: width,
+        y1: height,
+    };
+    engine::edges::clear(scratch);
+    engine::draws::paint_area(surface, scratch, scene, width, height, n, a);
+    accepted(a)
+}
+
+// Redraws what the step from the old scene to the new one changes, on a surface that shows the old one.
+pub fn redraw(old: &[u8], new: &[u8], surface: &mut [u8], scratch: &mut [i32]) -> Answer
+    ensures { λ r. ⌜ r ≡ redrawAnswer (now (old .entry)) (now (new .entry)) (length (now (surface .entry))) (length (now (scratch .entry))) ⌝ }
+    ensures { λ _. ⌜ now (surface .exit) ≡ redrawSurface (now (old .entry)) (now (new .entry)) (now (surface .entry)) (length (now (scratch .entry))) ⌝ }
+    ensures { λ _. ⌜ now (scratch .exit) ≡ redrawScratch (now (old .entry)) (now (new .entry)) (length (now (surface .entry))) (now (scratch .entry)) ⌝ }
+{
+    let f = judge_redraw(old, new, surface.len(), scratch.len());
+    if f.code != 0 {
+        return refused(f);
+    }
+    let width = scene::header::width(new);
+    let height = scene::header::height(new);
+    let n = scene::header::count(new);
+    engine::edges::clear(scratch);
+    let a = damage::damage(old, new, scratch, width, height);
+    engine::draws::paint_area(surface, scratch, new, width, height, n, a);
+    accepted(a)
+}
+
+fn refused(f: Refusal) -> Answer
+    ensures { λ r. ⌜ r ≡ refusedAnswer f ⌝ }
+{
+    Answer {
+        code: f.code,
+        draw: f.draw,
+        scene: f.scene,
+        x: 0,
+        y: 0,
+        width: 0,
+        height: 0,
+    }
+}
+
+fn accepted(a: Rect) -> Answer
+    requires { ⌜ On 1024 1024 a ⌝ }
+    ensures { λ r. ⌜ r ≡ acceptedAnswer a ⌝ }
+{
+    Answer {
+        code: 0,
+        draw: 64,
+        scene: 0,
+        x: a.x0 as u32,
+        y: a.y0 as u32,
+        width: (a.x1 - a.x0) as u32,
+        height: (a.y1 - a.y0) as u32,
+    }
 }

@@ -4,24 +4,18 @@
 //!
 //! Each workload is a scene and its next frame, for about SECONDS (2); all are timed, or the named one. Full drawings
 //! and redraws take turns in one run: a frame is drawn, then redrawn to the other. The buffers are not cleared between
-//! calls. A redraw's time includes the rules on both scenes, a full drawing's those on one.
+//! calls. A redraw's time includes the rules on both scenes, a full drawing's those on one. Then come the stages of the
+//! full drawing of the first frame.
 #![forbid(unsafe_code)]
 
+mod stages;
 mod workloads;
 
 use std::env;
 use std::time::{Duration, Instant};
 
+use stages::Versions;
 use workloads::Workload;
-
-/// A part of a drawing that the library exports by itself.
-struct Stage {
-    name: &'static str,
-    run: fn(&Workload),
-}
-
-/// The stages to time on every workload. The library exports none so far: only the whole calls below.
-const STAGES: [Stage; 0] = [];
 
 fn main() {
     let seconds = env::args().nth(1).map_or(2.0, |text| text.parse().expect("a number of seconds"));
@@ -33,12 +27,12 @@ fn main() {
     for workload in workloads::all().into_iter().filter(|w| chosen.as_deref().is_none_or(|name| name == w.name)) {
         let times = whole_calls(&workload, Duration::from_secs_f64(seconds));
         print_line(&workload, times);
-        for stage in STAGES {
-            let times = repeat(Duration::from_secs_f64(seconds), || (stage.run)(&workload));
-            println!("  {:<12} {} {}", stage.name, micros(best(&times)), micros(median(&times)));
-        }
+        print_stages(&workload, Duration::from_secs_f64(seconds));
     }
     println!("Times in microseconds, the best and the median. Area: the redrawn share of the surface. Ratio: redraw to full.");
+    println!(
+        "Stages: the difference of the best times of drawings that stop short, and its share of the full drawing."
+    );
 }
 
 struct Times {
@@ -73,13 +67,39 @@ fn whole_calls(workload: &Workload, budget: Duration) -> Times {
     times
 }
 
-fn repeat(budget: Duration, mut run: impl FnMut()) -> Vec<Duration> {
+/// The stages of the first frame's full drawing. Its versions take turns, so that all meet the same machine.
+fn print_stages(workload: &Workload, budget: Duration) {
+    let versions = Versions::of(&workload.scene);
+    let mut surface = vec![0; workload.surface_bytes];
+    let mut scratch = vec![0; library::SCRATCH_NUMBERS];
+    let [mut judged, mut bare, mut outside, mut hidden, mut full] = [Duration::MAX; 5];
     let begin = Instant::now();
-    let mut times = Vec::new();
-    while times.len() < 4 || begin.elapsed() < budget {
-        times.push(timed(&mut run).1);
+    let mut turns = 0;
+    while turns < 4 || begin.elapsed() < budget {
+        let (answer, time) = timed(|| library::draw(&versions.judged, &mut surface, &mut []));
+        assert_eq!(answer.code, library::OUT_OF_MEMORY, "{}", workload.name);
+        judged = judged.min(time);
+        for (scene, least) in [
+            (&versions.bare, &mut bare),
+            (&versions.outside, &mut outside),
+            (&versions.hidden, &mut hidden),
+            (&versions.judged, &mut full),
+        ] {
+            let (answer, time) = timed(|| library::draw(scene, &mut surface, &mut scratch));
+            assert_eq!(answer.code, 0, "{}", workload.name);
+            *least = time.min(*least);
+        }
+        turns += 1;
     }
-    times
+    for (name, time) in [
+        ("rules", judged),
+        ("background", bare),
+        ("edges", outside.saturating_sub(judged + bare)),
+        ("coverage", hidden.saturating_sub(outside)),
+        ("paint, blend", full.saturating_sub(hidden)),
+    ] {
+        println!("  {:<12} {} {:>9.1}%", name, micros(time), 100.0 * time.as_secs_f64() / full.as_secs_f64());
+    }
 }
 
 fn timed<T>(run: impl FnOnce() -> T) -> (T, Duration) {

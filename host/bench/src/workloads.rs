@@ -6,13 +6,20 @@ use scene::Scene;
 
 pub struct Workload {
     pub name: &'static str,
+    /// The first frame.
+    pub scene: Scene,
     pub frames: [Vec<u8>; 2],
     pub surface_bytes: usize,
 }
 
 impl Workload {
     fn new(name: &'static str, frames: [Scene; 2]) -> Workload {
-        Workload { name, surface_bytes: frames[0].surface_bytes(), frames: frames.map(|scene| scene.bytes()) }
+        Workload {
+            name,
+            surface_bytes: frames[0].surface_bytes(),
+            scene: frames[0].clone(),
+            frames: frames.map(|scene| scene.bytes()),
+        }
     }
 }
 
@@ -44,15 +51,13 @@ fn largest() -> Workload {
 
 #[cfg(test)]
 mod tests {
-    const OUT_OF_MEMORY: u32 = 0x1002;
-
     /// With no scratch a call gets as far as the scratch only if its scenes are accepted.
     #[test]
     fn the_frames_are_accepted() {
         for workload in super::all() {
             let [old, new] = &workload.frames;
             let answer = library::redraw(old, new, &mut vec![0; workload.surface_bytes], &mut []);
-            assert_eq!(answer.code, OUT_OF_MEMORY, "{}", workload.name);
+            assert_eq!(answer.code, library::OUT_OF_MEMORY, "{}", workload.name);
         }
     }
 }

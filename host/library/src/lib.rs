@@ -18,6 +18,9 @@ pub struct Answer {
 /// The numbers that a scratch must have at least.
 pub const SCRATCH_NUMBERS: usize = 12_300;
 
+/// The code of a call whose scratch has fewer.
+pub const OUT_OF_MEMORY: u32 = 0x1002;
+
 mod ffi {
     use super::Answer;
 

@@ -1,0 +1,109 @@
+// Whether a call is refused: the scenes, then their sizes, then what is lent.
+use crate::Refusal;
+ghost use mathlib.Core.Path.{_≡_};
+ghost use Prim.Native.Nat.{_≤_, _<_};
+ghost use lib.ListN.{length};
+ghost use Rattle.scene.specs.Layout.{blockBytes, noDraw};
+ghost use Rattle.render.specs.Answers.{refuse, sceneRefusal, lentRefusal, sizeRefusal, drawRefusal, redrawRefusal};
+
+const ILLEGAL_ARGUMENT: u32 = 0x1001;
+
+const UNSUPPORTED_IMAGE_FORMAT: u32 = 0x1004;
+
+const OUT_OF_MEMORY: u32 = 0x1002;
+
+const SCRATCH_NUMBERS: usize = 12300;
+
+// A full drawing, on a surface of that many bytes with a scratch of that many numbers.
+pub fn judge_draw(s: &[u8], surface: usize, scratch: usize) -> Refusal
+    ensures { λ r. ⌜ r ≡ drawRefusal (now (s .entry)) surface scratch ⌝ }
+{
+    let f = judge_scene(s, 0);
+    if f.code != 0 {
+        return f;
+    }
+    judge_lent(
+        scene::header::width(s),
+        scene::header::height(s),
+        surface,
+        scratch,
+    )
+}
+
+// A redraw.
+pub fn judge_redraw(old: &[u8], new: &[u8], surface: usize, scratch: usize) -> Refusal
+    ensures { λ r. ⌜ r ≡ redrawRefusal (now (old .entry)) (now (new .entry)) surface scratch ⌝ }
+{
+    let f = judge_scene(old, 0);
+    if f.code != 0 {
+        return f;
+    }
+    let g = judge_scene(new, 1);
+    if g.code != 0 {
+        return g;
+    }
+    let e = judge_sizes(old, new);
+    if e.code != 0 {
+        return e;
+    }
+    judge_lent(
+        scene::header::width(new),
+        scene::header::height(new),
+        surface,
+        scratch,
+    )
+}
+
+// The scene with that number in the call.
+fn judge_scene(s: &[u8], number: u32) -> Refusal
+    ensures { λ r. ⌜ r ≡ sceneRefusal (now (s .entry)) number ⌝ }
+{
+    let f = scene::verdict::verdict(s);
+    if f.code == 0 {
+        return refusal(0, 0);
+    }
+    Refusal {
+        code: f.code as u32,
+        draw: f.draw as u32,
+        scene: number,
+    }
+}
+
+// Surface and scratch, for a picture of that size.
+fn judge_lent(width: usize, height: usize, surface: usize, scratch: usize) -> Refusal
+    requires { ⌜ (width < 65536) × (height < 65536) ⌝ }
+    ensures { λ r. ⌜ r ≡ lentRefusal width height surface scratch ⌝ }
+{
+    if surface != 4 * (width * height) {
+        return refusal(UNSUPPORTED_IMAGE_FORMAT, 0);
+    }
+    if scratch < SCRATCH_NUMBERS {
+        return refusal(OUT_OF_MEMORY, 0);
+    }
+    refusal(0, 0)
+}
+
+// Two scenes of one size.
+fn judge_sizes(old: &[u8], new: &[u8]) -> Refusal
+    requires { ⌜ (blockBytes ≤ length (now old)) × (blockBytes ≤ length (now new)) ⌝ }
+    ensures { λ r. ⌜ r ≡ sizeRefusal (now (old .entry)) (now (new .entry)) ⌝ }
+{
+    if scene::header::width(old) != scene::header::width(new) {
+        return refusal(ILLEGAL_ARGUMENT, 1);
+    }
+    if scene::header::height(old) != scene::header::height(new) {
+        return refusal(ILLEGAL_ARGUMENT, 1);
+    }
+    refusal(0, 0)
+}
+
+// A refusal that names no draw; code 0 for none.
+fn refusal(code: u32, scene: u32) -> Refusal
+    ensures { λ r. ⌜ r ≡ refuse code noDraw scene ⌝ }
+{
+    Refusal {
+        code,
+        draw: 64,
+        scene,
+    }
+}

@@ -1,0 +1,30 @@
+// The C interface: include/wayramesh.h tells a C caller what these functions take and answer.
+use render::Answer;
+ghost use mathlib.Core.Path.{_≡_};
+ghost use lib.ListN.{length};
+ghost use Rattle.render.specs.Answers.{drawAnswer, drawSurface, drawScratch, redrawAnswer, redrawSurface, redrawScratch};
+
+// Draws a scene in full.
+#[no_mangle]
+pub extern "C" fn wayramesh_draw(scene: &[u8], surface: &mut [u8], scratch: &mut [i32]) -> Answer
+    ensures { λ r. ⌜ r ≡ drawAnswer (now (scene .entry)) (length (now (surface .entry))) (length (now (scratch .entry))) ⌝ }
+    ensures { λ _. ⌜ now (surface .exit) ≡ drawSurface (now (scene .entry)) (now (surface .entry)) (length (now (scratch .entry))) ⌝ }
+    ensures { λ _. ⌜ now (scratch .exit) ≡ drawScratch (now (scene .entry)) (length (now (surface .entry))) (now (scratch .entry)) ⌝ }
+{
+    render::draw(scene, surface, scratch)
+}
+
+// Redraws what the step from the old scene to the new one changes.
+#[no_mangle]
+pub extern "C" fn wayramesh_redraw(
+    old: &[u8],
+    new: &[u8],
+    surface: &mut [u8],
+    scratch: &mut [i32],
+) -> Answer
+    ensures { λ r. ⌜ r ≡ redrawAnswer (now (old .entry)) (now (new .entry)) (length (now (surface .entry))) (length (now (scratch .entry))) ⌝ }
+    ensures { λ _. ⌜ now (surface .exit) ≡ redrawSurface (now (old .entry)) (now (new .entry)) (now (surface .entry)) (length (now (scratch .entry))) ⌝ }
+    ensures { λ _. ⌜ now (scratch .exit) ≡ redrawScratch (now (old .entry)) (now (new .entry)) (length (now (surface .entry))) (now (scratch .entry)) ⌝ }
+{
+    render::redraw(old, new, surface, scratch)
+}
