@@ -74,3 +74,8 @@ fn put_all(l: Line, s: &[u8]) -> Line
     }
     next
 }
+
+// What a program prints for a file past its limit.
+pub fn print_limit() {
+    Line::new().word(b"limit").print();
+}

@@ -3,6 +3,7 @@ use console::Line;
 use console::Loaded;
 use console::Size;
 use console::files::load;
+use console::lines::print_limit;
 use console::pictures::print_picture;
 use console::sizes::picture_size;
 use console::sizes::surface_bytes;
@@ -16,32 +17,32 @@ fn main() {
         return;
     }
     let mut file = [0u8; 262145];
-    read_and_draw(&mut file);
+    lend_file(&mut file);
 }
 
-fn read_and_draw(file: &mut [u8; 262145]) {
-    draw_file(file);
+fn lend_file(file: &mut [u8; 262145]) {
+    load_scene(file);
 }
 
-fn draw_file(file: &mut [u8]) {
+fn load_scene(file: &mut [u8]) {
     let loaded = load(1, file);
     match loaded {
         Loaded::Bytes(n) => draw_scene(&file[0..n]),
-        Loaded::TooLong => Line::new().word(b"limit").print(),
+        Loaded::TooLong => print_limit(),
         Loaded::Unreadable => {}
     }
 }
 
 fn draw_scene(scene: &[u8]) {
     let mut surface = [0u8; 4194304];
-    draw_sized(scene, &mut surface);
+    lend_surface(scene, &mut surface);
 }
 
-fn draw_sized(scene: &[u8], surface: &mut [u8; 4194304]) {
-    draw_part(scene, surface);
+fn lend_surface(scene: &[u8], surface: &mut [u8; 4194304]) {
+    size_surface(scene, surface);
 }
 
-fn draw_part(scene: &[u8], surface: &mut [u8])
+fn size_surface(scene: &[u8], surface: &mut [u8])
     requires { ⌜ 4194304 ≤ length (now surface) ⌝ }
 {
     let size = picture_size(scene);
@@ -56,7 +57,11 @@ fn draw_picture(scene: &[u8], surface: &mut [u8], size: Size)
     let mut scratch = [0i32; 12300];
     let answer = render::draw(scene, surface, &mut scratch);
     if answer.code != 0 {
-        Line::new().word(b"refused").hex(answer.code as u64).decimal(answer.draw as u64).print();
+        Line::new()
+            .word(b"refused")
+            .hex(answer.code as u64)
+            .decimal(answer.draw as u64)
+            .print();
         return;
     }
     print_picture(surface, size);
