@@ -1,0 +1,114 @@
+// Draws the first scene file in full, redraws to the second, and prints the redrawn area and the picture.
+use console::Line;
+use console::Loaded;
+use console::Size;
+use console::files::load;
+use console::lines::print_limit;
+use console::pictures::print_picture;
+use console::sizes::picture_size;
+use console::sizes::surface_bytes;
+use render::Answer;
+use render::Refusal;
+use render::judge::judge_redraw;
+ghost use mathlib.Core.Path.{_≡_};
+ghost use Prim.Native.Nat.{_*_, _≤_};
+ghost use lib.ListN.{length};
+
+// The least scratch that the calls take.
+const SCRATCH_NUMBERS: usize = 12300;
+
+fn main() {
+    if os::arg_count() != 3 {
+        io::write_all(libc::STDERR_FILENO, b"usage: redraw OLD NEW\n");
+        return;
+    }
+    let mut old = [0u8; 262145];
+    let mut new = [0u8; 262145];
+    lend_files(&mut old, &mut new);
+}
+
+fn lend_files(old: &mut [u8; 262145], new: &mut [u8; 262145]) {
+    load_old(old, new);
+}
+
+fn load_old(old: &mut [u8], new: &mut [u8]) {
+    let loaded = load(1, old);
+    match loaded {
+        Loaded::Bytes(n) => load_new(&old[0..n], new),
+        Loaded::TooLong => load_beside_long(new),
+        Loaded::Unreadable => {}
+    }
+}
+
+fn load_new(old: &[u8], new: &mut [u8]) {
+    let loaded = load(2, new);
+    match loaded {
+        Loaded::Bytes(n) => redraw_scenes(old, &new[0..n]),
+        Loaded::TooLong => print_limit(),
+        Loaded::Unreadable => {}
+    }
+}
+
+// The old file is too long: of the new one it matters only whether it can be read.
+fn load_beside_long(new: &mut [u8]) {
+    let loaded = load(2, new);
+    match loaded {
+        Loaded::Unreadable => {}
+        _ => print_limit(),
+    }
+}
+
+fn redraw_scenes(old: &[u8], new: &[u8]) {
+    let mut surface = [0u8; 4194304];
+    lend_surface(old, new, &mut surface);
+}
+
+fn lend_surface(old: &[u8], new: &[u8], surface: &mut [u8; 4194304]) {
+    size_surface(old, new, surface);
+}
+
+fn size_surface(old: &[u8], new: &[u8], surface: &mut [u8])
+    requires { ⌜ 4194304 ≤ length (now surface) ⌝ }
+{
+    let size = picture_size(old);
+    let n = surface_bytes(size);
+    redraw_picture(old, new, &mut surface[0..n], size);
+}
+
+// Both scenes are judged first, so that nothing is drawn for a redraw that is refused.
+fn redraw_picture(old: &[u8], new: &[u8], surface: &mut [u8], size: Size)
+    requires { ⌜ (size .width ≤ 1024) × (length (now surface) ≡ size .height * (size .width * 4)) ⌝ }
+{
+    let refusal = judge_redraw(old, new, surface.len(), SCRATCH_NUMBERS);
+    if refusal.code != 0 {
+        print_refusal(refusal);
+        return;
+    }
+    let answer = draw_and_redraw(old, new, surface);
+    print_area(answer);
+    print_picture(surface, size);
+}
+
+fn draw_and_redraw(old: &[u8], new: &[u8], surface: &mut [u8]) -> Answer {
+    let mut scratch = [0i32; SCRATCH_NUMBERS];
+    render::draw(old, surface, &mut scratch);
+    render::redraw(old, new, surface, &mut scratch)
+}
+
+fn print_refusal(r: Refusal) {
+    Line::new()
+        .word(b"refused")
+        .hex(r.code as u64)
+        .decimal(r.draw as u64)
+        .decimal(r.scene as u64)
+        .print();
+}
+
+fn print_area(a: Answer) {
+    Line::new()
+        .decimal(a.x as u64)
+        .decimal(a.y as u64)
+        .decimal(a.width as u64)
+        .decimal(a.height as u64)
+        .print();
+}
