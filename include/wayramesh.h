@@ -1,5 +1,3 @@
-/* Written ahead of the library: no crate exports these functions yet. What is said here of the calls is what they are to promise. */
-
 /*
  * wayramesh.h: the C interface of Wayramesh, a verified renderer for instrument panels.
  *

@@ -17,10 +17,10 @@ ghost use Rattle.path.specs.Answers.{converted};
 ghost use Rattle.path.specs.Limits.{Limited, Near};
 
 impl FixedMatrix {
-    // The largest size of sx, shy, shx, sy and of tx, ty, judged on the floats as given.
-    pub const LINEAR_LIMIT: u32 = 256;
+    // The largest size of sx, shy, shx, sy and of tx, ty, judged on the floats as given: 256 and 32,768, as powers of 2.
+    pub const LINEAR_LIMIT_LOG: u32 = 8;
 
-    pub const TRANSLATION_LIMIT: u32 = 32768;
+    pub const TRANSLATION_LIMIT_LOG: u32 = 15;
 
     // The largest size of a point on the surface, in 1/256 pixel.
     pub const SURFACE_LIMIT: i64 = 8388608;

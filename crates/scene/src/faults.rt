@@ -3,8 +3,8 @@
 // Without its sign bit, a float's bit pattern grows with its size: at most 2^log is at most the pattern (127 + log) 2^23, and a NaN's is
 // above that of infinity.
 use crate::FieldFault;
-use crate::layout::ILLEGAL_ARGUMENT;
 use fixed::u32_at;
+use path::rules::ILLEGAL_ARGUMENT;
 ghost use mathlib.Core.Path.{_≡_};
 ghost use Prim.Native.Nat.{_+_, _*_, _%_, _^_, _≤_};
 ghost use lib.ListN.{length};

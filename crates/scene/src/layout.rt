@@ -81,12 +81,8 @@ pub const STOP_BYTES: usize = 20;
 
 pub const STOP_FLOATS: usize = 5;
 
-// The limits of floats, as powers of 2: 256 and 32,768 in the matrix, 4,096 in the linear points.
-pub const LINEAR_LOG: u32 = 8;
-
-pub const TRANSLATION_LOG: u32 = 15;
-
-pub const POINT_LOG: u32 = 12;
+// The limit of the linear points' floats, 4,096, as a power of 2.
+pub const POINT_LIMIT_LOG: u32 = 12;
 
 // Paint types and spread modes.
 pub const PAINT_COLOR: u32 = 0x1B00;
@@ -101,5 +97,3 @@ pub const SPREAD_REFLECT: u32 = 0x1C02;
 pub const BAD_CHECKSUM: u16 = 0xB001;
 
 pub const BAD_LENGTH: u16 = 0xB002;
-
-pub const ILLEGAL_ARGUMENT: u16 = 0x1001;

@@ -21,13 +21,12 @@ use crate::layout::DRAW_BYTES;
 use crate::layout::FLAGS_AT;
 use crate::layout::FLAGS_LIMIT;
 use crate::layout::LINEAR_AT;
-use crate::layout::LINEAR_LOG;
 use crate::layout::MATRIX_AT;
 use crate::layout::PADDING_AT;
 use crate::layout::PAINT_COLOR;
 use crate::layout::PAINT_LINEAR;
 use crate::layout::PAINT_TYPE_AT;
-use crate::layout::POINT_LOG;
+use crate::layout::POINT_LIMIT_LOG;
 use crate::layout::SCISSOR_BYTES;
 use crate::layout::SCISSOR_COUNT_AT;
 use crate::layout::SCISSOR_LIMIT;
@@ -44,9 +43,9 @@ use crate::layout::STOP_FLOATS;
 use crate::layout::STOP_LIMIT;
 use crate::layout::STOPS_AT;
 use crate::layout::TRANSLATION_AT;
-use crate::layout::TRANSLATION_LOG;
 use blend::factor::is_mode;
 use fixed::u16_at;
+use path::FixedMatrix;
 use path::rules::check;
 ghost use mathlib.Core.Path.{_≡_};
 ghost use mathlib.Core.Bool.{true, _&&_, _||_};
@@ -130,10 +129,16 @@ fn float_rules(d: &[u8]) -> FieldFault
     requires { ⌜ length (now d) ≡ drawBytes ⌝ }
     ensures { λ r. ⌜ r ≡ floatRules (now (d .entry)) ⌝ }
 {
-    let points = limited(d, POINT_LOG, LINEAR_AT, 4);
+    let points = limited(d, POINT_LIMIT_LOG, LINEAR_AT, 4);
     let from_color = or_else(numbers(d, COLOR_AT, 4), points);
-    let from_translation = or_else(limited(d, TRANSLATION_LOG, TRANSLATION_AT, 2), from_color);
-    or_else(limited(d, LINEAR_LOG, MATRIX_AT, 4), from_translation)
+    let from_translation = or_else(
+        limited(d, FixedMatrix::TRANSLATION_LIMIT_LOG, TRANSLATION_AT, 2),
+        from_color,
+    );
+    or_else(
+        limited(d, FixedMatrix::LINEAR_LIMIT_LOG, MATRIX_AT, 4),
+        from_translation,
+    )
 }
 
 // Unused scissors, used stops, unused stops.
