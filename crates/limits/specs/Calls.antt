@@ -1,4 +1,4 @@
--- What is known of a call that was read.
+-- What is known of a call that was read. A reviewer of the paper need not read it.
 use Prim.Native.Nat.{ℕ, _≤_}
 use Rattle.limits.specs.declared.Call.{Call}
 

@@ -11,6 +11,7 @@ mod patterns;
 mod words;
 
 use console::Line;
+use console::files::FILE_BUFFER;
 ghost use Prim.Native.Nat.{_≤_};
 ghost use lib.ListN.{length};
 
@@ -37,17 +38,18 @@ fn main() {
         );
         return;
     }
-    let mut old = [0u8; 262145];
-    let mut new = [0u8; 262145];
+    let mut old = [0u8; FILE_BUFFER];
+    let mut new = [0u8; FILE_BUFFER];
     let mut surface = [0u8; SURFACE_BYTES];
     let mut other = [0u8; SURFACE_BYTES];
     let mut scratch = [0i32; SCRATCH_NUMBERS];
     lend(&mut old, &mut new, &mut surface, &mut other, &mut scratch);
 }
 
+// A large array is made a slice in a function of its own, since the checker would write out an array that is lent directly.
 fn lend(
-    old: &mut [u8; 262145],
-    new: &mut [u8; 262145],
+    old: &mut [u8; FILE_BUFFER],
+    new: &mut [u8; FILE_BUFFER],
     surface: &mut [u8; SURFACE_BYTES],
     other: &mut [u8; SURFACE_BYTES],
     scratch: &mut [i32; SCRATCH_NUMBERS],
