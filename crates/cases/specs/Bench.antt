@@ -1,7 +1,7 @@
 -- The bench cases C1 to C12: what the definitions give, beside what the paper says.
-use Prim.Native.Nat.{ℕ, _+_, _*_}
+use Prim.Native.Nat.{ℕ, _+_}
 use mathlib.Core.List.{List, [], _∷_, _++_}
-use mathlib.Core.Bool.{Bool, true, false}
+use mathlib.Core.Bool.{true, false}
 use lib.ListN.{replicate}
 use lib.IntN.{ℤ, pos, negsuc}
 use lib.Ieee.{Float, fin}
@@ -10,7 +10,7 @@ use Rattle.color.specs.Channels.{channelByte, premultiply}
 use Rattle.blend.specs.PorterDuff.{compositeByte, modeSrcOver}
 use Rattle.paint.specs.declared.LinearPoints.{LinearPoints}
 use Rattle.paint.specs.Gradient.{fixedPoints, linearT, mapped, spreadPad, spreadRepeat, spreadReflect}
-use Rattle.paint.specs.Ramps.{rampOf, rampAt, black, white}
+use Rattle.paint.specs.Ramps.{rampOf, rampAt, black}
 use Rattle.path.specs.declared.Matrix.{Matrix}
 use Rattle.path.specs.declared.Edge.{Edge}
 use Rattle.path.specs.Matrices.{fixedMatrix, transform}

@@ -1,7 +1,7 @@
 -- A colour's channel as a float and as a byte, and premultiplied bytes.
 use Prim.Native.Nat.{ℕ, _+_, _*_, _/_}
-use mathlib.Core.Bool.{Bool, true, false, cond}
-use lib.IntN.{ℤ, pos, negsuc}
+use mathlib.Core.Bool.{false, cond}
+use lib.IntN.{pos, negsuc}
 use lib.Ieee.{Float, fin, binary32, lt, mul, add, div, ofInt, toUnsigned}
 use Rattle.color.specs.declared.Color.{Color}
 use Rattle.color.specs.declared.Pixel.{Pixel}

@@ -20,7 +20,7 @@ use Rattle.color.specs.declared.Pixel.{Pixel}
 use Rattle.scene.specs.Blocks.{drawOf, sameDraw}
 use Rattle.scene.specs.Header.{countOf, backgroundOf}
 use Rattle.engine.specs.Picture.{drawEdges}
-use Rattle.damage.specs.Damage.{changedAt, drawBox, boxAt, boxesAt, sameBytes, sameBackground}
+use Rattle.damage.specs.Damage.{has, changedAt, drawBox, boxAt, boxesAt, sameBytes, sameBackground}
 use Rattle.damage.proofs.Changes.{box-there, changed-bytes}
 
 -- ---- a box lies on the surface
@@ -31,6 +31,10 @@ edges-on : (w h : ℕ) (es : List Edge) → (boxOf w h es .x1 ≤ w) × (boxOf w
 unfolding boxOf
 edges-on w h [] = (omega arith, omega arith)
 edges-on w h (e ∷ es) = (within-most w (floorDiv (outerOf true false (e ∷ es)) 256 +ℤ pos 1), within-most h (floorDiv (outerOf true true (e ∷ es)) 256 +ℤ pos 1))
+
+pub box-on : (w h : ℕ) (s : List ℕ) (i : ℕ) → (boxAt w h s i .x1 ≤ w) × (boxAt w h s i .y1 ≤ h)
+unfolding boxAt drawBox
+box-on w h s i = either (has s i) (λ e. rw e (edges-on w h (drawEdges (drawOf s i)))) (λ e. rw e (omega arith, omega arith))
 
 -- what `box_at` answers
 pub box-answer : (w h : ℕ) (s d : List ℕ) (i : ℕ) (r : Rect) → i < countOf s → d ≡ drawOf s i → r ≡ boxOf w h (drawEdges d)

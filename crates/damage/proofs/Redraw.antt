@@ -17,7 +17,7 @@ use Rattle.raster.specs.Surface.{raster, overlay}
 use Rattle.raster.proofs.Pixels.{raster-at, raster-length, surface-same}
 use Rattle.raster.proofs.Overlay.{less-or, overlay-in, overlay-out, overlay-length}
 use Rattle.scene.specs.Blocks.{drawOf, sameDraw}
-use Rattle.scene.specs.Header.{widthOf, heightOf, countOf, backgroundOf}
+use Rattle.scene.specs.Header.{countOf, backgroundOf}
 use Rattle.engine.proofs.Steps.{step-out}
 use Rattle.engine.specs.Picture.{drawStep, drawAll, firstDraws, pixelAt, picture}
 use Rattle.damage.specs.Damage.{has, changedAt, drawBox, boxAt, sameBackground, damageOf}

@@ -1,12 +1,12 @@
 -- A row's coverage and a row of pixels, taken apart and put together.
-use mathlib.Core.Path.{_≡_, refl, sym, ap, _∙_}
+use mathlib.Core.Path.{_≡_, sym, ap, _∙_}
 use mathlib.Core.List.{List, [], _∷_}
 use mathlib.Core.Bool.{Bool, true, false}
-use Prim.Native.Nat.{ℕ, _+_, _*_, _≤_, _<_}
+use Prim.Native.Nat.{ℕ, _+_, _≤_, _<_}
 use native.Mathlib.Nat.{le-trans}
 use native.Mathlib.Omega.{arith}
 use lib.ListN.{length, getD, drop, length-take, length-drop}
-use Rattle.lists.specs.Lists.{upto, tab}
+use Rattle.lists.specs.Lists.{tab}
 use Rattle.lists.proofs.Laws.{upto-same, tab-at, tab-length}
 use Rattle.color.specs.declared.Pixel.{Pixel}
 use Rattle.rect.specs.declared.Rect.{Rect}

@@ -5,15 +5,14 @@ use Prim.Native.Nat.{ℕ, zero, suc, _+_, _-_, _*_, _≤_}
 use native.Mathlib.Omega.{arith}
 use native.Mathlib.Numerals.{add-one}
 use lib.IntN.{ℤ, pos}
-use lib.ListN.{length, replicate, drop, length-take, length-drop, length-replicate, replicate-append-replicate}
-use lib.Seq.{getD-drop}
+use lib.ListN.{length, replicate, drop, length-take, length-drop, replicate-append-replicate}
 use Rattle.lists.specs.Lists.{tab}
 use Rattle.path.specs.declared.FixedMatrix.{FixedMatrix}
 use Rattle.path.specs.Limits.{Limited}
 use Rattle.path.specs.Matrices.{fixedMatrix}
 use Rattle.path.specs.Segments.{faultTo}
 use Rattle.path.specs.Curves.{pathEdges}
-use Rattle.path.specs.Stored.{edgesOf, putEdges}
+use Rattle.path.specs.Stored.{putEdges}
 use Rattle.path.proofs.Entries.{matrix-limited}
 use Rattle.outline.proofs.Flattened.{Flattened, flattened, clear-behind}
 use Rattle.scene.specs.Fields.{matrixOf, segmentsOf, coordinatesOf, segmentCount}

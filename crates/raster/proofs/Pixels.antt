@@ -7,8 +7,8 @@ use native.Mathlib.Nat.{eq-or-lt-of-le, le-of-suc-le-suc, not-suc-le-zero, add-z
 use native.Mathlib.Omega.{arith}
 use lib.ListN.{length, getD, take, drop, List·getD-append}
 use lib.Seq.{ext-getD, getD-append-add, getD-drop, getD-take}
-use Rattle.lists.specs.Lists.{over, tab}
-use Rattle.lists.proofs.Laws.{upto-length, run-fits, tab-ext}
+use Rattle.lists.specs.Lists.{over}
+use Rattle.lists.proofs.Laws.{upto-length, run-fits}
 use Rattle.color.specs.declared.Pixel.{Pixel}
 use Rattle.raster.specs.Surface.{bytesOf, run, raster, pixelIn, pixelOf}
 

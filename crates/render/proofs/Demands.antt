@@ -1,63 +1,82 @@
--- Demands 2 and 3, as theorems on the definitions that the contracts of `draw` and `redraw` cite.
+-- Demands 1, 2 and 3, as theorems on the definitions that the contracts of `draw` and `redraw` cite.
 use mathlib.Core.Path.{_≡_, sym, ap, ap₂, _∙_}
 use mathlib.Core.List.{List}
-use Prim.Native.Nat.{ℕ, _+_, _*_, _<_}
-use native.Mathlib.Omega.{arith}
-use lib.ListN.{length}
 use mathlib.Core.Bool.{true, false}
+use Prim.Native.Nat.{ℕ, _+_, _*_, _≤_, _<_, max}
+use native.Mathlib.Omega.{arith}
+use lib.IntN.{ℤ, pos}
+use lib.ListN.{length, replicate}
 use Rattle.rect.specs.declared.Rect.{Rect}
-use Rattle.rect.specs.Rects.{Inside, Holds, whole}
+use Rattle.rect.specs.Rects.{Inside, Holds, On, none, whole, emptyOf}
 use Rattle.raster.specs.Surface.{raster, overlay, pixelOf}
 use Rattle.raster.proofs.Pixels.{raster-length, raster-at}
-use Rattle.raster.proofs.Overlay.{overlay-in, overlay-out}
+use Rattle.raster.proofs.Overlay.{overlay-length, overlay-in, overlay-out}
 use Rattle.scene.specs.Header.{widthOf, heightOf, countOf}
 use Rattle.scene.proofs.Accepted.{accepted-scene}
 use Rattle.engine.specs.Picture.{pixelAt, picture}
-use Rattle.damage.specs.Damage.{damage, damageOf, sameBackground}
-use Rattle.damage.proofs.Smallest.{damage-holds, damage-least}
+use Rattle.damage.specs.Damage.{changedAt, boxAt, sameBackground, damage}
+use Rattle.damage.proofs.Changes.{damage-whole}
+use Rattle.damage.proofs.Smallest.{damage-holds, damage-least, damage-none, damage-on}
 use Rattle.damage.proofs.Redraw.{redraw-right}
-use Rattle.render.specs.Answers.{drawRefusal, redrawRefusal, acceptedAnswer, drawAnswer, drawSurface, redrawAnswer, redrawSurface}
-use Rattle.render.specs.Answers.{Accepted, OneSize, Lent, HoldsChanges}
-use Rattle.render.proofs.Refusals.{scene-passes, lent-passes, size-passes}
-use Rattle.render.proofs.Results.{chosen}
+use Rattle.render.specs.Answers.{drawRefusal, redrawRefusal, acceptedAnswer}
+use Rattle.render.specs.Answers.{drawAnswer, drawSurface, drawScratch, redrawAnswer, redrawSurface, redrawScratch}
+use Rattle.render.specs.Answers.{scratchNumbers, Accepted, OneSize, Lent, HoldsChanges}
+use Rattle.render.proofs.Refusals.{scene-passes, lent-passes, size-passes, draw-ready, redraw-ready}
+use Rattle.render.proofs.Results.{chosen, not-chosen, answer-refused, answer-accepted}
 
-accepted-length : (s : List ℕ) → Accepted s → length s ≡ 512 * (1 + 4 * countOf s)
-accepted-length s a = accepted-scene s a .bytes
+-- ---- DEMAND 1: a refused call leaves surface and scratch as they were; an accepted one leaves the scratch all zero
+module _ (s surface : List ℕ) (scratch : List ℤ) where
+  pub refused-draw-changes-nothing : (drawAnswer s (length surface) (length scratch) .code ≡ 0 → ⊥)
+      → (drawSurface s surface (length scratch) ≡ surface) × (drawScratch s (length surface) scratch ≡ scratch)
+  refused-draw-changes-nothing n =
+      let f = drawRefusal s (length surface) (length scratch) in
+      let m = answer-refused f _ n in
+      (not-chosen f _ _ m, not-chosen f _ _ m)
 
-module _ (s surface : List ℕ) (scratch : ℕ) (a : Accepted s) (lent : Lent s surface scratch) where
-  draw-passes : drawRefusal s (length surface) scratch .code ≡ 0
-  unfolding drawRefusal
-  draw-passes = rw (scene-passes s 0 a, lent-passes (widthOf s) (heightOf s) (length surface) scratch (lent .size) (lent .space))
+  pub accepted-draw-clears-scratch : drawAnswer s (length surface) (length scratch) .code ≡ 0
+      → drawScratch s (length surface) scratch ≡ replicate (length scratch) (pos 0)
+  accepted-draw-clears-scratch e =
+      let f = drawRefusal s (length surface) (length scratch) in
+      chosen f _ _ (answer-accepted f _ e)
 
-  -- DEMAND 2: an accepted scene's full drawing is accepted, reports the whole surface, and leaves the picture
-  pub full-drawing-accepted : drawAnswer s (length surface) scratch ≡ acceptedAnswer (whole (widthOf s) (heightOf s))
-  full-drawing-accepted = chosen (drawRefusal s (length surface) scratch) _ _ draw-passes
+module _ (old new surface : List ℕ) (scratch : List ℤ) where
+  pub refused-redraw-changes-nothing : (redrawAnswer old new (length surface) (length scratch) .code ≡ 0 → ⊥)
+      → (redrawSurface old new surface (length scratch) ≡ surface) × (redrawScratch old new (length surface) scratch ≡ scratch)
+  refused-redraw-changes-nothing n =
+      let f = redrawRefusal old new (length surface) (length scratch) in
+      let m = answer-refused f _ n in
+      (not-chosen f _ _ m, not-chosen f _ _ m)
 
-  pub full-drawing-leaves-picture : drawSurface s surface scratch ≡ picture s
-  full-drawing-leaves-picture = chosen (drawRefusal s (length surface) scratch) _ _ draw-passes
+  pub accepted-redraw-clears-scratch : redrawAnswer old new (length surface) (length scratch) .code ≡ 0
+      → redrawScratch old new (length surface) scratch ≡ replicate (length scratch) (pos 0)
+  accepted-redraw-clears-scratch e =
+      let f = redrawRefusal old new (length surface) (length scratch) in
+      chosen f _ _ (answer-accepted f _ e)
 
-module _ (old new surface : List ℕ) (scratch : ℕ) (o : Accepted old) (n : Accepted new) (size : OneSize old new) (lent : Lent new surface scratch) where
-  redraw-passes : redrawRefusal old new (length surface) scratch .code ≡ 0
-  unfolding redrawRefusal
-  redraw-passes =
-      rw (
-        scene-passes old 0 o,
-        scene-passes new 1 n,
-        size-passes old new (size .width) (size .height),
-        lent-passes (widthOf new) (heightOf new) (length surface) scratch (lent .size) (lent .space),
-      )
+-- ---- DEMAND 2: a full drawing is accepted exactly if the scene is and enough is lent; it reports the whole surface and leaves the picture
+module _ (s surface : List ℕ) (scratch : ℕ) where
+  pub only-good-draws-accepted : drawAnswer s (length surface) scratch .code ≡ 0 → Accepted s × Lent s surface scratch
+  only-good-draws-accepted e =
+      let f = drawRefusal s (length surface) scratch in
+      let r = draw-ready s (length surface) scratch (answer-accepted f _ e) in
+      (r .scene, record { size = r .size; space = r .space })
 
-  -- DEMAND 3: the redraw of two accepted scenes of one size is accepted, and reports the paper's area
-  pub redraw-accepted : redrawAnswer old new (length surface) scratch ≡ acceptedAnswer (damage old new)
-  redraw-accepted = chosen (redrawRefusal old new (length surface) scratch) _ _ redraw-passes
+  module _ (a : Accepted s) (lent : Lent s surface scratch) where
+    draw-passes : drawRefusal s (length surface) scratch .code ≡ 0
+    unfolding drawRefusal
+    draw-passes = rw (scene-passes s 0 a, lent-passes (widthOf s) (heightOf s) (length surface) scratch (lent .size) (lent .space))
 
-  leaves : redrawSurface old new surface scratch ≡ overlay (widthOf new) (heightOf new) (damage old new) (pixelAt new) surface
-  leaves = chosen (redrawRefusal old new (length surface) scratch) _ _ redraw-passes
+    pub full-drawing-accepted : drawAnswer s (length surface) scratch ≡ acceptedAnswer (whole (widthOf s) (heightOf s))
+    full-drawing-accepted = chosen (drawRefusal s (length surface) scratch) _ _ draw-passes
 
-  -- the area is the whole surface where the background differs
-  pub area-is-whole : sameBackground old new ≡ false → damage old new ≡ whole (widthOf new) (heightOf new)
-  unfolding damageOf
-  area-is-whole e = rw e
+    pub full-drawing-leaves-picture : drawSurface s surface scratch ≡ picture s
+    full-drawing-leaves-picture = chosen (drawRefusal s (length surface) scratch) _ _ draw-passes
+
+-- ---- DEMAND 3: the area, for any two scenes
+module _ (old new : List ℕ) where
+  -- it is the whole surface where the background differs
+  pub area-whole-if-background-differs : sameBackground old new ≡ false → damage old new ≡ whole (widthOf new) (heightOf new)
+  area-whole-if-background-differs = damage-whole (widthOf new) (heightOf new) old new
 
   -- else it holds the boxes, old and new, of every changed draw, and every other rectangle that holds them holds it
   pub area-holds-changes : sameBackground old new ≡ true → HoldsChanges old new (damage old new)
@@ -66,39 +85,82 @@ module _ (old new surface : List ℕ) (scratch : ℕ) (o : Accepted old) (n : Ac
   pub area-is-smallest : sameBackground old new ≡ true → (r : Rect) → HoldsChanges old new r → Holds r (damage old new)
   area-is-smallest = damage-least (widthOf new) (heightOf new) old new
 
-  -- inside the area every pixel is the second scene's full drawing
-  pub inside-is-new : (x y : ℕ) → x < widthOf new → y < heightOf new → Inside (damage old new) x y
-      → pixelOf (widthOf new) (redrawSurface old new surface scratch) x y ≡ pixelOf (widthOf new) (picture new) x y
-  unfolding picture
-  inside-is-new x y k l i =
-      ap (λ (s : List ℕ). pixelOf (widthOf new) s x y) leaves
-      ∙ overlay-in (widthOf new) (heightOf new) (damage old new) (pixelAt new) surface x y k l i
-      ∙ sym (raster-at (widthOf new) (heightOf new) (pixelAt new) x y k l)
+  -- with no such box that has a pixel it is 0, 0, 0, 0
+  pub area-none-if-no-box : sameBackground old new ≡ true
+      → ((i : ℕ) → i < max (countOf old) (countOf new) → changedAt old new i ≡ true
+      → (emptyOf (boxAt (widthOf new) (heightOf new) old i) ≡ true) × (emptyOf (boxAt (widthOf new) (heightOf new) new i) ≡ true))
+      → damage old new ≡ none
+  area-none-if-no-box = damage-none (widthOf new) (heightOf new) old new
 
-  -- outside it every pixel is as before
-  pub outside-is-kept : (x y : ℕ) → x < widthOf new → y < heightOf new → (Inside (damage old new) x y → ⊥)
-      → pixelOf (widthOf new) (redrawSurface old new surface scratch) x y ≡ pixelOf (widthOf new) surface x y
-  outside-is-kept x y k l i =
-      ap (λ (s : List ℕ). pixelOf (widthOf new) s x y) leaves
-      ∙ overlay-out (widthOf new) (heightOf new) (damage old new) (pixelAt new) surface x y k l i
+  pub area-on-surface : On (widthOf new) (heightOf new) (damage old new)
+  area-on-surface = damage-on (widthOf new) (heightOf new) old new
 
-  -- so a surface that held the first scene's full drawing holds the second's in every byte
-  pub redraw-makes-picture : surface ≡ picture old → redrawSurface old new surface scratch ≡ picture new
-  unfolding picture
-  redraw-makes-picture e =
-      leaves
-      ∙ ap (overlay (widthOf new) (heightOf new) (damage old new) (pixelAt new))
-      (e ∙ ap₂ (λ (w h : ℕ). raster w h (pixelAt old)) (size .width) (size .height))
-      ∙ redraw-right old new (widthOf new) (heightOf new) (accepted-length old o) (accepted-length new n)
+-- ---- DEMAND 3: the redraw is accepted exactly if both scenes are, have one size, and enough is lent
+accepted-length : (s : List ℕ) → Accepted s → length s ≡ 512 * (1 + 4 * countOf s)
+accepted-length s a = accepted-scene s a .bytes
 
--- the same of the calls: redrawing after a full drawing of the old scene leaves what a full drawing of the new one leaves
-pub quick-is-full : (old new surface : List ℕ) (scratch : ℕ) → Accepted old → Accepted new → OneSize old new → Lent new surface scratch
-    → redrawSurface old new (drawSurface old surface scratch) scratch ≡ drawSurface new surface scratch
+module _ (old new surface : List ℕ) (scratch : ℕ) where
+  pub only-good-redraws-accepted : redrawAnswer old new (length surface) scratch .code ≡ 0
+      → (Accepted old × Accepted new) × (OneSize old new × Lent new surface scratch)
+  only-good-redraws-accepted e =
+      let f = redrawRefusal old new (length surface) scratch in
+      let r = redraw-ready old new (length surface) scratch (answer-accepted f _ e) in
+      ((r .before, r .after .scene), (record { width = r .width; height = r .height }, record { size = r .after .size; space = r .after .space }))
+
+  module _ (o : Accepted old) (n : Accepted new) (size : OneSize old new) (lent : Lent new surface scratch) where
+    redraw-passes : redrawRefusal old new (length surface) scratch .code ≡ 0
+    unfolding redrawRefusal
+    redraw-passes =
+        rw (
+          scene-passes old 0 o,
+          scene-passes new 1 n,
+          size-passes old new (size .width) (size .height),
+          lent-passes (widthOf new) (heightOf new) (length surface) scratch (lent .size) (lent .space),
+        )
+
+    -- it reports the area
+    pub redraw-accepted : redrawAnswer old new (length surface) scratch ≡ acceptedAnswer (damage old new)
+    redraw-accepted = chosen (redrawRefusal old new (length surface) scratch) _ _ redraw-passes
+
+    leaves : redrawSurface old new surface scratch ≡ overlay (widthOf new) (heightOf new) (damage old new) (pixelAt new) surface
+    leaves = chosen (redrawRefusal old new (length surface) scratch) _ _ redraw-passes
+
+    -- the surface keeps its length; inside the area every pixel is the second scene's full drawing, outside it every pixel is as before
+    pub redraw-keeps-length : length (redrawSurface old new surface scratch) ≡ length surface
+    redraw-keeps-length =
+        ap length leaves ∙ overlay-length (widthOf new) (heightOf new) (damage old new) (pixelAt new) surface ∙ rw (lent .size) (omega arith)
+
+    pub inside-is-new : (x y : ℕ) → x < widthOf new → y < heightOf new → Inside (damage old new) x y
+        → pixelOf (widthOf new) (redrawSurface old new surface scratch) x y ≡ pixelOf (widthOf new) (picture new) x y
+    unfolding picture
+    inside-is-new x y k l i =
+        ap (λ (s : List ℕ). pixelOf (widthOf new) s x y) leaves
+        ∙ overlay-in (widthOf new) (heightOf new) (damage old new) (pixelAt new) surface x y k l i
+        ∙ sym (raster-at (widthOf new) (heightOf new) (pixelAt new) x y k l)
+
+    pub outside-is-kept : (x y : ℕ) → x < widthOf new → y < heightOf new → (Inside (damage old new) x y → ⊥)
+        → pixelOf (widthOf new) (redrawSurface old new surface scratch) x y ≡ pixelOf (widthOf new) surface x y
+    outside-is-kept x y k l i =
+        ap (λ (s : List ℕ). pixelOf (widthOf new) s x y) leaves
+        ∙ overlay-out (widthOf new) (heightOf new) (damage old new) (pixelAt new) surface x y k l i
+
+    -- so a surface that held the first scene's full drawing holds the second's in every byte
+    pub redraw-makes-picture : surface ≡ picture old → redrawSurface old new surface scratch ≡ picture new
+    unfolding picture
+    redraw-makes-picture e =
+        leaves
+        ∙ ap (overlay (widthOf new) (heightOf new) (damage old new) (pixelAt new))
+        (e ∙ ap₂ (λ (w h : ℕ). raster w h (pixelAt old)) (size .width) (size .height))
+        ∙ redraw-right old new (widthOf new) (heightOf new) (accepted-length old o) (accepted-length new n)
+
+-- the same of the calls: redrawing after a full drawing of the old scene leaves what a full drawing of the new one leaves, on whatever surfaces
+pub quick-is-full : (old new first second : List ℕ) (scratch1 scratch2 scratch3 : ℕ) → Accepted old → Accepted new → OneSize old new
+    → Lent old first scratch1 → scratchNumbers ≤ scratch2 → Lent new second scratch3
+    → redrawSurface old new (drawSurface old first scratch1) scratch2 ≡ drawSurface new second scratch3
 unfolding picture
-quick-is-full old new surface scratch o n size lent =
-    let size-old : length surface ≡ 4 * (widthOf old * heightOf old) = lent .size ∙ rw (size .width, size .height) in
-    let drawn : drawSurface old surface scratch ≡ picture old = full-drawing-leaves-picture old surface scratch o (record { size = size-old; space = lent .space }) in
-    let fits : length (drawSurface old surface scratch) ≡ 4 * (widthOf new * heightOf new) =
+quick-is-full old new first second scratch1 scratch2 scratch3 o n size lent space full =
+    let drawn : drawSurface old first scratch1 ≡ picture old = full-drawing-leaves-picture old first scratch1 o lent in
+    let fits : length (drawSurface old first scratch1) ≡ 4 * (widthOf new * heightOf new) =
     ap length drawn ∙ raster-length (widthOf old) (heightOf old) (pixelAt old) ∙ rw (size .width, size .height) (omega arith) in
-    redraw-makes-picture old new (drawSurface old surface scratch) scratch o n size (record { size = fits; space = lent .space }) drawn
-    ∙ sym (full-drawing-leaves-picture new surface scratch n lent)
+    redraw-makes-picture old new (drawSurface old first scratch1) scratch2 o n size (record { size = fits; space = space }) drawn
+    ∙ sym (full-drawing-leaves-picture new second scratch3 n full)

@@ -2,3 +2,4 @@ pub mod Refusals
 pub mod Results
 pub mod Demands
 pub mod Draws
+pub mod Codes

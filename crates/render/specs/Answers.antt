@@ -2,15 +2,15 @@
 -- The scratch numbers are the paper's working room.
 use Prim.Native.Nat.{ℕ, _*_, _-_, _≤_, _<_, max}
 use mathlib.Core.Path.{_≡_}
-use mathlib.Core.List.{List}
-use mathlib.Core.Bool.{true, cond, not, _&&_}
+use mathlib.Core.List.{List, [], _∷_, _++_}
+use mathlib.Core.Bool.{Bool, true, false, cond, not, _&&_, _||_}
 use lib.ListN.{length, replicate}
 use lib.Dec.{ltb, eqb}
 use lib.IntN.{ℤ, pos}
 use Rattle.rect.specs.declared.Rect.{Rect}
 use Rattle.rect.specs.Rects.{whole, Holds}
 use Rattle.raster.specs.Surface.{overlay}
-use Rattle.scene.specs.Layout.{noDraw, illegalArgument}
+use Rattle.scene.specs.Layout.{noDraw, badLength, badChecksum, illegalArgument}
 use Rattle.scene.specs.Header.{widthOf, heightOf, countOf}
 use Rattle.scene.specs.Rules.{sceneFault}
 use Rattle.engine.specs.Picture.{pixelAt, picture}
@@ -18,11 +18,28 @@ use Rattle.damage.specs.Damage.{changedAt, boxAt, damage}
 use Rattle.render.specs.declared.Refusal.{Refusal}
 use Rattle.render.specs.declared.Answer.{Answer}
 
+-- ---- the table of codes, in the paper's order: those of a scene, 0 for accepted among them, then those of what is lent
+abbrev pub unsupportedPathFormat : ℕ
+unsupportedPathFormat = 0x1005
+
 abbrev pub unsupportedImageFormat : ℕ
 unsupportedImageFormat = 0x1004
 
 abbrev pub outOfMemory : ℕ
 outOfMemory = 0x1002
+
+abbrev pub sceneCodes : List ℕ
+sceneCodes = 0 ∷ badLength ∷ badChecksum ∷ illegalArgument ∷ unsupportedPathFormat ∷ []
+
+abbrev pub codes : List ℕ
+codes = sceneCodes ++ (unsupportedImageFormat ∷ outOfMemory ∷ [])
+
+abbrev pub isOneOf : ℕ → List ℕ → Bool
+isOneOf code [] = false
+isOneOf code (c ∷ cs) = eqb code c || isOneOf code cs
+
+abbrev pub inTable : ℕ → Bool
+inTable code = isOneOf code codes
 
 -- enough room is 12,300 numbers or more
 abbrev pub scratchNumbers : ℕ

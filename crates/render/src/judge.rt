@@ -1,26 +1,30 @@
 // Whether a call is refused: the scenes, then their sizes, then what is lent.
 use crate::Refusal;
+use path::rules::ILLEGAL_ARGUMENT;
+use scene::layout::NO_DRAW;
 ghost use mathlib.Core.Path.{_≡_};
 ghost use Prim.Native.Nat.{_≤_, _<_};
 ghost use lib.ListN.{length};
 ghost use Rattle.scene.specs.Layout.{blockBytes, noDraw};
 ghost use Rattle.render.specs.Answers.{refuse, sceneRefusal, lentRefusal, sizeRefusal, drawRefusal, redrawRefusal};
 
-const ILLEGAL_ARGUMENT: u32 = 0x1001;
+// The code of a call that is not refused.
+pub const ACCEPTED: u32 = 0;
 
 const UNSUPPORTED_IMAGE_FORMAT: u32 = 0x1004;
 
 const OUT_OF_MEMORY: u32 = 0x1002;
 
-const SCRATCH_NUMBERS: usize = 12300;
+// Enough scratch.
+pub const SCRATCH_NUMBERS: usize = 12300;
 
 // A full drawing, on a surface of that many bytes with a scratch of that many numbers.
 pub fn judge_draw(s: &[u8], surface: usize, scratch: usize) -> Refusal
     ensures { λ r. ⌜ r ≡ drawRefusal (now (s .entry)) surface scratch ⌝ }
 {
-    let f = judge_scene(s, 0);
-    if f.code != 0 {
-        return f;
+    let broken = judge_scene(s, 0);
+    if broken.code != ACCEPTED {
+        return broken;
     }
     judge_lent(
         scene::header::width(s),
@@ -34,17 +38,17 @@ pub fn judge_draw(s: &[u8], surface: usize, scratch: usize) -> Refusal
 pub fn judge_redraw(old: &[u8], new: &[u8], surface: usize, scratch: usize) -> Refusal
     ensures { λ r. ⌜ r ≡ redrawRefusal (now (old .entry)) (now (new .entry)) surface scratch ⌝ }
 {
-    let f = judge_scene(old, 0);
-    if f.code != 0 {
-        return f;
+    let old_broken = judge_scene(old, 0);
+    if old_broken.code != ACCEPTED {
+        return old_broken;
     }
-    let g = judge_scene(new, 1);
-    if g.code != 0 {
-        return g;
+    let new_broken = judge_scene(new, 1);
+    if new_broken.code != ACCEPTED {
+        return new_broken;
     }
-    let e = judge_sizes(old, new);
-    if e.code != 0 {
-        return e;
+    let unequal = judge_sizes(old, new);
+    if unequal.code != ACCEPTED {
+        return unequal;
     }
     judge_lent(
         scene::header::width(new),
@@ -60,7 +64,7 @@ fn judge_scene(s: &[u8], number: u32) -> Refusal
 {
     let f = scene::verdict::verdict(s);
     if f.code == 0 {
-        return refusal(0, 0);
+        return refusal(ACCEPTED, 0);
     }
     Refusal {
         code: f.code as u32,
@@ -80,7 +84,7 @@ fn judge_lent(width: usize, height: usize, surface: usize, scratch: usize) -> Re
     if scratch < SCRATCH_NUMBERS {
         return refusal(OUT_OF_MEMORY, 0);
     }
-    refusal(0, 0)
+    refusal(ACCEPTED, 0)
 }
 
 // Two scenes of one size.
@@ -89,21 +93,21 @@ fn judge_sizes(old: &[u8], new: &[u8]) -> Refusal
     ensures { λ r. ⌜ r ≡ sizeRefusal (now (old .entry)) (now (new .entry)) ⌝ }
 {
     if scene::header::width(old) != scene::header::width(new) {
-        return refusal(ILLEGAL_ARGUMENT, 1);
+        return refusal(ILLEGAL_ARGUMENT as u32, 1);
     }
     if scene::header::height(old) != scene::header::height(new) {
-        return refusal(ILLEGAL_ARGUMENT, 1);
+        return refusal(ILLEGAL_ARGUMENT as u32, 1);
     }
-    refusal(0, 0)
+    refusal(ACCEPTED, 0)
 }
 
-// A refusal that names no draw; code 0 for none.
+// A refusal that names no draw; none, where the call is accepted.
 fn refusal(code: u32, scene: u32) -> Refusal
     ensures { λ r. ⌜ r ≡ refuse code noDraw scene ⌝ }
 {
     Refusal {
         code,
-        draw: 64,
+        draw: NO_DRAW as u32,
         scene,
     }
 }

@@ -1,9 +1,11 @@
 // Rendering: the full drawing of a scene, and the quick redraw from one scene to another.
 pub mod judge;
 
+use crate::judge::ACCEPTED;
 use crate::judge::judge_draw;
 use crate::judge::judge_redraw;
 use rect::Rect;
+use scene::layout::NO_DRAW;
 ghost use mathlib.Core.Path.{_≡_};
 ghost use lib.ListN.{length};
 ghost use Rattle.rect.specs.Rects.{On};
@@ -36,7 +38,7 @@ pub fn draw(scene: &[u8], surface: &mut [u8], scratch: &mut [i32]) -> Answer
     ensures { λ _. ⌜ now (scratch .exit) ≡ drawScratch (now (scene .entry)) (length (now (surface .entry))) (now (scratch .entry)) ⌝ }
 {
     let f = judge_draw(scene, surface.len(), scratch.len());
-    if f.code != 0 {
+    if f.code != ACCEPTED {
         return refused(f);
     }
     let width = scene::header::width(scene);
@@ -53,14 +55,14 @@ pub fn draw(scene: &[u8], surface: &mut [u8], scratch: &mut [i32]) -> Answer
     accepted(a)
 }
 
-// Redraws what the step from the old scene to the new one changes, on a surface that shows the old one.
+// Redraws what the step from the old scene to the new one changes. A surface that held the old picture then holds the new one.
 pub fn redraw(old: &[u8], new: &[u8], surface: &mut [u8], scratch: &mut [i32]) -> Answer
     ensures { λ r. ⌜ r ≡ redrawAnswer (now (old .entry)) (now (new .entry)) (length (now (surface .entry))) (length (now (scratch .entry))) ⌝ }
     ensures { λ _. ⌜ now (surface .exit) ≡ redrawSurface (now (old .entry)) (now (new .entry)) (now (surface .entry)) (length (now (scratch .entry))) ⌝ }
     ensures { λ _. ⌜ now (scratch .exit) ≡ redrawScratch (now (old .entry)) (now (new .entry)) (length (now (surface .entry))) (now (scratch .entry)) ⌝ }
 {
     let f = judge_redraw(old, new, surface.len(), scratch.len());
-    if f.code != 0 {
+    if f.code != ACCEPTED {
         return refused(f);
     }
     let width = scene::header::width(new);
@@ -91,8 +93,8 @@ fn accepted(a: Rect) -> Answer
     ensures { λ r. ⌜ r ≡ acceptedAnswer a ⌝ }
 {
     Answer {
-        code: 0,
-        draw: 64,
+        code: ACCEPTED,
+        draw: NO_DRAW as u32,
         scene: 0,
         x: a.x0 as u32,
         y: a.y0 as u32,

@@ -26,11 +26,13 @@ use path::Converted;
 use path::FixedMatrix;
 use path::Matrix;
 ghost use mathlib.Core.Path.{_≡_};
-ghost use mathlib.Core.Bool.{true};
+ghost use mathlib.Core.Bool.{true, _||_};
 ghost use Prim.Native.Nat.{_+_, _≤_, _<_};
 ghost use lib.ListN.{length};
+ghost use lib.Dec.{eqb};
 ghost use lib.Ieee.{nan};
 ghost use Rattle.fixed.specs.Floats.{f32At};
+ghost use Rattle.paint.specs.Paints.{paintColor, paintLinear, paintType};
 ghost use Rattle.path.specs.Matrices.{matrixInLimits, fixedMatrix};
 ghost use Rattle.scene.specs.Layout.{drawBytes};
 ghost use Rattle.scene.specs.Fields as Fields;
@@ -153,8 +155,8 @@ pub fn fixed_matrix(d: &[u8]) -> FixedMatrix
 
 // What the draw paints with.
 pub fn paint(d: &[u8]) -> Paint
-    requires { ⌜ length (now d) ≡ drawBytes ⌝ }
-    ensures { λ r. ⌜ r ≡ paintOf (now (d .entry)) ⌝ }
+    requires { ⌜ (length (now d) ≡ drawBytes) × ((eqb (paintTypeOf (now d)) paintColor || eqb (paintTypeOf (now d)) paintLinear) ≡ true) ⌝ }
+    ensures { λ r. ⌜ (r ≡ paintOf (now (d .entry))) × (paintType r ≡ paintTypeOf (now (d .entry))) ⌝ }
 {
     if paint_type(d) == PAINT_LINEAR {
         Paint::Linear(linear_points(d))

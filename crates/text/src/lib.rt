@@ -5,7 +5,6 @@ ghost use mathlib.Core.List.{[], _∷_, _++_};
 ghost use Prim.Native.Nat.{_+_, _*_, _<_};
 ghost use lib.ListN.{length, take};
 ghost use Rattle.text.specs.Text.{hexDigit, byteText, pixelText, rowText};
-ghost use Rattle.text.specs.Text.{separator as Text·separator};
 
 // The bytes of a pixel's text, with what follows it.
 pub const PIXEL_TEXT: usize = 9;

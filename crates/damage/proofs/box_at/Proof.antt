@@ -2,7 +2,7 @@ use Rattle.scene.proofs.Accepted.{accepted-draw}
 use Rattle.scene.specs.Blocks.{drawOf}
 use Rattle.scene.specs.Accepted.{AcceptedDraw}
 use native.Mathlib.Omega.{arith}
-use mathlib.Core.Path.{_≡_, refl, sym, ap, subst, _∙_}
+use mathlib.Core.Path.{refl, sym, subst, _∙_}
 use Rattle.damage.proofs.Boxes.{box-answer}
 use Rattle.damage.proofs.Changes.{box-past}
 use borrow.Author.Needs.{needs}

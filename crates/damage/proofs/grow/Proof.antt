@@ -3,7 +3,7 @@ use Prim.Native.Nat.{_≤_}
 use lib.ListN.{length, replicate}
 use lib.IntN.{ℤ, pos}
 use mathlib.Core.List.{List}
-use mathlib.Core.Path.{_≡_, refl, sym, ap, subst, _∙_}
+use mathlib.Core.Path.{_≡_, refl, sym, subst, _∙_}
 use borrow.Author.Needs.{needs}
 use Rattle.damage.proofs.grow.Statement.{statement}
 use Rattle.damage.proofs.grow.Tie as tie

@@ -1,5 +1,4 @@
 use Rattle.damage.proofs.Boxes.{red-differs, green-differs, blue-differs, alpha-decides}
-use borrow.Author.Needs.{needs}
 use Rattle.damage.proofs.same_bytes.Statement.{statement}
 use Rattle.damage.proofs.same_bytes.Tie as tie
 use Rattle.damage.proofs.same_bytes.Reads as reads

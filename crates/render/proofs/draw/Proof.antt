@@ -2,7 +2,7 @@ use mathlib.Core.Path.{_∙_}
 use lib.ListN.{length}
 use Rattle.rect.specs.Rects.{whole}
 use Rattle.render.proofs.Refusals.{Ready, draw-ready, ready-size, ready-limits, ready-within, whole-on, accepted-block, zeroed}
-use Rattle.render.proofs.Results.{draw-refused, draw-accepted}
+use Rattle.render.proofs.Results.{draw-refused, draw-done}
 use Rattle.scene.proofs.Accepted.{accepted-scene}
 use borrow.Author.Needs.{needs}
 use Rattle.render.proofs.draw.Statement.{statement}
@@ -97,7 +97,7 @@ returns-2 c =
     let w = c .before .before .before .before .before .before .before .before .before .before .before .before .width in
     let h = c .before .before .before .before .before .before .before .before .before .before .before .height in
     let p = c .before .before .before .before .paint-area in
-    draw-accepted (a .scene .now) (a .surface .now) (a .scratch .now) (f .result) (c .accepted .result) (p .last .0) (p .last .1 .0) (w .result) (h .result)
+    draw-done (a .scene .now) (a .surface .now) (a .scratch .now) (f .result) (c .accepted .result) (p .last .0) (p .last .1 .0) (w .result) (h .result)
     (f .ensures) (c .before .before .before .before .before .before .before .before .before .before .before .before .before .if1 .left) (w .ensures .0) (h .ensures .0) (c .accepted .ensures) (p .ensures .1) (p .ensures .0 ∙ c .before .before .before .before .before .before .before .before .clear .ensures)
 
 pub draw-spec : {M : Type 1} → statement M

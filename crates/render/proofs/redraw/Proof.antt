@@ -1,7 +1,7 @@
 use mathlib.Core.Path.{_∙_}
 use lib.ListN.{length}
 use Rattle.render.proofs.Refusals.{ReadyBoth, redraw-ready, ready-size, ready-limits, ready-within, accepted-block, zeroed}
-use Rattle.render.proofs.Results.{redraw-refused, redraw-accepted}
+use Rattle.render.proofs.Results.{redraw-refused, redraw-done}
 use Rattle.scene.proofs.Accepted.{accepted-scene}
 use borrow.Author.Needs.{needs}
 use Rattle.render.proofs.redraw.Statement.{statement}
@@ -112,7 +112,7 @@ returns-2 c =
     let h = c .before .before .before .before .before .before .before .before .before .before .before .before .before .before .height in
     let d = c .before .before .before .before .before .before .before .before .damage in
     let p = c .before .before .before .before .paint-area in
-    redraw-accepted (a .old .now) (a .new .now) (a .surface .now) (a .scratch .now) (f .result) (c .accepted .result) (p .last .0) (p .last .1 .0) (w .result) (h .result) (d .result)
+    redraw-done (a .old .now) (a .new .now) (a .surface .now) (a .scratch .now) (f .result) (c .accepted .result) (p .last .0) (p .last .1 .0) (w .result) (h .result) (d .result)
     (f .ensures) (c .before .before .before .before .before .before .before .before .before .before .before .before .before .before .before .before .if1 .left) (w .ensures .0) (h .ensures .0) (d .ensures .0 .0) (c .accepted .ensures) (p .ensures .1) (p .ensures .0 ∙ d .ensures .1 ∙ c .before .before .before .before .before .before .before .before .before .before .before .clear .ensures)
 
 pub redraw-spec : {M : Type 1} → statement M

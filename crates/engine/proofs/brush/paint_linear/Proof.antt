@@ -2,7 +2,7 @@ use mathlib.Core.List.{List}
 use lib.ListN.{length}
 use Rattle.paint.specs.declared.LinearGradient.{LinearGradient}
 use Rattle.engine.specs.declared.Shade.the-variants.{Linear}
-use mathlib.Core.Path.{_≡_, refl, sym, ap, subst, _∙_}
+use mathlib.Core.Path.{sym, subst}
 use Prim.Native.Nat.{ℕ, _*_, _≤_}
 use native.Mathlib.Omega.{arith}
 use Rattle.engine.proofs.Paints.{own-paint, linear-shade, points-near, stops-length}

@@ -45,7 +45,7 @@ enum-known-paint-2 c = search needs
 paint-linear-requires : tie.Need-paint-linear-requires
 paint-linear-requires c κs =
     let s = c .before .before .before .before .before .before .before .before in
-    (s .pre .0, (s .pre .1 .0, (s .pre .1 .1, sym (c .before .before .before .before .before .paint .ensures) ∙ c .before .before .before .paint3 .given .1)))
+    (s .pre .0, (s .pre .1 .0, (s .pre .1 .1, sym (c .before .before .before .before .before .paint .ensures .0) ∙ c .before .before .before .paint3 .given .1)))
 
 -- src/brush.rt:21:1
 same-length : tie.Need-same-length
@@ -65,7 +65,7 @@ returns c =
     let m = c .before .before .before .before .before .before .before .before .before .before .paint2 .given in (
       r .ensures .0,
       own-paint (a .d .now) (a .surface .now) (r .last .0) (a .width) (a .height) (a .a) (Solid (p .result)) _ _
-          (solid-shade (a .d .now) (m .0 .0) (p .result) _ _ (sym (c .before .before .before .before .before .before .before .before .before .before .before .before .paint .ensures) ∙ m .1) (p .ensures)) (r .ensures .1),
+          (solid-shade (a .d .now) (m .0 .0) (p .result) _ _ (sym (c .before .before .before .before .before .before .before .before .before .before .before .before .paint .ensures .0) ∙ m .1) (p .ensures)) (r .ensures .1),
     )
 
 -- src/brush.rt:21:1

@@ -63,10 +63,12 @@ judge-sizes-spec =
     (tie.spec
     width-requires
     width-requires-2
+    (λ c. search needs)
     refusal-requires
     returns
     height-requires
     height-requires-2
+    (λ c. search needs)
     refusal-requires-2
     returns-2
     refusal-requires-3

@@ -1,17 +1,32 @@
 -- `scene::fields::paint` meets its contract.
-use Rattle.scene.specs.Fields.{paintOf}
-use borrow.Author.Tests.{eq-eqb, ne-eqb}
+use mathlib.Core.Path.{_≡_, sym, _∙_}
+use mathlib.Core.Bool.{true, _||_}
+use Prim.Native.Nat.{ℕ}
+use lib.Dec.{eqb}
+use Rattle.rect.proofs.Laws.{either}
+use Rattle.paint.specs.Paints.{paintColor, paintLinear}
+use Rattle.scene.specs.Fields.{paintTypeOf, paintOf}
+use borrow.Author.Tests.{eq-eqb, eqb-true, ne-eqb}
 use borrow.Author.Needs.{needs}
 use Rattle.scene.proofs.fields.paint.Statement.{statement}
 use Rattle.scene.proofs.fields.paint.Tie as tie
 
+-- of the two types, the one that is not linear
+other : (t : ℕ) → (eqb t paintColor || eqb t paintLinear) ≡ true → (t ≡ paintLinear → ⊥) → paintColor ≡ t
+other t h n =
+    either (eqb t paintColor)
+    (λ e. sym (eqb-true _ _ e))
+    (λ e. absurd (n (eqb-true _ _ (rw e at h))))
+
 returns : tie.Need-returns
 unfolding paintOf
-returns c = rw (← c .before .before .paint-type .ensures, eq-eqb (c .before .before .paint-type .result) 0x1B01 (c .before .if1 .taken), c .linear-points .ensures)
+returns c =
+    (rw (← c .before .before .paint-type .ensures, eq-eqb (c .before .before .paint-type .result) 0x1B01 (c .before .if1 .taken), c .linear-points .ensures), sym (c .before .if1 .taken) ∙ c .before .before .paint-type .ensures)
 
 returns-2 : tie.Need-returns-2
 unfolding paintOf
-returns-2 c = rw (← c .before .before .paint-type .ensures, ne-eqb (c .before .before .paint-type .result) 0x1B01 (c .before .if1 .left), c .color .ensures)
+returns-2 c =
+    (rw (← c .before .before .paint-type .ensures, ne-eqb (c .before .before .paint-type .result) 0x1B01 (c .before .if1 .left), c .color .ensures), other (paintTypeOf (c .before .before .before .before .args .d .now)) (c .before .before .before .before .pre .1) (λ e. c .before .if1 .left (c .before .before .paint-type .ensures ∙ e)))
 
 pub paint-spec : {M : Type 1} → statement M
 paint-spec =

@@ -1,0 +1,227 @@
+-- Every code is one of the table's: a scene's, judged by whatever rule, and that of a call.
+use mathlib.Core.Path.{_≡_, refl}
+use mathlib.Core.List.{List}
+use mathlib.Core.Bool.{Bool, true, false, cond, not, _&&_, _||_}
+use Prim.Native.Nat.{ℕ, zero, suc, _+_, _*_, _-_, _%_}
+use lib.ListN.{length, getD}
+use lib.Dec.{eqb, leb, ltb}
+use lib.Ieee.{isNan}
+use Rattle.fixed.specs.Little.{u16At}
+use Rattle.fixed.specs.Floats.{f32At, atMost}
+use Rattle.rect.specs.declared.Rect.{Rect}
+use Rattle.rect.specs.Rects.{whole}
+use Rattle.blend.specs.PorterDuff.{isMode}
+use Rattle.paint.specs.Gradient.{spreadPad, spreadReflect}
+use Rattle.paint.specs.Paints.{paintColor, paintLinear}
+use Rattle.path.specs.declared.FixedMatrix.{FixedMatrix}
+use Rattle.path.specs.declared.Walk.{Walk}
+use Rattle.path.specs.Matrices.{linearLimit, translationLimit, fixedMatrix}
+use Rattle.path.specs.Segments.{coordinatesTaken, isArc, curveAt, walkTo, curveInRange, curveOnGrid, segmentCode, faultTo}
+use Rattle.scene.specs.declared.Fault.{Fault}
+use Rattle.scene.specs.declared.FieldFault.{FieldFault}
+use Rattle.scene.specs.Layout.{blockBytes, payloadBytes, drawBlocks, widthAt, heightAt, countAt, reservedAt, headerEnd, sideLimit, drawLimit, noDraw}
+use Rattle.scene.specs.Layout.{flagsAt, blendAt, paintTypeAt, spreadAt, segmentCountAt, scissorCountAt, stopCountAt, paddingAt, matrixAt, translationAt, colorAt, linearAt}
+use Rattle.scene.specs.Layout.{scissorsAt, stopsAt, segmentsAt, coordinatesAt, drawBytes, flagsLimit, segmentLimit, scissorLimit, stopLimit, scissorBytes, stopBytes, stopFloats}
+use Rattle.scene.specs.Layout.{badLength, badChecksum, illegalArgument}
+use Rattle.scene.specs.Blocks.{blockRight, blockOf, drawOf, fileOffset}
+use Rattle.scene.specs.Header.{widthOf, heightOf, countOf}
+use Rattle.scene.specs.Fields.{flagsOf, blendOf, paintTypeOf, spreadOf, segmentCount, scissorCount, stopCount, matrixOf, segmentsOf, coordinatesOf}
+use Rattle.scene.specs.Faults.{sooner, soonest, fine, firstOf, must, unused, limited, numbers, accepted, fault, demand}
+use Rattle.scene.specs.Rules.{linearPointLimit, countRules, headRules, floatRules, listRules, pathRules, restRules, drawRules, headerRules, inHeader, inDraw, checkFaults, drawFault, sceneFault}
+use Rattle.damage.specs.Damage.{damage}
+use Rattle.render.specs.declared.Refusal.{Refusal}
+use Rattle.render.specs.declared.Answer.{Answer}
+use Rattle.render.specs.Answers.{unsupportedPathFormat, unsupportedImageFormat, outOfMemory, sceneCodes, isOneOf, inTable, scratchNumbers}
+use Rattle.render.specs.Answers.{nothing, refuse, sceneRefusal, lentRefusal, drawRefusal, sizeRefusal, redrawRefusal, choose, acceptedAnswer, refusedAnswer, drawAnswer, redrawAnswer}
+
+-- ---- P holds of the code of f: a record, so that f is read off its proof
+record Coded (P : ℕ → Type 0) {A : Type 0} (code : A → ℕ) (f : A) : Type 0 where
+  pub holds : P (code f)
+
+-- what holds of the code of each part holds of the code of what is chosen among them
+choice : (P : ℕ → Type 0) {A : Type 0} (code : A → ℕ) (t : Bool) (f g : A) → P (code f) → P (code g) → Coded P code (cond t f g)
+choice P code true f g a b = record { holds = a }
+choice P code false f g a b = record { holds = b }
+
+module _ {P : ℕ → Type 0} {A : Type 0} {code : A → ℕ} where
+  then : {f g : A} → Coded P code f → Coded P code g → Coded P code (sooner code f g)
+  then a b = choice P code (eqb (code _) 0) _ _ (b .holds) (a .holds)
+
+  first : (none : A) (n : ℕ) (f : ℕ → A) → P (code none) → ((i : ℕ) → Coded P code (f i)) → Coded P code (soonest code none n f)
+  first none zero f a b = record { holds = a }
+  first none (suc n) f a b = then (first none n f a b) (b n)
+
+module _ (P : ℕ → Type 0) (none : P 0) (illegal : P illegalArgument) (arc : P unsupportedPathFormat) where
+  -- ---- a path
+  segment-coded : (m : FixedMatrix) (cs : List ℕ) (walk : Walk) (byte : ℕ) → P (segmentCode m cs walk byte)
+  unfolding segmentCode
+  segment-coded m cs walk byte =
+      test (isArc byte) arc
+      (test (leb 26 byte) illegal
+      (test (ltb (length cs) (2 * (walk .used + coordinatesTaken byte))) illegal
+      (test (curveInRange (curveAt cs walk byte) && curveOnGrid m (curveAt cs walk byte)) none illegal)))
+    where
+      test : (t : Bool) {a b : ℕ} → P a → P b → P (cond t a b)
+      test t a b = choice P (λ c. c) t _ _ a b .holds
+
+  path-coded : (m : FixedMatrix) (ss cs : List ℕ) (n : ℕ) → Coded P (λ f. f .code) (faultTo m ss cs n)
+  path-coded m ss cs zero = record { holds = none }
+  path-coded m ss cs (suc n) = then (path-coded m ss cs n) (record { holds = segment-coded m cs (walkTo ss cs n) (getD ss n 0) })
+
+  -- ---- fields
+  abbrev Field : FieldFault → Type 0
+  Field = Coded P (λ f. f .code)
+
+  rule : (t : Bool) (place : ℕ) → Field (must t place)
+  rule t place = choice P (λ f. f .code) t fine (record { code = illegalArgument; place = place }) none illegal
+
+  rules : (n : ℕ) (t : ℕ → Bool) (p : ℕ → ℕ) → Field (firstOf n (λ i. must (t i) (p i)))
+  rules n t p = first fine n (λ i. must (t i) (p i)) none (λ i. rule (t i) (p i))
+
+  unused-coded : (d : List ℕ) (from to : ℕ) → Field (unused d from to)
+  unused-coded d from to = rules (to - from) (λ i. eqb (getD d (from + i) 0) 0) (λ i. from + i)
+
+  limited-coded : (d : List ℕ) (b at n : ℕ) → Field (limited d b at n)
+  limited-coded d b at n = rules n (λ i. atMost b (f32At d (at + 4 * i))) (λ i. at + 4 * i)
+
+  numbers-coded : (d : List ℕ) (at n : ℕ) → Field (numbers d at n)
+  numbers-coded d at n = rules n (λ i. not (isNan (f32At d (at + 4 * i)))) (λ i. at + 4 * i)
+
+  -- ---- a draw's fields, in the order of the rules
+  module _ (d : List ℕ) where
+    counts-coded : Field (countRules d)
+    unfolding countRules
+    counts-coded =
+        then (rule (leb (segmentCount d) segmentLimit) segmentCountAt)
+        (then (rule (leb (scissorCount d) scissorLimit) scissorCountAt)
+        (then (rule (leb (stopCount d) stopLimit) stopCountAt)
+        (rule (eqb (getD d paddingAt 0) 0) paddingAt)))
+
+    head-coded : Field (headRules d)
+    unfolding headRules
+    head-coded =
+        then (rule (ltb (flagsOf d) flagsLimit) flagsAt)
+        (then (rule (isMode (blendOf d)) blendAt)
+        (then (rule (eqb (paintTypeOf d) paintColor || eqb (paintTypeOf d) paintLinear) paintTypeAt)
+        (then (rule (leb spreadPad (spreadOf d) && leb (spreadOf d) spreadReflect) spreadAt)
+        counts-coded)))
+
+    floats-coded : Field (floatRules d)
+    unfolding floatRules
+    floats-coded =
+        then (limited-coded d linearLimit matrixAt 4)
+        (then (limited-coded d translationLimit translationAt 2)
+        (then (numbers-coded d colorAt 4)
+        (limited-coded d linearPointLimit linearAt 4)))
+
+    lists-coded : Field (listRules d)
+    unfolding listRules
+    lists-coded =
+        then (unused-coded d (scissorsAt + scissorBytes * scissorCount d) stopsAt)
+        (then (numbers-coded d stopsAt (stopFloats * stopCount d))
+        (unused-coded d (stopsAt + stopBytes * stopCount d) segmentsAt))
+
+    segments-coded : Field (pathRules d)
+    unfolding pathRules
+    segments-coded = record { holds = path-coded (fixedMatrix (matrixOf d)) (segmentsOf d) (coordinatesOf d) (segmentCount d) .holds }
+
+    rest-coded : Field (restRules d)
+    unfolding restRules
+    rest-coded =
+        then (unused-coded d (segmentsAt + segmentCount d) coordinatesAt)
+        (unused-coded d (coordinatesAt + 2 * walkTo (segmentsOf d) (coordinatesOf d) (segmentCount d) .used) drawBytes)
+
+    rules-coded : Field (drawRules d)
+    unfolding drawRules
+    rules-coded = then head-coded (then floats-coded (then lists-coded (then segments-coded rest-coded)))
+
+  -- ---- a scene
+  module _ (bad-length : P badLength) (bad-check : P badChecksum) (s : List ℕ) where
+    abbrev Scene : Fault → Type 0
+    Scene = Coded P (λ f. f .code)
+
+    header-coded : Field (headerRules s)
+    unfolding headerRules
+    header-coded =
+        then (rule (leb 1 (widthOf s) && leb (widthOf s) sideLimit) widthAt)
+        (then (rule (leb 1 (heightOf s) && leb (heightOf s) sideLimit) heightAt)
+        (then (rule (leb (countOf s) drawLimit) countAt)
+        (then (rule (eqb (u16At s reservedAt) 0) reservedAt)
+        (unused-coded s headerEnd payloadBytes))))
+
+    -- a fault or none, by a test
+    faulty : (t : Bool) (code draw offset : ℕ) → P code → Scene (demand t (fault code draw offset))
+    faulty t code draw offset = choice P (λ f. f .code) t accepted (fault code draw offset) none
+
+    in-header : (f : FieldFault) → Field f → Scene (inHeader f)
+    in-header f a = faulty (eqb (f .code) 0) (f .code) noDraw (f .place) (a .holds)
+
+    in-draw : (i : ℕ) (f : FieldFault) → Field f → Scene (inDraw i f)
+    in-draw i f a = faulty (eqb (f .code) 0) (f .code) i (fileOffset i (f .place)) (a .holds)
+
+    checks-coded : (i : ℕ) → Scene (checkFaults s i)
+    unfolding checkFaults
+    checks-coded i = first accepted drawBlocks _ none (λ j. faulty (blockRight s (blockOf i + j)) badChecksum i (blockBytes * (blockOf i + j) + payloadBytes) bad-check)
+
+    draw-coded : (i : ℕ) → Scene (drawFault s i)
+    unfolding drawFault
+    draw-coded i = then (checks-coded i) (in-draw i (drawRules (drawOf s i)) (rules-coded (drawOf s i)))
+
+    scene-coded : Scene (sceneFault s)
+    unfolding sceneFault
+    scene-coded =
+        then (faulty (eqb (length s % blockBytes) 0 && leb blockBytes (length s)) badLength noDraw 0 bad-length)
+        (then (faulty (blockRight s 0) badChecksum noDraw payloadBytes bad-check)
+        (then (in-header (headerRules s) header-coded)
+        (then (faulty (eqb (length s) (blockBytes * blockOf (countOf s))) badLength noDraw 0 bad-length)
+        (first accepted (countOf s) (drawFault s) none draw-coded))))
+
+-- a scene is judged with one of the codes for that
+pub scene-code-in-table : (s : List ℕ) → isOneOf (sceneFault s .code) sceneCodes ≡ true
+scene-code-in-table s = scene-coded (λ c. isOneOf c sceneCodes ≡ true) refl refl refl refl refl s .holds
+
+-- ---- a call
+abbrev Tabled : Refusal → Type 0
+Tabled = Coded (λ c. inTable c ≡ true) (λ f. f .code)
+
+refusal : (t : Bool) (f g : Refusal) → inTable (f .code) ≡ true → inTable (g .code) ≡ true → Tabled (cond t f g)
+refusal = choice (λ c. inTable c ≡ true) (λ f. f .code)
+
+scene-tabled : (s : List ℕ) (k : ℕ) → Tabled (sceneRefusal s k)
+unfolding sceneRefusal
+scene-tabled s k =
+    refusal (eqb (sceneFault s .code) 0) nothing (refuse (sceneFault s .code) (sceneFault s .draw) k) refl
+    (scene-coded (λ c. inTable c ≡ true) refl refl refl refl refl s .holds)
+
+lent-tabled : (w h surface scratch : ℕ) → Tabled (lentRefusal w h surface scratch)
+unfolding lentRefusal
+lent-tabled w h surface scratch =
+    refusal (not (eqb surface (4 * (w * h)))) (refuse unsupportedImageFormat noDraw 0) _ refl
+    (refusal (ltb scratch scratchNumbers) (refuse outOfMemory noDraw 0) nothing refl refl .holds)
+
+sizes-tabled : (old new : List ℕ) → Tabled (sizeRefusal old new)
+unfolding sizeRefusal
+sizes-tabled old new = refusal (eqb (widthOf old) (widthOf new) && eqb (heightOf old) (heightOf new)) nothing (refuse illegalArgument noDraw 1) refl refl
+
+draw-tabled : (s : List ℕ) (surface scratch : ℕ) → Tabled (drawRefusal s surface scratch)
+unfolding drawRefusal
+draw-tabled s surface scratch = then (scene-tabled s 0) (lent-tabled (widthOf s) (heightOf s) surface scratch)
+
+redraw-tabled : (old new : List ℕ) (surface scratch : ℕ) → Tabled (redrawRefusal old new surface scratch)
+unfolding redrawRefusal
+redraw-tabled old new surface scratch =
+    then (scene-tabled old 0)
+    (then (scene-tabled new 1)
+    (then (sizes-tabled old new)
+    (lent-tabled (widthOf new) (heightOf new) surface scratch)))
+
+answer-tabled : (f : Refusal) (a : Rect) → Tabled f → inTable (choose f (acceptedAnswer a) (refusedAnswer f) .code) ≡ true
+unfolding choose
+answer-tabled f a t = choice (λ c. inTable c ≡ true) (λ (r : Answer). r .code) (eqb (f .code) 0) (acceptedAnswer a) (refusedAnswer f) refl (t .holds) .holds
+
+-- DEMAND 1: every call answers with a code from the table, whatever it is given
+pub draw-code-in-table : (s : List ℕ) (surfaceBytes scratch : ℕ) → inTable (drawAnswer s surfaceBytes scratch .code) ≡ true
+draw-code-in-table s surfaceBytes scratch = answer-tabled (drawRefusal s surfaceBytes scratch) (whole (widthOf s) (heightOf s)) (draw-tabled s surfaceBytes scratch)
+
+pub redraw-code-in-table : (old new : List ℕ) (surfaceBytes scratch : ℕ) → inTable (redrawAnswer old new surfaceBytes scratch .code) ≡ true
+redraw-code-in-table old new surfaceBytes scratch = answer-tabled (redrawRefusal old new surfaceBytes scratch) (damage old new) (redraw-tabled old new surfaceBytes scratch)
