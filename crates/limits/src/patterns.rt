@@ -1,7 +1,14 @@
-// Patterns in buffers, and whether they are still there.
+// Patterns in buffers, and what buffers hold.
+ghost use mathlib.Core.Path.{_≡_};
+ghost use lib.ListN.{length};
+ghost use lib.IntN.{pos};
+ghost use Rattle.lists.specs.Lists.{tab};
+ghost use Rattle.limits.specs.Patterns.{patternByte, patternNumber, Tells};
 
 // A pattern of bytes, another one for each phase.
-pub fn fill_bytes(s: &mut [u8], phase: u8) {
+pub fn fill_bytes(s: &mut [u8], phase: u8)
+    ensures { λ _. ⌜ now (s .exit) ≡ tab (length (now (s .entry))) (patternByte phase) ⌝ }
+{
     let mut i = 0;
     while i < s.len() {
         s[i] = byte_at(i, phase);
@@ -9,11 +16,32 @@ pub fn fill_bytes(s: &mut [u8], phase: u8) {
     }
 }
 
-fn byte_at(i: usize, phase: u8) -> u8 {
+fn byte_at(i: usize, phase: u8) -> u8
+    ensures { λ r. ⌜ r ≡ patternByte phase i ⌝ }
+{
     ((i % 251 + phase as usize) % 256) as u8
 }
 
-pub fn same_bytes(a: &[u8], b: &[u8]) -> bool {
+// A pattern of numbers, none of them 0.
+pub fn fill_numbers(s: &mut [i32])
+    ensures { λ _. ⌜ now (s .exit) ≡ tab (length (now (s .entry))) patternNumber ⌝ }
+{
+    let mut i = 0;
+    while i < s.len() {
+        s[i] = number_at(i);
+        i += 1;
+    }
+}
+
+fn number_at(i: usize) -> i32
+    ensures { λ r. ⌜ r ≡ patternNumber i ⌝ }
+{
+    (i % 1000 + 1) as i32
+}
+
+pub fn same_bytes(a: &[u8], b: &[u8]) -> bool
+    ensures { λ r. ⌜ Tells r (now (a .entry) ≡ now (b .entry)) ⌝ }
+{
     if a.len() != b.len() {
         return false;
     }
@@ -27,20 +55,9 @@ pub fn same_bytes(a: &[u8], b: &[u8]) -> bool {
     true
 }
 
-// A pattern of numbers, none of them 0.
-pub fn fill_numbers(s: &mut [i32]) {
-    let mut i = 0;
-    while i < s.len() {
-        s[i] = number_at(i);
-        i += 1;
-    }
-}
-
-fn number_at(i: usize) -> i32 {
-    (i % 1000 + 1) as i32
-}
-
-pub fn is_pattern(s: &[i32]) -> bool {
+pub fn is_pattern(s: &[i32]) -> bool
+    ensures { λ r. ⌜ Tells r (now (s .entry) ≡ tab (length (now (s .entry))) patternNumber) ⌝ }
+{
     let mut i = 0;
     while i < s.len() {
         if s[i] != number_at(i) {
@@ -51,7 +68,9 @@ pub fn is_pattern(s: &[i32]) -> bool {
     true
 }
 
-pub fn is_zero(s: &[i32]) -> bool {
+pub fn is_zero(s: &[i32]) -> bool
+    ensures { λ r. ⌜ Tells r (now (s .entry) ≡ tab (length (now (s .entry))) (λ k. pos 0)) ⌝ }
+{
     let mut i = 0;
     while i < s.len() {
         if s[i] != 0 {

@@ -1,6 +1,10 @@
-use mathlib.Core.Path.{_≡_}
+use mathlib.Core.Path.{_≡_, refl}
 use Prim.Native.Nat.{_-_, _≤_}
-use lib.ListN.{length}
+use native.Mathlib.Omega.{arith}
+use lib.ListN.{length, length-set}
+use Rattle.lists.specs.Lists.{tab, over}
+use Rattle.limits.specs.Patterns.{patternByte}
+use Rattle.lists.proofs.Laws.{tab-turn, tab-all}
 use borrow.Author.Needs.{needs}
 use Rattle.limits.proofs.patterns.fill_bytes.Statement.{statement}
 use Rattle.limits.proofs.patterns.fill_bytes.Tie as tie
@@ -9,14 +13,14 @@ use Rattle.limits.proofs.patterns.fill_bytes.Lts as lts
 use Rattle.limits.proofs.patterns.byte_at.Reads as byte-at-reads
 
 abbrev Inv-loop : tie.InvT-loop
-Inv-loop s₀ phase i₀ s i = (i ≤ length s₀) × (length s ≡ length s₀)
+Inv-loop s₀ phase i₀ s i = (i ≤ length s₀) × (length s ≡ length s₀) × (s ≡ over (tab i (patternByte phase)) s₀)
 
 abbrev μ-loop : tie.MeasureT-loop
 μ-loop s₀ phase i₀ s i = length s₀ - i
 
 -- src/patterns.rt:6:5
 loop-holds : tie.Need-loop-holds Inv-loop μ-loop
-loop-holds c = search needs
+loop-holds c = (search needs, refl, refl)
 
 -- src/patterns.rt:7:16
 byte-at-requires : tie.Need-byte-at-requires Inv-loop μ-loop
@@ -36,7 +40,10 @@ loop-less c = search needs
 
 -- src/patterns.rt:6:5
 loop-again : tie.Need-loop-again Inv-loop μ-loop
-loop-again c = search needs
+loop-again c =
+    let l = c .before .before .loop in
+    let a = c .before .before .before .before .args in
+    (search needs, simp length-set (omega arith), tab-turn (patternByte (a .phase)) (l .s) (a .s .now) (l .i) _ (c .byte-at .ensures) (l .inv .2) (omega arith))
 
 -- src/patterns.rt:4:1
 same-length : tie.Need-same-length Inv-loop μ-loop
@@ -44,7 +51,10 @@ same-length c = search needs
 
 -- src/patterns.rt:4:1
 returns : tie.Need-returns Inv-loop μ-loop
-returns c = search needs
+returns c =
+    let l = c .before .loop in
+    let a = c .before .before .before .args in
+    tab-all (patternByte (a .phase)) (l .s) (a .s .now) (l .i) _ (l .inv .2) (omega arith) refl
 
 pub fill-bytes-spec : {M : Type 1} → statement M
 fill-bytes-spec =

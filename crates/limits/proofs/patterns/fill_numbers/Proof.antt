@@ -1,6 +1,12 @@
-use mathlib.Core.Path.{_≡_}
+use mathlib.Core.Path.{_≡_, refl, _∙_}
 use Prim.Native.Nat.{_-_, _≤_}
-use lib.ListN.{length}
+use native.Mathlib.Omega.{arith}
+use lib.ListN.{length, length-set}
+use Rattle.lists.specs.Lists.{tab, over}
+use Rattle.limits.specs.Patterns.{patternNumber}
+use mir.Syntax.{w32}
+use Rattle.lists.proofs.Laws.{tab-turn, tab-all}
+use Rattle.fixed.proofs.Signed.{back}
 use borrow.Author.Needs.{needs}
 use Rattle.limits.proofs.patterns.fill_numbers.Statement.{statement}
 use Rattle.limits.proofs.patterns.fill_numbers.Tie as tie
@@ -9,14 +15,14 @@ use Rattle.limits.proofs.patterns.fill_numbers.Lts as lts
 use Rattle.limits.proofs.patterns.number_at.Reads as number-at-reads
 
 abbrev Inv-loop : tie.InvT-loop
-Inv-loop s₀ i₀ s i = (i ≤ length s₀) × (length s ≡ length s₀)
+Inv-loop s₀ i₀ s i = (i ≤ length s₀) × (length s ≡ length s₀) × (s ≡ over (tab i patternNumber) s₀)
 
 abbrev μ-loop : tie.MeasureT-loop
 μ-loop s₀ i₀ s i = length s₀ - i
 
 -- src/patterns.rt:33:5
 loop-holds : tie.Need-loop-holds Inv-loop μ-loop
-loop-holds c = search needs
+loop-holds c = (search needs, refl, refl)
 
 -- src/patterns.rt:34:16
 number-at-requires : tie.Need-number-at-requires Inv-loop μ-loop
@@ -40,7 +46,11 @@ loop-less c = search needs
 
 -- src/patterns.rt:33:5
 loop-again : tie.Need-loop-again Inv-loop μ-loop
-loop-again c = search needs
+loop-again c =
+    let l = c .before .before .loop in
+    let a = c .before .before .before .args in
+    let n = c .number-at in
+    (search needs, simp length-set (omega arith), tab-turn patternNumber (l .s) (a .s .now) (l .i) _ (back w32 (n .result) (n .ok) ∙ n .ensures) (l .inv .2) (omega arith))
 
 -- src/patterns.rt:31:1
 same-length : tie.Need-same-length Inv-loop μ-loop
@@ -48,7 +58,10 @@ same-length c = search needs
 
 -- src/patterns.rt:31:1
 returns : tie.Need-returns Inv-loop μ-loop
-returns c = search needs
+returns c =
+    let l = c .before .loop in
+    let a = c .before .before .args in
+    tab-all patternNumber (l .s) (a .s .now) (l .i) _ (l .inv .2) (omega arith) refl
 
 pub fill-numbers-spec : {M : Type 1} → statement M
 fill-numbers-spec =

@@ -1,5 +1,10 @@
-use Prim.Native.Nat.{_-_, _≤_}
-use lib.ListN.{length}
+use mathlib.Core.Path.{_≡_, ap}
+use Prim.Native.Nat.{ℕ, _-_, _≤_, _<_}
+use native.Mathlib.Omega.{arith}
+use lib.ListN.{length, getD}
+use native.Mathlib.Nat.{not-suc-le-zero}
+use lib.Seq.{ext-getD}
+use borrow.Author.Count.{below-more}
 use borrow.Author.Needs.{needs}
 use Rattle.limits.proofs.patterns.same_bytes.Statement.{statement}
 use Rattle.limits.proofs.patterns.same_bytes.Tie as tie
@@ -7,18 +12,18 @@ use Rattle.limits.proofs.patterns.same_bytes.Reads as reads
 use Rattle.limits.proofs.patterns.same_bytes.Lts as lts
 
 abbrev Inv-loop : tie.InvT-loop
-Inv-loop a b i₀ i = i ≤ length a
+Inv-loop a b i₀ i = (i ≤ length a) × ((k : ℕ) → k < i → getD a k 0 ≡ getD b k 0)
 
 abbrev μ-loop : tie.MeasureT-loop
 μ-loop a b i₀ i = length a - i
 
 -- src/patterns.rt:18:9
 returns : tie.Need-returns Inv-loop μ-loop
-returns c = search needs
+returns c = λ e. c .if1 .taken (ap length e)
 
 -- src/patterns.rt:21:5
 loop-holds : tie.Need-loop-holds Inv-loop μ-loop
-loop-holds c = search needs
+loop-holds c = (search needs, λ k h. absurd (not-suc-le-zero h))
 
 -- src/patterns.rt:22:12
 shared-slice-read-if2 : tie.Need-shared-slice-read-if2 Inv-loop μ-loop
@@ -30,7 +35,7 @@ shared-slice-read-if2-2 c = search needs
 
 -- src/patterns.rt:23:13
 returns-2 : tie.Need-returns-2 Inv-loop μ-loop
-returns-2 c = search needs
+returns-2 c = λ e. c .if2 .taken (ap (λ s. getD s (c .before .before .before .before .loop .i) 0) e)
 
 -- src/patterns.rt:25:9
 add-i : tie.Need-add-i Inv-loop μ-loop
@@ -42,11 +47,17 @@ loop-less c = search needs
 
 -- src/patterns.rt:21:5
 loop-again : tie.Need-loop-again Inv-loop μ-loop
-loop-again c = search needs
+loop-again c =
+    let l = c .before .before .before .before .loop in
+    let a = c .before .before .before .before .before .before .args in
+    (search needs, below-more (λ k. getD (a .a .now) k 0 ≡ getD (a .b .now) k 0) (l .i) (l .inv .1) (c .if2 .left))
 
 -- src/patterns.rt:16:1
 returns-3 : tie.Need-returns-3 Inv-loop μ-loop
-returns-3 c = search needs
+returns-3 c =
+    let l = c .before .loop in
+    let a = c .before .before .before .args in
+    ext-getD 0 (a .a .now) (a .b .now) (search needs) (λ k h. l .inv .1 k (omega arith))
 
 pub same-bytes-spec : {M : Type 1} → statement M
 same-bytes-spec =
