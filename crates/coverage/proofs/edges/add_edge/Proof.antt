@@ -14,7 +14,7 @@ use Rattle.path.specs.declared.Edge.{Edge}
 use Rattle.path.specs.Stored.{edgeAt, edgesOf, Small}
 use Rattle.coverage.specs.Engine.{laid, missed, bumped, startOf, Marked}
 use Rattle.coverage.specs.Winding.{sample}
-use Rattle.coverage.proofs.Begin.{clean}
+use Rattle.coverage.proofs.Begin.{clean, ends-read}
 use Rattle.coverage.proofs.Starts.{partly, by-small}
 use Rattle.coverage.proofs.Turn.{miss-sums, miss-marks, first-sums, first-marks, next-sums, next-marks, last-sums, last-marks, sums-small}
 use borrow.Author.Needs.{needs}
@@ -41,11 +41,7 @@ tested : (c : tie.After-misses Inv-loop μ-loop)
     → c .misses .result ≡ missed (edgeAt (c .before .before .before .before .before .before .args .scratch .now) (c .before .before .before .before .before .before .args .i) .y0) (edgeAt (c .before .before .before .before .before .before .args .scratch .now) (c .before .before .before .before .before .before .args .i) .y1) (c .before .before .before .before .before .before .args .y)
 tested c =
     let s = c .before .before .before .before .before .before in
-    let e = s .pre .1 .0 .small (s .args .i) (omega arith) in
-    let o = c .before .before .before .load .ensures in
-    let d = edgeAt (s .args .scratch .now) (s .args .i) in
-    c .misses .ensures
-    ∙ ap₂ (λ (a b : ℤ). missed a b (s .args .y)) (ap (λ (f : Edge). toZ w32 (ofZ w32 (f .y0))) o ∙ clean (d .y0) (e .y0)) (ap (λ (f : Edge). toZ w32 (ofZ w32 (f .y1))) o ∙ clean (d .y1) (e .y1))
+    c .misses .ensures ∙ ends-read (c .before .before .before .load .result) (edgeAt (s .args .scratch .now) (s .args .i)) (s .args .y) (c .before .before .before .load .ensures) (s .pre .1 .0 .small (s .args .i) (omega arith))
 
 begun-at : (c : tie.After-start Inv-loop μ-loop)
     → c .start .result ≡ startOf (c .before .before .before .before .before .before .before .before .before .before .args .c) (length (c .before .before .before .before .before .before .before .before .before .before .args .cover .now) * 4) (sample (4 * c .before .before .before .before .before .before .before .before .before .before .args .y + c .before .before .loop .r)) (edgeAt (c .before .before .before .before .before .before .before .before .before .before .args .scratch .now) (c .before .before .before .before .before .before .before .before .before .before .args .i))
@@ -77,7 +73,7 @@ returns c =
     let a = s .args in
     let w = length (a .cover .now) in
     let q = sym (tested (c .before)) ∙ c .if1 .taken in
-    (miss-sums (a .n) w (a .c) (a .y) (a .scratch .now) (s .pre .1 .0 .room) (a .i) q (s .pre .1 .1 .0), miss-marks (a .n) w (a .c) (a .y) (a .scratch .now) (s .pre .1 .0 .room) (a .i) q (a .cover .now) (s .pre .1 .1 .1))
+    (miss-sums (a .n) w (a .c) (a .y) (a .scratch .now) (s .pre .1 .0 .room) (a .i) q (a .scratch .now) (s .pre .1 .1 .0), miss-marks (a .n) w (a .c) (a .y) (a .scratch .now) (s .pre .1 .0 .room) (a .i) q (a .cover .now) (s .pre .1 .1 .1))
 
 mul-base : tie.Need-mul-base Inv-loop μ-loop
 mul-base c = search needs
