@@ -40,6 +40,17 @@ fn misses(y0: i32, y1: i32, y: usize) -> bool
     if last < y0 { last < y1 } else { false }
 }
 
+// Whether the ith edge has none.
+fn missed_at(scratch: &[i32], n: usize, i: usize, y: usize) -> bool
+    requires { ⌜ (i < n) × (y < 1024) × Edges (now scratch) n 0 ⌝ }
+    ensures { λ r. ⌜ r ≡ missedAt (now (scratch .entry)) y i ⌝ }
+{
+    let e = load(scratch, i);
+    let y0 = e.y0;
+    let y1 = e.y1;
+    misses(y0, y1, y)
+}
+
 // Adds to the number of column at and sample row r, and marks its pixel. Right of the window nothing is to be done.
 fn put(scratch: &mut [i32], base: usize, cover: &mut [u8], r: usize, at: usize, by: i32)
     requires { ⌜ (r < 4) × (base + length (now cover) * 16 ≤ length (now scratch)) × (natAbs by ≤ 1) ⌝ }
@@ -67,11 +78,6 @@ fn add_edge(scratch: &mut [i32], n: usize, i: usize, c: usize, y: usize, cover: 
     ensures { λ _. ⌜ Marked (now (cover .exit)) (sumsAt c (length (now (cover .entry)) * 4) y (edgesOf (now (scratch .entry)) (i + 1))) ⌝ }
 {
     let e = load(scratch, i);
-    let y0 = e.y0;
-    let y1 = e.y1;
-    if misses(y0, y1, y) {
-        return;
-    }
     let base = n * 4;
     let k = cover.len() * 4;
     let mut r = 0;
@@ -84,6 +90,21 @@ fn add_edge(scratch: &mut [i32], n: usize, i: usize, c: usize, y: usize, cover: 
     }
 }
 
+// `add_edge`, with nothing to do where the edge misses the row.
+fn add_if_active(scratch: &mut [i32], n: usize, i: usize, c: usize, y: usize, cover: &mut [u8])
+    requires { ⌜ (i < n) × (y < 1024) × (c + length (now cover) * 4 < 2 ^ 31) ⌝ }
+    requires { ⌜ Edges (now scratch) n (length (now cover) * 16) ⌝ }
+    requires { ⌜ now scratch ≡ withSums n (length (now cover)) c y i (now scratch) ⌝ }
+    requires { ⌜ Marked (now cover) (sumsAt c (length (now cover) * 4) y (edgesOf (now scratch) i)) ⌝ }
+    ensures { λ _. ⌜ now (scratch .exit) ≡ withSums n (length (now (cover .entry))) c y (i + 1) (now (scratch .entry)) ⌝ }
+    ensures { λ _. ⌜ Marked (now (cover .exit)) (sumsAt c (length (now (cover .entry)) * 4) y (edgesOf (now (scratch .entry)) (i + 1))) ⌝ }
+{
+    if missed_at(scratch, n, i, y) {
+        return;
+    }
+    add_edge(scratch, n, i, c, y, cover);
+}
+
 // Adds what all n edges begin in the pixel row y, in the window from column c on, and marks the pixels where something begins.
 pub fn add_edges(scratch: &mut [i32], n: usize, c: usize, y: usize, cover: &mut [u8])
     requires { ⌜ (y < 1024) × (c + length (now cover) * 4 < 2 ^ 31) ⌝ }
@@ -94,7 +115,7 @@ pub fn add_edges(scratch: &mut [i32], n: usize, c: usize, y: usize, cover: &mut 
 {
     let mut i = 0;
     while i < n {
-        add_edge(scratch, n, i, c, y, cover);
+        add_if_active(scratch, n, i, c, y, cover);
         i += 1;
     }
 }
@@ -104,10 +125,11 @@ fn active(scratch: &[i32], n: usize, i: usize, y: usize, found: usize) -> usize
     requires { ⌜ (i < n) × (y < 1024) × Edges (now scratch) n 0 ⌝ }
     ensures { λ r. ⌜ r ≡ cond (missedAt (now (scratch .entry)) y i) found i ⌝ }
 {
-    let e = load(scratch, i);
-    let y0 = e.y0;
-    let y1 = e.y1;
-    if misses(y0, y1, y) { found } else { i }
+    if missed_at(scratch, n, i, y) {
+        found
+    } else {
+        i
+    }
 }
 
 // For each number, the first edge from it on that does not miss the pixel row y. Where a row takes several windows, this finds its edges once.
