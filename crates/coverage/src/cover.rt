@@ -44,7 +44,7 @@ pub fn coverage_row(
     coverage_windows(scratch, n, &mut next[0..end], most, x, y, cover, nonzero);
 }
 
-// `coverage_row` in windows of at most so many pixels, with room for the number of the next edge at each edge.
+// `coverage_row` in windows of at most so many pixels. The edges that do not miss the row are found once for all of them.
 fn coverage_windows(
     scratch: &mut [i32],
     n: usize,
@@ -90,7 +90,7 @@ fn coverage_run(scratch: &mut [i32], n: usize, x: usize, y: usize, cover: &mut [
     take_row(&mut scratch[at..end], cover, nonzero);
 }
 
-// The same, by the edges that do not miss the row alone.
+// `coverage_run` with the edges that do not miss the row alone.
 fn coverage_window(
     scratch: &mut [i32],
     n: usize,

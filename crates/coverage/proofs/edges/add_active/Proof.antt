@@ -1,12 +1,10 @@
 -- `coverage::edges::add_active` meets its contract. Assumes nothing.
-use mathlib.Core.Path.{_≡_, refl, sym, ap, subst, _∙_}
-use Prim.Native.Nat.{ℕ, _+_, _*_, _-_, _≤_, _<_}
+use mathlib.Core.Path.{_≡_, refl, subst}
+use Prim.Native.Nat.{ℕ, _+_, _*_, _-_, _≤_}
 use native.Mathlib.Omega.{arith}
-use lib.ListN.{length, getD}
-use Rattle.lists.specs.Lists.{tab}
-use Rattle.lists.proofs.Laws.{tab-length, tab-at}
+use lib.ListN.{length}
 use Rattle.path.specs.Stored.{edgesOf}
-use Rattle.coverage.specs.Engine.{sumsAt, activeFrom, withSums, Marked}
+use Rattle.coverage.specs.Engine.{sumsAt, withSums, Marked}
 use Rattle.coverage.proofs.Turn.{no-sums, no-marks, turn-asks, turn-sums, turn-marks}
 use Rattle.coverage.proofs.Active.{next-long, next-within, next-sums}
 use borrow.Author.Needs.{needs}

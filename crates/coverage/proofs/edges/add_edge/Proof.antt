@@ -1,5 +1,5 @@
 -- `coverage::edges::add_edge` meets its contract. Assumes nothing.
-use mathlib.Core.Path.{_≡_, refl, sym, ap, ap₂, subst, _∙_}
+use mathlib.Core.Path.{_≡_, refl, sym, ap₂, subst, _∙_}
 use mathlib.Core.Bool.{cond}
 use lib.Dec.{ltb}
 use mir.Syntax.{w32}

@@ -1,6 +1,5 @@
 -- `coverage::edges::add_if_active` meets its contract. Assumes nothing.
 use mathlib.Core.Path.{sym, _∙_}
-use Prim.Native.Nat.{_*_}
 use native.Mathlib.Omega.{arith}
 use lib.ListN.{length}
 use Rattle.coverage.proofs.Turn.{miss-sums, miss-marks}

@@ -1,9 +1,9 @@
 -- `coverage::edges::find_active` meets its contract. Assumes nothing.
-use mathlib.Core.Path.{_≡_, refl, sym, ap, _∙_}
+use mathlib.Core.Path.{_≡_, sym, ap, _∙_}
 use mathlib.Core.Bool.{cond}
-use Prim.Native.Nat.{ℕ, _+_, _-_, _≤_, _<_}
+use Prim.Native.Nat.{ℕ, _+_, _-_, _≤_}
 use native.Mathlib.Omega.{arith}
-use lib.ListN.{length, getD, set, length-set}
+use lib.ListN.{length, getD, length-set}
 use Rattle.lists.proofs.Laws.{tab-ext}
 use Rattle.coverage.specs.Engine.{missedAt, activeFrom}
 use Rattle.coverage.proofs.Active.{active-within, active-end, active-turn, found-turn}
