@@ -1,0 +1,130 @@
+-- `coverage::edges::add_active` meets its contract. Assumes nothing.
+use mathlib.Core.Path.{_≡_, refl, subst}
+use Prim.Native.Nat.{ℕ, _+_, _*_, _-_, _≤_}
+use native.Mathlib.Omega.{arith}
+use lib.ListN.{length}
+use Rattle.path.specs.Stored.{edgesOf}
+use Rattle.coverage.specs.Engine.{sumsAt, withSums, Marked}
+use Rattle.coverage.proofs.Turn.{no-sums, no-marks, turn-asks, turn-sums, turn-marks}
+use Rattle.coverage.proofs.Active.{next-long, next-within, next-sums}
+use borrow.Author.Needs.{needs}
+use Rattle.coverage.proofs.edges.add_active.Statement.{statement}
+use Rattle.coverage.proofs.edges.add_active.Tie as tie
+
+abbrev Inv-loop : tie.InvT-loop
+Inv-loop scratch₀ n next c y cover₀ i₀ scratch cover i =
+    (i ≤ n)
+    × (length scratch ≡ length scratch₀)
+    × (length cover ≡ length cover₀)
+    × ((scratch ≡ withSums n (length cover₀) c y i scratch₀) × Marked cover (sumsAt c (length cover₀ * 4) y (edgesOf scratch₀ i)))
+
+abbrev μ-loop : tie.MeasureT-loop
+μ-loop scratch₀ n next c y cover₀ i₀ scratch cover i = n - i
+
+shared-slice-read-i : tie.Need-shared-slice-read-i Inv-loop μ-loop
+shared-slice-read-i c =
+    let s = c .before .before .before in
+    let a = s .args in
+    omega (arith, next-long (a .scratch .now) (a .n) (a .y) (a .next .now) (s .pre .1 .1 .1))
+
+cast-i : tie.Need-cast-i Inv-loop μ-loop
+cast-i c =
+    let s = c .before .before .before in
+    let a = s .args in
+    omega (arith, next-within (a .scratch .now) (a .n) (a .y) (a .next .now) (s .pre .1 .1 .1) 0 (omega arith) .1, s .pre .1 .0 .few)
+
+loop-holds : tie.Need-loop-holds Inv-loop μ-loop
+loop-holds c =
+    let s = c .before .before .before in
+    let a = s .args in
+    let w = length (a .cover .now) in (
+      next-within (a .scratch .now) (a .n) (a .y) (a .next .now) (s .pre .1 .1 .1) 0 (omega arith) .1,
+      refl,
+      refl,
+      next-sums (a .scratch .now) (a .n) (a .y) (a .next .now) (s .pre .1 .1 .1) w (a .c) (s .pre .1 .0 .room) (a .scratch .now) (a .cover .now) 0 (omega arith)
+          (no-sums (a .n) w (a .c) (a .y) (a .scratch .now) (s .pre .1 .0 .room) (s .pre .1 .1 .0), no-marks (a .n) w (a .c) (a .y) (a .scratch .now) (s .pre .1 .0 .room) (a .cover .now)),
+    )
+
+add-edge-requires : tie.Need-add-edge-requires Inv-loop μ-loop
+add-edge-requires c κs =
+    let s = c .before .before .before .before .before .before .before in
+    let a = s .args in
+    let l = c .before .before .before .loop in (
+      (omega arith, s .pre .0 .0, omega (arith, l .inv .2)),
+      turn-asks (a .n) (length (a .cover .now)) (a .c) (a .y) (a .scratch .now) (s .pre .1 .0 .room) (l .i) (omega arith) (l .scratch) (l .inv .3 .0) (length (l .cover)) (l .inv .2) (l .cover) (s .pre .1 .0) (l .inv .1) (l .inv .3 .1),
+    )
+
+add-i : tie.Need-add-i Inv-loop μ-loop
+add-i c = search needs
+
+mul-i : tie.Need-mul-i Inv-loop μ-loop
+mul-i c =
+    let s = c .before .before .before .before .before .before .before .before .before .before .before in
+    omega (arith, s .pre .1 .0 .few)
+
+shared-slice-read-i-2 : tie.Need-shared-slice-read-i-2 Inv-loop μ-loop
+shared-slice-read-i-2 c =
+    let s = c .before .before .before .before .before .before .before .before .before .before .before .before in
+    let a = s .args in
+    omega (arith, next-long (a .scratch .now) (a .n) (a .y) (a .next .now) (s .pre .1 .1 .1))
+
+cast-i-2 : tie.Need-cast-i-2 Inv-loop μ-loop
+cast-i-2 c =
+    let s = c .before .before .before .before .before .before .before .before .before .before .before .before in
+    let a = s .args in
+    omega (arith, next-within (a .scratch .now) (a .n) (a .y) (a .next .now) (s .pre .1 .1 .1) (c .before .before .before .before .before .before .before .before .loop .i + 1) (omega arith) .1, s .pre .1 .0 .few)
+
+loop-less : tie.Need-loop-less Inv-loop μ-loop
+loop-less c =
+    let s = c .before .before .before .before .before .before .before .before .before .before .before .before in
+    let a = s .args in
+    omega (arith, next-within (a .scratch .now) (a .n) (a .y) (a .next .now) (s .pre .1 .1 .1) (c .before .before .before .before .before .before .before .before .loop .i + 1) (omega arith) .0)
+
+loop-again : tie.Need-loop-again Inv-loop μ-loop
+loop-again c =
+    let s = c .before .before .before .before .before .before .before .before .before .before .before .before in
+    let a = s .args in
+    let l = c .before .before .before .before .before .before .before .before .loop in
+    let g = c .before .before .before .before .add-edge in
+    let w = length (a .cover .now) in (
+      next-within (a .scratch .now) (a .n) (a .y) (a .next .now) (s .pre .1 .1 .1) (l .i + 1) (omega arith) .1,
+      omega (arith, g .kept .0, l .inv .1),
+      omega (arith, g .kept .1 .1 .1 .1 .1 .0, l .inv .2),
+      next-sums (a .scratch .now) (a .n) (a .y) (a .next .now) (s .pre .1 .1 .1) w (a .c) (s .pre .1 .0 .room) (g .last .0) (g .last .1 .1 .1 .1 .1 .0) (l .i + 1) (omega arith) (
+        turn-sums (a .n) w (a .c) (a .y) (a .scratch .now) (s .pre .1 .0 .room) (l .i) (omega arith) (l .scratch) (l .inv .3 .0) (length (l .cover)) (l .inv .2) (g .last .0) (g .ensures .0),
+        turn-marks (a .n) w (a .c) (a .y) (a .scratch .now) (s .pre .1 .0 .room) (l .i) (omega arith) (l .scratch) (l .inv .3 .0) (length (l .cover)) (l .inv .2) (g .last .1 .1 .1 .1 .1 .0) (g .ensures .1),
+      ),
+    )
+
+same-length : tie.Need-same-length Inv-loop μ-loop
+same-length c = search needs
+
+same-length-2 : tie.Need-same-length-2 Inv-loop μ-loop
+same-length-2 c = search needs
+
+returns : tie.Need-returns Inv-loop μ-loop
+returns c =
+    let a = c .before .before .before .before .before .args in
+    let l = c .before .loop in
+    let e : l .i ≡ a .n = omega arith in
+    subst (λ (i : ℕ). (l .scratch ≡ withSums (a .n) (length (a .cover .now)) (a .c) (a .y) i (a .scratch .now)) × Marked (l .cover) (sumsAt (a .c) (length (a .cover .now) * 4) (a .y) (edgesOf (a .scratch .now) i))) e (l .inv .3)
+
+pub add-active-spec : {M : Type 1} → statement M
+add-active-spec =
+    tie.close
+    (tie.spec
+    Inv-loop
+    μ-loop
+    shared-slice-read-i
+    cast-i
+    loop-holds
+    add-edge-requires
+    add-i
+    mul-i
+    shared-slice-read-i-2
+    cast-i-2
+    loop-less
+    loop-again
+    same-length
+    same-length-2
+    returns)
