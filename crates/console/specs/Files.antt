@@ -1,4 +1,4 @@
--- What a loaded file's length is known to be.
+-- What is known of a loaded file's length. A reviewer of the paper need not read it.
 use Prim.Native.Nat.{ℕ, _<_}
 use mathlib.Core.List.{List}
 use lib.ListN.{length}

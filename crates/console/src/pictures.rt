@@ -4,18 +4,22 @@ use crate::Size;
 use crate::output;
 use text::PIXEL_TEXT;
 ghost use mathlib.Core.Path.{_≡_};
-ghost use Prim.Native.Nat.{_*_, _≤_};
+ghost use Prim.Native.Nat.{_*_};
 ghost use lib.ListN.{length};
+ghost use Rattle.console.specs.Sizes.{Surface};
+
+// The text of the widest row.
+const ROW_TEXT: usize = 9216;
 
 // Its width and height, then its rows from the top one down.
 pub fn print_picture(surface: &[u8], size: Size)
-    requires { ⌜ (size .width ≤ 1024) × (length (now surface) ≡ size .height * (size .width * 4)) ⌝ }
+    requires { ⌜ Surface size (now surface) ⌝ }
 {
     let width = size.width;
     let height = size.height;
     let line = Line::new().decimal(width as u64).decimal(height as u64);
     if output::write_line(line.byte(b'\n')) {
-        let mut out = [0u8; 9216];
+        let mut out = [0u8; ROW_TEXT];
         let n = width * PIXEL_TEXT;
         print_rows(surface, width, height, &mut out[0..n]);
     }

@@ -1,10 +1,16 @@
-// The size of a scene's picture.
+// The size of a scene's picture, and of what a call is lent for it.
 use crate::Size;
 use scene::layout::BLOCK_BYTES;
 use scene::layout::SIDE_LIMIT;
 ghost use mathlib.Core.Path.{_≡_};
 ghost use Prim.Native.Nat.{_*_, _≤_};
-ghost use Rattle.console.specs.Sizes.{noSize, Allowed, pictureSize};
+ghost use Rattle.console.specs.Sizes.{noSize, Allowed, mostBytes, pictureSize};
+
+// The bytes of the largest surface.
+pub const SURFACE_BYTES: usize = 4194304;
+
+// The numbers of the least scratch that a call takes.
+pub const SCRATCH_NUMBERS: usize = 12300;
 
 // The size that the scene's first block gives, or 0 by 0 where the scene is too short for it or the picture too large. An accepted scene has
 // the size of its picture; the surface's length does not matter for another.
@@ -38,7 +44,7 @@ fn nothing() -> Size
 // The bytes of a surface of that size.
 pub fn surface_bytes(size: Size) -> usize
     requires { ⌜ Allowed size ⌝ }
-    ensures { λ r. ⌜ (r ≡ size .height * (size .width * 4)) × (r ≤ 4194304) ⌝ }
+    ensures { λ r. ⌜ (r ≡ size .height * (size .width * 4)) × (r ≤ mostBytes) ⌝ }
 {
     size.height * (size.width * 4)
 }

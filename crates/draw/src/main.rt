@@ -2,25 +2,29 @@
 use console::Line;
 use console::Loaded;
 use console::Size;
+use console::files::FILE_BUFFER;
 use console::files::load;
 use console::lines::print_limit;
 use console::pictures::print_picture;
+use console::sizes::SCRATCH_NUMBERS;
+use console::sizes::SURFACE_BYTES;
 use console::sizes::picture_size;
 use console::sizes::surface_bytes;
-ghost use mathlib.Core.Path.{_≡_};
-ghost use Prim.Native.Nat.{_*_, _≤_};
+ghost use Prim.Native.Nat.{_≤_};
 ghost use lib.ListN.{length};
+ghost use Rattle.console.specs.Sizes.{mostBytes, Surface};
 
 fn main() {
     if os::arg_count() != 2 {
         io::write_all(libc::STDERR_FILENO, b"usage: draw FILE\n");
         return;
     }
-    let mut file = [0u8; 262145];
+    let mut file = [0u8; FILE_BUFFER];
     lend_file(&mut file);
 }
 
-fn lend_file(file: &mut [u8; 262145]) {
+// A large array is made a slice in a function of its own, since the checker would write out an array that is lent directly.
+fn lend_file(file: &mut [u8; FILE_BUFFER]) {
     load_scene(file);
 }
 
@@ -34,27 +38,27 @@ fn load_scene(file: &mut [u8]) {
 }
 
 fn draw_scene(scene: &[u8]) {
-    let mut surface = [0u8; 4194304];
+    let mut surface = [0u8; SURFACE_BYTES];
     lend_surface(scene, &mut surface);
 }
 
-fn lend_surface(scene: &[u8], surface: &mut [u8; 4194304]) {
+fn lend_surface(scene: &[u8], surface: &mut [u8; SURFACE_BYTES]) {
     size_surface(scene, surface);
 }
 
+// The surface gets the size that the scene asks for. Of a scene that is refused it does not matter: the rules come before the surface.
 fn size_surface(scene: &[u8], surface: &mut [u8])
-    requires { ⌜ 4194304 ≤ length (now surface) ⌝ }
+    requires { ⌜ mostBytes ≤ length (now surface) ⌝ }
 {
     let size = picture_size(scene);
     let n = surface_bytes(size);
     draw_picture(scene, &mut surface[0..n], size);
 }
 
-// Draws on a surface of that size.
 fn draw_picture(scene: &[u8], surface: &mut [u8], size: Size)
-    requires { ⌜ (size .width ≤ 1024) × (length (now surface) ≡ size .height * (size .width * 4)) ⌝ }
+    requires { ⌜ Surface size (now surface) ⌝ }
 {
-    let mut scratch = [0i32; 12300];
+    let mut scratch = [0i32; SCRATCH_NUMBERS];
     let answer = render::draw(scene, surface, &mut scratch);
     if answer.code != 0 {
         Line::new()

@@ -2,32 +2,33 @@
 use console::Line;
 use console::Loaded;
 use console::Size;
+use console::files::FILE_BUFFER;
 use console::files::load;
 use console::lines::print_limit;
 use console::pictures::print_picture;
+use console::sizes::SCRATCH_NUMBERS;
+use console::sizes::SURFACE_BYTES;
 use console::sizes::picture_size;
 use console::sizes::surface_bytes;
 use render::Answer;
 use render::Refusal;
 use render::judge::judge_redraw;
-ghost use mathlib.Core.Path.{_≡_};
-ghost use Prim.Native.Nat.{_*_, _≤_};
+ghost use Prim.Native.Nat.{_≤_};
 ghost use lib.ListN.{length};
-
-// The least scratch that the calls take.
-const SCRATCH_NUMBERS: usize = 12300;
+ghost use Rattle.console.specs.Sizes.{mostBytes, Surface};
 
 fn main() {
     if os::arg_count() != 3 {
         io::write_all(libc::STDERR_FILENO, b"usage: redraw OLD NEW\n");
         return;
     }
-    let mut old = [0u8; 262145];
-    let mut new = [0u8; 262145];
+    let mut old = [0u8; FILE_BUFFER];
+    let mut new = [0u8; FILE_BUFFER];
     lend_files(&mut old, &mut new);
 }
 
-fn lend_files(old: &mut [u8; 262145], new: &mut [u8; 262145]) {
+// A large array is made a slice in a function of its own, since the checker would write out an array that is lent directly.
+fn lend_files(old: &mut [u8; FILE_BUFFER], new: &mut [u8; FILE_BUFFER]) {
     load_old(old, new);
 }
 
@@ -59,16 +60,17 @@ fn load_beside_long(new: &mut [u8]) {
 }
 
 fn redraw_scenes(old: &[u8], new: &[u8]) {
-    let mut surface = [0u8; 4194304];
+    let mut surface = [0u8; SURFACE_BYTES];
     lend_surface(old, new, &mut surface);
 }
 
-fn lend_surface(old: &[u8], new: &[u8], surface: &mut [u8; 4194304]) {
+fn lend_surface(old: &[u8], new: &[u8], surface: &mut [u8; SURFACE_BYTES]) {
     size_surface(old, new, surface);
 }
 
+// The surface gets the size that the old scene asks for. Of a redraw that is refused it does not matter: the rules come before the surface.
 fn size_surface(old: &[u8], new: &[u8], surface: &mut [u8])
-    requires { ⌜ 4194304 ≤ length (now surface) ⌝ }
+    requires { ⌜ mostBytes ≤ length (now surface) ⌝ }
 {
     let size = picture_size(old);
     let n = surface_bytes(size);
@@ -77,7 +79,7 @@ fn size_surface(old: &[u8], new: &[u8], surface: &mut [u8])
 
 // Both scenes are judged first, so that nothing is drawn for a redraw that is refused.
 fn redraw_picture(old: &[u8], new: &[u8], surface: &mut [u8], size: Size)
-    requires { ⌜ (size .width ≤ 1024) × (length (now surface) ≡ size .height * (size .width * 4)) ⌝ }
+    requires { ⌜ Surface size (now surface) ⌝ }
 {
     let refusal = judge_redraw(old, new, surface.len(), SCRATCH_NUMBERS);
     if refusal.code != 0 {

@@ -19,12 +19,12 @@ abbrev pub pixelText : Pixel → List ℕ
 pixelText p = byteText (p .r) ++ byteText (p .g) ++ byteText (p .b) ++ byteText (p .a)
 
 -- what follows pixel x of n: a space, or a newline after the last
-abbrev pub separator : ℕ → ℕ → ℕ
-separator n x = cond (eqb (x + 1) n) 10 32
+abbrev pub afterPixel : ℕ → ℕ → ℕ
+afterPixel n x = cond (eqb (x + 1) n) 10 32
 
 -- pixel x of the n in s, and what follows it
 abbrev pub cellText : ℕ → List ℕ → ℕ → List ℕ
-cellText n s x = pixelText (pixelIn s x) ++ (separator n x ∷ [])
+cellText n s x = pixelText (pixelIn s x) ++ (afterPixel n x ∷ [])
 
 -- the row of the n pixels in s
 unfoldable pub rowText : ℕ → List ℕ → List ℕ

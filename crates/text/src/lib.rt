@@ -4,7 +4,7 @@ ghost use mathlib.Core.Path.{_≡_};
 ghost use mathlib.Core.List.{[], _∷_, _++_};
 ghost use Prim.Native.Nat.{_+_, _*_, _<_};
 ghost use lib.ListN.{length, take};
-ghost use Rattle.text.specs.Text.{hexDigit, byteText, pixelText, rowText};
+ghost use Rattle.text.specs.Text.{hexDigit, byteText, pixelText, afterPixel, rowText};
 
 // The bytes of a pixel's text, with what follows it.
 pub const PIXEL_TEXT: usize = 9;
@@ -53,7 +53,7 @@ fn digit(d: u8) -> u8
 
 fn separator(n: usize, x: usize) -> u8
     requires { ⌜ x < n ⌝ }
-    ensures { λ r. ⌜ r ≡ Text·separator n x ⌝ }
+    ensures { λ r. ⌜ r ≡ afterPixel n x ⌝ }
 {
     if x + 1 == n { b'\n' } else { b' ' }
 }

@@ -6,7 +6,7 @@ use lib.ListN.{length}
 use Rattle.lists.specs.Lists.{upto, over}
 use Rattle.lists.proofs.Laws.{emit-part, emit-all, emit-length, part-length}
 use Rattle.raster.specs.Surface.{pixelIn}
-use Rattle.text.specs.Text.{pixelText, separator, cellText, rowText}
+use Rattle.text.specs.Text.{pixelText, cellText, rowText}
 use borrow.Author.Needs.{needs}
 use Rattle.text.proofs.row.Statement.{statement}
 use Rattle.text.proofs.row.Tie as tie
