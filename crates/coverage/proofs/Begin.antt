@@ -1,5 +1,5 @@
 -- Where an edge's count begins, by the tests of the code.
-use mathlib.Core.Path.{_≡_, refl, sym, ap, ap₂, subst, _∙_}
+use mathlib.Core.Path.{_≡_, refl, sym, subst}
 use mathlib.Core.Bool.{Bool, true, false, cond}
 use Prim.Native.Nat.{ℕ, _≤_}
 use native.Mathlib.Omega.{arith}
@@ -13,20 +13,14 @@ use mir.Facts.{toZ-ofZ}
 use Rattle.fixed.proofs.Within.{fits}
 use Rattle.fixed.proofs.Poly.{var, le, from-lt}
 use Rattle.path.specs.declared.Edge.{Edge}
-use Rattle.path.specs.Stored.{Small}
 use Rattle.coverage.specs.Winding.{rises, turned, upward, spansUp, spans, sign, weight}
-use Rattle.coverage.specs.Engine.{firstColumn, place, startAt, startOf, missed}
+use Rattle.coverage.specs.Engine.{firstColumn, place, startAt, startOf}
 use Rattle.fixed.proofs.Tests.{is-true, is-false}
 use Rattle.coverage.proofs.Sums.{span-rises}
 
 -- a coordinate in a local is read as it is
 pub clean : (z : ℤ) → natAbs z ≤ 8388608 → toZ w32 (ofZ w32 z) ≡ z
 clean z h = toZ-ofZ {w = w32} (fits {w = w32} {n = 8388608} {z = z} tt (record { size = h }))
-
--- and so are the ends of an edge that was loaded
-pub ends-read : (e d : Edge) (y : ℕ) → e ≡ d → Small d → missed (toZ w32 (ofZ w32 (e .y0))) (toZ w32 (ofZ w32 (e .y1))) y ≡ missed (d .y0) (d .y1) y
-ends-read e d y o s =
-    ap₂ (λ (a b : ℤ). missed a b y) (ap (λ (f : Edge). toZ w32 (ofZ w32 (f .y0))) o ∙ clean (d .y0) (s .y0)) (ap (λ (f : Edge). toZ w32 (ofZ w32 (f .y1))) o ∙ clean (d .y1) (s .y1))
 
 module _ (c k : ℕ) (Y : ℤ) (e : Edge) where
   as-is : (t r : Bool) → rises e ≡ r → spansUp (cond r e (turned e)) Y ≡ t

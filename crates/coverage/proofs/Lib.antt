@@ -5,7 +5,6 @@ pub mod Begin
 pub mod Laid
 pub mod Starts
 pub mod Turn
-pub mod Active
 pub mod Tally
 pub mod Zeros
 pub mod Cells

@@ -92,8 +92,8 @@ module _ (n w c y : ℕ) (l : List ℤ) (fit : n * 4 + w * 16 ≤ length l) (i :
 
   -- it misses the row
   module _ (q : missed (edgeAt l i .y0) (edgeAt l i .y1) y ≡ true) where
-    pub miss-sums : (t : List ℤ) → t ≡ withSums n w c y i l → t ≡ withSums n w c y (i + 1) l
-    miss-sums t o = o ∙ with-more (sumsAt c (w * 4) y (edgesOf l i)) (λ j. missed-more c (w * 4) y (edgesOf l i) (edgeAt l i) j q)
+    pub miss-sums : l ≡ withSums n w c y i l → l ≡ withSums n w c y (i + 1) l
+    miss-sums o = o ∙ with-more (sumsAt c (w * 4) y (edgesOf l i)) (λ j. missed-more c (w * 4) y (edgesOf l i) (edgeAt l i) j q)
 
     pub miss-marks : (d : List ℕ) → Marked d (sumsAt c (w * 4) y (edgesOf l i)) → Marked d (sumsAt c (w * 4) y (edgesOf l (i + 1)))
     miss-marks d = marks-more d (sumsAt c (w * 4) y (edgesOf l i)) (λ j. missed-more c (w * 4) y (edgesOf l i) (edgeAt l i) j q)

@@ -12,14 +12,12 @@ use borrow.Author.Tests.{ltb-true, ltb-false}
 use Rattle.lists.specs.Lists.{tab, over, total}
 use Rattle.lists.proofs.Laws.{tab-length, tab-at, over-part}
 use Rattle.path.specs.declared.Edge.{Edge}
-use Rattle.path.specs.Stored.{edgeAt, edgesOf}
 use Rattle.coverage.specs.Winding.{atOrLeft, weight, counts, winding, sample, one, inside, tally, coverage}
-use Rattle.coverage.specs.Engine.{at, laid, zeros, starts, running, sumsAt, rowOf, pixelOf, withSums, Tame, Marked, Ready}
+use Rattle.coverage.specs.Engine.{at, laid, starts, running, sumsAt, rowOf, pixelOf, Tame, Marked}
 use Rattle.coverage.proofs.Sums.{sum-small, running-starts}
 use Rattle.coverage.proofs.Laid.{laid-part, laid-again, tab-same}
 use Rattle.coverage.proofs.Starts.{starts-small, weight-small, cond-small}
 use Rattle.coverage.proofs.Turn.{mark-same}
-use Rattle.coverage.proofs.Zeros.{clear-laid}
 
 run-same : (f g : ℕ → ℤ) (n : ℕ) → ((i : ℕ) → i < n → f i ≡ g i) → running f n ≡ running g n
 run-same f g zero h = refl
@@ -97,34 +95,11 @@ module _ (b m : ℕ) (l q r : List ℤ) (h : b + m ≤ length l) (e : length q �
   width : (b m : ℕ) → b + m - b ≡ m
   width b m = omega arith
 
-  part-is : take (b + m - b) (drop b r) ≡ q
+  pub part-is : take (b + m - b) (drop b r) ≡ q
   part-is = ap₂ (λ (n : ℕ) (t : List ℤ). take n (drop b t)) (width b m) now ∙ laid-part b m l q h e
 
-  given-back : (z : List ℤ) → l ≡ laid b m l z → take b r ++ (z ++ drop (b + m - b) (drop b r)) ≡ l
+  pub given-back : (z : List ℤ) → l ≡ laid b m l z → take b r ++ (z ++ drop (b + m - b) (drop b r)) ≡ l
   given-back z o = ap₂ (λ (n : ℕ) (t : List ℤ). laid b n t z) (width b m) now ∙ laid-again b m l q h e z ∙ sym o
-
--- ---- one window: r is the scratch l with the sums of all n edges, u its part with the sums
-module _ (n x w y : ℕ) (l r : List ℤ) (ready : Ready l n) (fit : n * 4 + w * 16 ≤ length l) (now : r ≡ withSums n w (4 * x) y n l) where
-  abbrev part : List ℤ
-  part = take (n * 4 + w * 16 - n * 4) (drop (n * 4) r)
-
-  lent : part ≡ sumsOf (4 * x) w y (edgesOf l n)
-  lent = part-is (n * 4) (w * 16) l (sumsOf (4 * x) w y (edgesOf l n)) r fit (sums-long (4 * x) w y (edgesOf l n)) now
-
-  pub window-asks : (d : List ℕ) → length d ≡ w → Marked d (sumsAt (4 * x) (w * 4) y (edgesOf l n)) → (length part ≡ length d * 16) × (Marked d (at part) × Tame part (length d * 4))
-  window-asks d k m =
-      subst (λ (u : List ℤ). (length u ≡ length d * 16) × (Marked d (at u) × Tame u (length d * 4))) (sym lent) (
-        sums-long (4 * x) w y (edgesOf l n) ∙ ap (λ (v : ℕ). v * 16) (sym k),
-        (sums-marked (4 * x) w y (edgesOf l n) d k m, subst (λ (v : ℕ). Tame (sumsOf (4 * x) w y (edgesOf l n)) (v * 4)) (sym k) (sums-tame (4 * x) w y (edgesOf l n) (omega (arith, tab-length n (edgeAt l), ready .few)))),
-      )
-
-  pub window-leaves : (z : List ℤ) → z ≡ zeros (length part) → take (n * 4) r ++ (z ++ drop (n * 4 + w * 16 - n * 4) (drop (n * 4) r)) ≡ l
-  window-leaves z o =
-      given-back (n * 4) (w * 16) l (sumsOf (4 * x) w y (edgesOf l n)) r fit (sums-long (4 * x) w y (edgesOf l n)) now z
-      (clear-laid l n (w * 16) fit (ready .clear) ∙ ap (laid (n * 4) (w * 16) l) (sym (o ∙ ap zeros (ap length lent ∙ sums-long (4 * x) w y (edgesOf l n)))))
-
-  pub window-gives : (nonZero : Bool) (v : ℕ) (t : List ℕ) → v ≡ w → t ≡ tab v (pixelOf nonZero part) → t ≡ tab w (λ i. coverage (edgesOf l n) nonZero (x + i) y)
-  window-gives nonZero v t k o = o ∙ ap₂ (λ (m : ℕ) (u : List ℤ). tab m (pixelOf nonZero u)) k lent ∙ window-covers x w y (edgesOf l n) nonZero
 
 -- ---- window after window along a row
 tab-join : {A : Type 0} (i m : ℕ) (f : ℕ → A) → tab i f ++ tab m (λ j. f (i + j)) ≡ tab (i + m) f

@@ -60,19 +60,6 @@ sumsAt c k y es i = starts c k (sample (4 * y + i % 4)) es (i / 4)
 abbrev pub missed : ℤ → ℤ → ℕ → Bool
 missed y0 y1 y = cond (leZ y0 (sample (4 * y))) (leZ y1 (sample (4 * y))) (ltZ (sample (4 * y + 3)) y0 && ltZ (sample (4 * y + 3)) y1)
 
--- the ith edge does
-abbrev pub missedAt : List ℤ → ℕ → ℕ → Bool
-missedAt l y i = missed (edgeAt l i .y0) (edgeAt l i .y1) y
-
--- of the k numbers from i on, the first that fails the test; i + k where none does
-abbrev pub firstNot : (ℕ → Bool) → ℕ → ℕ → ℕ
-firstNot test i zero = i
-firstNot test i (suc k) = cond (test i) (firstNot test (i + 1) k) i
-
--- the first of the n edges, from number i on, that does not miss the pixel row y; n where all do
-unfoldable pub activeFrom : List ℤ → ℕ → ℕ → ℕ → ℕ
-activeFrom l n y i = firstNot (missedAt l y) i (n - i)
-
 -- v added to number i
 abbrev pub bumped : List ℤ → ℕ → ℤ → List ℤ
 bumped l i v = set l i (getD l i (pos 0) +ℤ v)

@@ -6,9 +6,7 @@
 //     160  . . . . | . . . .     running sums along a sample row are the winding numbers; of a pixel's 16 samples those inside are k.
 //      96  . . . . | . . . .     Where nothing begins in a pixel, its four sample rows go on as they were, and so does k.
 //      32  . . . . | . . . .
-use crate::edges::add_active;
 use crate::edges::add_edges;
-use crate::edges::find_active;
 use crate::fill::zero_counts;
 use crate::samples::take_row;
 ghost use mathlib.Core.Path.{_≡_};
@@ -17,7 +15,7 @@ ghost use lib.ListN.{length};
 ghost use Rattle.lists.specs.Lists.{tab};
 ghost use Rattle.path.specs.Stored.{edgesOf};
 ghost use Rattle.coverage.specs.Winding.{coverage};
-ghost use Rattle.coverage.specs.Engine.{activeFrom, Ready};
+ghost use Rattle.coverage.specs.Engine.{Ready};
 
 // k of each pixel from (x, y) on, in one row, of the path whose n edges stand in the scratch.
 pub fn coverage_row(
@@ -35,38 +33,10 @@ pub fn coverage_row(
 {
     zero_counts(cover);
     let most = (scratch.len() - n * 4) / 16;
-    if cover.len() <= most {
-        coverage_run(scratch, n, x, y, cover, nonzero);
-        return;
-    }
-    let mut next = [0u16; 2050];
-    let end = n + 1;
-    coverage_windows(scratch, n, &mut next[0..end], most, x, y, cover, nonzero);
-}
-
-// `coverage_row` in windows of at most so many pixels. The edges that do not miss the row are found once for all of them.
-fn coverage_windows(
-    scratch: &mut [i32],
-    n: usize,
-    next: &mut [u16],
-    most: usize,
-    x: usize,
-    y: usize,
-    cover: &mut [u8],
-    nonzero: bool,
-)
-    requires { ⌜ Ready (now scratch) n ⌝ }
-    requires { ⌜ (y < 1024) × (x + length (now cover) ≤ 1024) × (length (now next) ≡ n + 1) ⌝ }
-    requires { ⌜ (0 < most) × (n * 4 + most * 16 ≤ length (now scratch)) ⌝ }
-    ensures { λ _. ⌜ now (scratch .exit) ≡ now (scratch .entry) ⌝ }
-    ensures { λ _. ⌜ now (next .exit) ≡ tab (n + 1) (activeFrom (now (scratch .entry)) n y) ⌝ }
-    ensures { λ _. ⌜ now (cover .exit) ≡ tab (length (now (cover .entry))) (λ i. coverage (edgesOf (now (scratch .entry)) n) nonzero (x + i) y) ⌝ }
-{
-    find_active(scratch, n, y, next);
     let mut i = 0;
     while i < cover.len() {
         let end = least(i + most, cover.len());
-        coverage_window(scratch, n, next, x + i, y, &mut cover[i..end], nonzero);
+        coverage_run(scratch, n, x + i, y, &mut cover[i..end], nonzero);
         i = end;
     }
 }
@@ -87,27 +57,5 @@ fn coverage_run(scratch: &mut [i32], n: usize, x: usize, y: usize, cover: &mut [
     let at = n * 4;
     let end = at + cover.len() * 16;
     add_edges(scratch, n, 4 * x, y, cover);
-    take_row(&mut scratch[at..end], cover, nonzero);
-}
-
-// `coverage_run` with the edges that do not miss the row alone.
-fn coverage_window(
-    scratch: &mut [i32],
-    n: usize,
-    next: &[u16],
-    x: usize,
-    y: usize,
-    cover: &mut [u8],
-    nonzero: bool,
-)
-    requires { ⌜ Ready (now scratch) n ⌝ }
-    requires { ⌜ (y < 1024) × (x + length (now cover) ≤ 1024) × (n * 4 + length (now cover) * 16 ≤ length (now scratch)) ⌝ }
-    requires { ⌜ now next ≡ tab (n + 1) (activeFrom (now scratch) n y) ⌝ }
-    ensures { λ _. ⌜ now (scratch .exit) ≡ now (scratch .entry) ⌝ }
-    ensures { λ _. ⌜ now (cover .exit) ≡ tab (length (now (cover .entry))) (λ i. coverage (edgesOf (now (scratch .entry)) n) nonzero (x + i) y) ⌝ }
-{
-    let at = n * 4;
-    let end = at + cover.len() * 16;
-    add_active(scratch, n, next, 4 * x, y, cover);
     take_row(&mut scratch[at..end], cover, nonzero);
 }

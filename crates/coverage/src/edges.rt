@@ -9,9 +9,8 @@ ghost use Prim.Native.Nat.{_+_, _*_, _/_, _^_, _<_, _≤_};
 ghost use lib.Dec.{ltb};
 ghost use lib.IntN.{pos, natAbs};
 ghost use lib.ListN.{length, getD, set};
-ghost use Rattle.lists.specs.Lists.{tab};
 ghost use Rattle.path.specs.Stored.{edgeAt, edgesOf};
-ghost use Rattle.coverage.specs.Engine.{laid, zeros, missed, missedAt, activeFrom, bumped, sumsAt, withSums, Edges, Marked};
+ghost use Rattle.coverage.specs.Engine.{laid, zeros, missed, bumped, sumsAt, withSums, Edges, Marked};
 
 // The ith edge.
 fn load(scratch: &[i32], i: usize) -> Edge
@@ -38,17 +37,6 @@ fn misses(y0: i32, y1: i32, y: usize) -> bool
         return y1 <= first;
     }
     if last < y0 { last < y1 } else { false }
-}
-
-// Whether the ith edge has none.
-fn missed_at(scratch: &[i32], n: usize, i: usize, y: usize) -> bool
-    requires { ⌜ (i < n) × (y < 1024) × Edges (now scratch) n 0 ⌝ }
-    ensures { λ r. ⌜ r ≡ missedAt (now (scratch .entry)) y i ⌝ }
-{
-    let e = load(scratch, i);
-    let y0 = e.y0;
-    let y1 = e.y1;
-    misses(y0, y1, y)
 }
 
 // Adds to the number of column at and sample row r, and marks its pixel. Right of the window nothing is to be done.
@@ -78,6 +66,11 @@ fn add_edge(scratch: &mut [i32], n: usize, i: usize, c: usize, y: usize, cover: 
     ensures { λ _. ⌜ Marked (now (cover .exit)) (sumsAt c (length (now (cover .entry)) * 4) y (edgesOf (now (scratch .entry)) (i + 1))) ⌝ }
 {
     let e = load(scratch, i);
+    let y0 = e.y0;
+    let y1 = e.y1;
+    if misses(y0, y1, y) {
+        return;
+    }
     let base = n * 4;
     let k = cover.len() * 4;
     let mut r = 0;
@@ -90,21 +83,6 @@ fn add_edge(scratch: &mut [i32], n: usize, i: usize, c: usize, y: usize, cover: 
     }
 }
 
-// `add_edge`, with nothing to do where the edge misses the row.
-fn add_if_active(scratch: &mut [i32], n: usize, i: usize, c: usize, y: usize, cover: &mut [u8])
-    requires { ⌜ (i < n) × (y < 1024) × (c + length (now cover) * 4 < 2 ^ 31) ⌝ }
-    requires { ⌜ Edges (now scratch) n (length (now cover) * 16) ⌝ }
-    requires { ⌜ now scratch ≡ withSums n (length (now cover)) c y i (now scratch) ⌝ }
-    requires { ⌜ Marked (now cover) (sumsAt c (length (now cover) * 4) y (edgesOf (now scratch) i)) ⌝ }
-    ensures { λ _. ⌜ now (scratch .exit) ≡ withSums n (length (now (cover .entry))) c y (i + 1) (now (scratch .entry)) ⌝ }
-    ensures { λ _. ⌜ Marked (now (cover .exit)) (sumsAt c (length (now (cover .entry)) * 4) y (edgesOf (now (scratch .entry)) (i + 1))) ⌝ }
-{
-    if missed_at(scratch, n, i, y) {
-        return;
-    }
-    add_edge(scratch, n, i, c, y, cover);
-}
-
 // Adds what all n edges begin in the pixel row y, in the window from column c on, and marks the pixels where something begins.
 pub fn add_edges(scratch: &mut [i32], n: usize, c: usize, y: usize, cover: &mut [u8])
     requires { ⌜ (y < 1024) × (c + length (now cover) * 4 < 2 ^ 31) ⌝ }
@@ -115,50 +93,7 @@ pub fn add_edges(scratch: &mut [i32], n: usize, c: usize, y: usize, cover: &mut 
 {
     let mut i = 0;
     while i < n {
-        add_if_active(scratch, n, i, c, y, cover);
-        i += 1;
-    }
-}
-
-// The ith edge, unless it misses the pixel row y: then the one found after it.
-fn active(scratch: &[i32], n: usize, i: usize, y: usize, found: usize) -> usize
-    requires { ⌜ (i < n) × (y < 1024) × Edges (now scratch) n 0 ⌝ }
-    ensures { λ r. ⌜ r ≡ cond (missedAt (now (scratch .entry)) y i) found i ⌝ }
-{
-    if missed_at(scratch, n, i, y) {
-        found
-    } else {
-        i
-    }
-}
-
-// For each number, the first edge from it on that does not miss the pixel row y. Where a row takes several windows, this finds its edges once.
-pub fn find_active(scratch: &[i32], n: usize, y: usize, next: &mut [u16])
-    requires { ⌜ (y < 1024) × (length (now next) ≡ n + 1) × Edges (now scratch) n 0 ⌝ }
-    ensures { λ _. ⌜ now (next .exit) ≡ tab (n + 1) (activeFrom (now (scratch .entry)) n y) ⌝ }
-{
-    next[n] = n as u16;
-    let mut found = n;
-    let mut i = n;
-    while 0 < i {
-        i -= 1;
-        found = active(scratch, n, i, y, found);
-        next[i] = found as u16;
-    }
-}
-
-// `add_edges`, with the edges that miss the row left out.
-pub fn add_active(scratch: &mut [i32], n: usize, next: &[u16], c: usize, y: usize, cover: &mut [u8])
-    requires { ⌜ (y < 1024) × (c + length (now cover) * 4 < 2 ^ 31) ⌝ }
-    requires { ⌜ Edges (now scratch) n (length (now cover) * 16) ⌝ }
-    requires { ⌜ now scratch ≡ laid (n * 4) (length (now cover) * 16) (now scratch) (zeros (length (now cover) * 16)) ⌝ }
-    requires { ⌜ now next ≡ tab (n + 1) (activeFrom (now scratch) n y) ⌝ }
-    ensures { λ _. ⌜ now (scratch .exit) ≡ withSums n (length (now (cover .entry))) c y n (now (scratch .entry)) ⌝ }
-    ensures { λ _. ⌜ Marked (now (cover .exit)) (sumsAt c (length (now (cover .entry)) * 4) y (edgesOf (now (scratch .entry)) n)) ⌝ }
-{
-    let mut i = next[0] as usize;
-    while i < n {
         add_edge(scratch, n, i, c, y, cover);
-        i = next[i + 1] as usize;
+        i += 1;
     }
 }

@@ -1,95 +1,118 @@
 -- `coverage::cover::coverage_row` meets its contract. Assumes nothing.
-use mathlib.Core.Path.{_≡_, ap, _∙_}
-use Prim.Native.Nat.{ℕ, _+_, _-_, _≤_}
+use mathlib.Core.Path.{_≡_, refl, sym, ap, subst, _∙_}
+use mathlib.Core.List.{List}
+use Prim.Native.Nat.{_+_, _-_, _≤_}
 use native.Mathlib.Omega.{arith}
-use lib.ListN.{length, take, drop, replicate, length-replicate}
-use Rattle.lists.specs.Lists.{tab}
-use Rattle.lists.proofs.Laws.{part-length}
+use lib.ListN.{length, take, drop}
+use lib.IntN.{ℤ}
+use Rattle.lists.specs.Lists.{tab, over}
+use Rattle.lists.proofs.Laws.{tab-length, tab-all, over-length, part-length}
 use Rattle.path.specs.Stored.{edgesOf}
 use Rattle.coverage.specs.Winding.{coverage}
-use Rattle.coverage.proofs.Window.{kOf}
+use Rattle.coverage.specs.Engine.{Ready}
+use Rattle.coverage.proofs.Window.{kOf, row-turn}
 use borrow.Author.Needs.{needs}
 use Rattle.coverage.proofs.cover.coverage_row.Statement.{statement}
 use Rattle.coverage.proofs.cover.coverage_row.Tie as tie
 
--- the part of the local array that is lent
-next-lent : (n : ℕ) → n ≤ 2049 → length (take (n + 1 - 0) (drop 0 (replicate {A = ℕ} 2050 0))) ≡ n + 1
-next-lent n h = part-length (replicate {A = ℕ} 2050 0) 0 (n + 1) (omega arith) (omega (arith, length-replicate {A = ℕ} 2050 0)) ∙ whole n
-  where
-    whole : (n : ℕ) → n + 1 - 0 ≡ n + 1
-    whole n = omega arith
+abbrev Inv-loop : tie.InvT-loop
+Inv-loop scratch₀ n x y cover₀ nonzero most i₀ scratch cover i =
+    (i ≤ length cover₀) × (scratch ≡ scratch₀) × (length cover ≡ length cover₀) × (cover ≡ over (tab i (kOf (edgesOf scratch₀ n) nonzero x y)) cover₀)
 
-zero-counts-requires : tie.Need-zero-counts-requires
+abbrev μ-loop : tie.MeasureT-loop
+μ-loop scratch₀ n x y cover₀ nonzero most i₀ scratch cover i = length cover₀ - i
+
+zero-counts-requires : tie.Need-zero-counts-requires Inv-loop μ-loop
 zero-counts-requires c κs = search needs
 
-mul-most : tie.Need-mul-most
+mul-most : tie.Need-mul-most Inv-loop μ-loop
 mul-most c = search needs
 
-sub-most : tie.Need-sub-most
+sub-most : tie.Need-sub-most Inv-loop μ-loop
 sub-most c = search needs
 
-coverage-run-requires : tie.Need-coverage-run-requires
-coverage-run-requires c κs = search needs
+loop-holds : tie.Need-loop-holds Inv-loop μ-loop
+loop-holds c = (search needs, refl, refl, refl)
 
-same-length : tie.Need-same-length
+add-least : tie.Need-add-least Inv-loop μ-loop
+add-least c = search needs
+
+least-requires : tie.Need-least-requires Inv-loop μ-loop
+least-requires c κs = search needs
+
+add-coverage-run : tie.Need-add-coverage-run Inv-loop μ-loop
+add-coverage-run c = search needs
+
+sub-coverage-run : tie.Need-sub-coverage-run Inv-loop μ-loop
+sub-coverage-run c = search needs
+
+part-coverage-run-start : tie.Need-part-coverage-run-start Inv-loop μ-loop
+part-coverage-run-start c = search needs
+
+part-coverage-run-end : tie.Need-part-coverage-run-end Inv-loop μ-loop
+part-coverage-run-end c = search needs
+
+coverage-run-requires : tie.Need-coverage-run-requires Inv-loop μ-loop
+coverage-run-requires c κs =
+    let s = c .before .before .before .before .before .before .before .before .before .before in
+    let l = c .before .before .before .before .loop in
+    let e = c .before .before .least .result in
+    let w = part-length (l .cover) (l .i) e (omega arith) (omega (arith, l .inv .2)) in
+    (subst (λ (t : List ℤ). Ready t (s .args .n)) (sym (l .inv .1)) (s .pre .0), (s .pre .1 .0, omega (arith, w), omega (arith, w, ap length (l .inv .1), s .pre .0 .few, s .pre .0 .room)))
+
+loop-less : tie.Need-loop-less Inv-loop μ-loop
+loop-less c = search needs
+
+loop-again : tie.Need-loop-again Inv-loop μ-loop
+loop-again c =
+    let s = c .before .before .before .before .before .before .before .before .before .before .before .before .before .before in
+    let a = s .args in
+    let l = c .before .before .before .before .before .before .before .before .loop in
+    let d = c .before .before .before .before .before .before .before .before .before .before .before .zero-counts .last .0 in
+    let e = c .before .before .before .before .before .before .least .result in
+    let g = c .before .before .before .coverage-run in
+    let es = edgesOf (a .scratch .now) (a .n) in
+    let o = row-turn es (a .nonzero) (a .x) (a .y) (l .cover) d (g .last .1 .1 .1 .1 .0) (l .i) e (omega arith) (omega (arith, l .inv .2)) (l .inv .2) (l .inv .3)
+    (g .ensures .1 ∙ ap (λ (t : List ℤ). tab (length (take (e - l .i) (drop (l .i) (l .cover)))) (λ j. coverage (edgesOf t (a .n)) (a .nonzero) (a .x + l .i + j) (a .y))) (l .inv .1)) in (
+      omega (arith, l .inv .2),
+      g .ensures .0 ∙ l .inv .1,
+      ap length o ∙ over-length (tab e (kOf es (a .nonzero) (a .x) (a .y))) d (omega (arith, tab-length e (kOf es (a .nonzero) (a .x) (a .y)), l .inv .2)),
+      o,
+    )
+
+same-length : tie.Need-same-length Inv-loop μ-loop
 same-length c = search needs
 
-same-length-2 : tie.Need-same-length-2
+same-length-2 : tie.Need-same-length-2 Inv-loop μ-loop
 same-length-2 c = search needs
 
-returns : tie.Need-returns
+returns : tie.Need-returns Inv-loop μ-loop
 returns c =
-    let a = c .before .before .before .before .before .before .before .before .before .before .before .before .args in
-    let g = c .before .before .before .coverage-run in
-    (g .ensures .0, g .ensures .1 ∙ ap (λ (k : ℕ). tab k (kOf (edgesOf (a .scratch .now) (a .n)) (a .nonzero) (a .x) (a .y))) (c .before .before .before .before .before .before .before .before .before .zero-counts .kept .0))
-
-add-end : tie.Need-add-end
-add-end c = search needs
-
-sub-coverage-windows : tie.Need-sub-coverage-windows
-sub-coverage-windows c = search needs
-
-part-next-start : tie.Need-part-next-start
-part-next-start c = search needs
-
-part-next-end : tie.Need-part-next-end
-part-next-end c = search needs
-
-coverage-windows-requires : tie.Need-coverage-windows-requires
-coverage-windows-requires c κs =
-    let s = c .before .before .before .before .before .before .before .before .before in
-    let p = s .pre .0 in
-    let k : length (c .before .before .before .before .before .before .zero-counts .last .0) ≡ length (s .args .cover .now) = c .before .before .before .before .before .before .zero-counts .kept .0 in
-    (p, ((s .pre .1 .0, omega (arith, k, s .pre .1 .1), next-lent (s .args .n) (p .few)), (omega (arith, p .few, p .room), omega (arith, p .few, p .room))))
-
-same-length-3 : tie.Need-same-length-3
-same-length-3 c = search needs
-
-same-length-4 : tie.Need-same-length-4
-same-length-4 c = search needs
-
-returns-2 : tie.Need-returns-2
-returns-2 c =
-    let a = c .before .before .before .before .before .before .before .before .before .before .before .before .before .before .args in
-    let g = c .before .before .before .before .coverage-windows in
-    (g .ensures .0, g .ensures .1 .1 ∙ ap (λ (k : ℕ). tab k (kOf (edgesOf (a .scratch .now) (a .n)) (a .nonzero) (a .x) (a .y))) (c .before .before .before .before .before .before .before .before .before .before .before .zero-counts .kept .0))
+    let a = c .before .before .before .before .before .before .before .args in
+    let l = c .before .loop in
+    let z = c .before .before .before .before .zero-counts in
+    let k : length (z .last .0) ≡ length (a .cover .now) = z .kept .0 in
+    (l .inv .1, tab-all (kOf (edgesOf (a .scratch .now) (a .n)) (a .nonzero) (a .x) (a .y)) (l .cover) (z .last .0) (l .i) (length (a .cover .now)) (l .inv .3) (omega (arith, k)) (sym k))
 
 pub coverage-row-spec : {M : Type 1} → statement M
 coverage-row-spec =
     tie.close
     (tie.spec
+    Inv-loop
+    μ-loop
     zero-counts-requires
     mul-most
     sub-most
+    loop-holds
+    add-least
+    least-requires
+    add-coverage-run
+    sub-coverage-run
+    part-coverage-run-start
+    part-coverage-run-end
     coverage-run-requires
+    loop-less
+    loop-again
     same-length
     same-length-2
-    returns
-    add-end
-    sub-coverage-windows
-    part-next-start
-    part-next-end
-    coverage-windows-requires
-    same-length-3
-    same-length-4
-    returns-2)
+    returns)

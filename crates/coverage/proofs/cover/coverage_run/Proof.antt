@@ -1,12 +1,30 @@
 -- `coverage::cover::coverage_run` meets its contract. Assumes nothing.
+use mathlib.Core.Path.{_≡_, sym, ap, ap₂, subst, _∙_}
+use mathlib.Core.List.{List}
+use Prim.Native.Nat.{ℕ, _+_, _*_, _-_, _≤_}
 use native.Mathlib.Omega.{arith}
-use Prim.Native.Nat.{_*_}
-use lib.ListN.{length}
+use lib.ListN.{length, take, drop}
+use lib.IntN.{ℤ}
+use Rattle.lists.specs.Lists.{tab}
+use Rattle.lists.proofs.Laws.{tab-length}
+use Rattle.path.specs.Stored.{edgeAt, edgesOf}
+use Rattle.coverage.specs.Engine.{at, laid, zeros, pixelOf, Marked, Tame}
 use Rattle.coverage.proofs.Zeros.{clear-laid}
-use Rattle.coverage.proofs.Window.{window-asks, window-leaves, window-gives}
+use Rattle.coverage.proofs.Window.{sumsOf, sums-long, sums-marked, sums-tame, window-covers, part-is, given-back}
 use borrow.Author.Needs.{needs}
 use Rattle.coverage.proofs.cover.coverage_run.Statement.{statement}
 use Rattle.coverage.proofs.cover.coverage_run.Tie as tie
+
+-- the part that is lent
+lent : (c : tie.After-add-edges)
+    → take (c .before .before .before .before .args .n * 4 + length (c .before .before .before .before .args .cover .now) * 16 - c .before .before .before .before .args .n * 4) (drop (c .before .before .before .before .args .n * 4) (c .add-edges .last .0))
+    ≡ sumsOf (4 * c .before .before .before .before .args .x) (length (c .before .before .before .before .args .cover .now)) (c .before .before .before .before .args .y) (edgesOf (c .before .before .before .before .args .scratch .now) (c .before .before .before .before .args .n))
+lent c =
+    let s = c .before .before .before .before in
+    let a = s .args in
+    let w = length (a .cover .now) in
+    let es = edgesOf (a .scratch .now) (a .n) in
+    part-is (a .n * 4) (w * 16) (a .scratch .now) (sumsOf (4 * a .x) w (a .y) es) (c .add-edges .last .0) (s .pre .1 .2) (sums-long (4 * a .x) w (a .y) es) (c .add-edges .ensures .0)
 
 mul-at : tie.Need-mul-at
 mul-at c = search needs
@@ -43,7 +61,15 @@ take-row-requires c κs =
     let s = c .before .before .before .before .before .before .before .before .before in
     let a = s .args in
     let g = c .before .before .before .before .before .add-edges in
-    window-asks (a .n) (a .x) (length (a .cover .now)) (a .y) (a .scratch .now) (g .last .0) (s .pre .0) (s .pre .1 .2) (g .ensures .0) (g .last .1 .1 .1 .1 .0) (g .kept .1 .1 .1 .1 .0) (g .ensures .1)
+    let w = length (a .cover .now) in
+    let es = edgesOf (a .scratch .now) (a .n) in
+    let o = lent (c .before .before .before .before .before) in
+    let k : length (g .last .1 .1 .1 .1 .0) ≡ w = g .kept .1 .1 .1 .1 .0 in
+    let few : length es ≤ 1000000 = omega (arith, tab-length (a .n) (edgeAt (a .scratch .now)), s .pre .0 .few) in
+    subst (λ (u : List ℤ). (length u ≡ length (g .last .1 .1 .1 .1 .0) * 16) × (Marked (g .last .1 .1 .1 .1 .0) (at u) × Tame u (length (g .last .1 .1 .1 .1 .0) * 4))) (sym o) (
+      sums-long (4 * a .x) w (a .y) es ∙ ap (λ (n : ℕ). n * 16) (sym k),
+      (sums-marked (4 * a .x) w (a .y) es (g .last .1 .1 .1 .1 .0) k (g .ensures .1), subst (λ (n : ℕ). Tame (sumsOf (4 * a .x) w (a .y) es) (n * 4)) (sym k) (sums-tame (4 * a .x) w (a .y) es few)),
+    )
 
 same-length : tie.Need-same-length
 same-length c = search needs
@@ -55,11 +81,16 @@ returns : tie.Need-returns
 returns c =
     let s = c .before .before .before .before .before .before .before .before .before .before .before .before .before in
     let a = s .args in
-    let g = c .before .before .before .before .before .before .before .before .before .add-edges in
+    let b = c .before .before .before .before .before .before .before .before .before in
     let t = c .before .before .before .take-row in
-    let w = length (a .cover .now) in (
-      window-leaves (a .n) (a .x) w (a .y) (a .scratch .now) (g .last .0) (s .pre .0) (s .pre .1 .2) (g .ensures .0) (t .last .0) (t .ensures .0),
-      window-gives (a .n) (a .x) w (a .y) (a .scratch .now) (g .last .0) (s .pre .0) (s .pre .1 .2) (g .ensures .0) (a .nonzero) (length (g .last .1 .1 .1 .1 .0)) (t .last .1 .0) (g .kept .1 .1 .1 .1 .0) (t .ensures .1),
+    let w = length (a .cover .now) in
+    let es = edgesOf (a .scratch .now) (a .n) in
+    let q = sumsOf (4 * a .x) w (a .y) es in
+    let k : length (b .add-edges .last .1 .1 .1 .1 .0) ≡ w = b .add-edges .kept .1 .1 .1 .1 .0 in (
+      given-back (a .n * 4) (w * 16) (a .scratch .now) q (b .add-edges .last .0) (s .pre .1 .2) (sums-long (4 * a .x) w (a .y) es) (b .add-edges .ensures .0) (t .last .0)
+          (clear-laid (a .scratch .now) (a .n) (w * 16) (s .pre .1 .2) (s .pre .0 .clear)
+          ∙ ap (laid (a .n * 4) (w * 16) (a .scratch .now)) (sym (t .ensures .0 ∙ ap zeros (ap length (lent b) ∙ sums-long (4 * a .x) w (a .y) es)))),
+      t .ensures .1 ∙ ap₂ (λ (n : ℕ) (u : List ℤ). tab n (pixelOf (a .nonzero) u)) k (lent b) ∙ window-covers (a .x) w (a .y) es (a .nonzero),
     )
 
 pub coverage-run-spec : {M : Type 1} → statement M

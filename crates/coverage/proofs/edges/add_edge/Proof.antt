@@ -1,5 +1,5 @@
 -- `coverage::edges::add_edge` meets its contract. Assumes nothing.
-use mathlib.Core.Path.{_≡_, refl, sym, ap₂, subst, _∙_}
+use mathlib.Core.Path.{_≡_, refl, sym, ap, ap₂, subst, _∙_}
 use mathlib.Core.Bool.{cond}
 use lib.Dec.{ltb}
 use mir.Syntax.{w32}
@@ -10,18 +10,19 @@ use native.Mathlib.Omega.{arith}
 use lib.ListN.{length}
 use lib.IntN.{ℤ, natAbs}
 use Rattle.lists.specs.Lists.{tab}
+use Rattle.path.specs.declared.Edge.{Edge}
 use Rattle.path.specs.Stored.{edgeAt, edgesOf, Small}
-use Rattle.coverage.specs.Engine.{laid, bumped, startOf, Marked}
+use Rattle.coverage.specs.Engine.{laid, missed, bumped, startOf, Marked}
 use Rattle.coverage.specs.Winding.{sample}
 use Rattle.coverage.proofs.Begin.{clean}
 use Rattle.coverage.proofs.Starts.{partly, by-small}
-use Rattle.coverage.proofs.Turn.{first-sums, first-marks, next-sums, next-marks, last-sums, last-marks, sums-small}
+use Rattle.coverage.proofs.Turn.{miss-sums, miss-marks, first-sums, first-marks, next-sums, next-marks, last-sums, last-marks, sums-small}
 use borrow.Author.Needs.{needs}
 use Rattle.coverage.proofs.edges.add_edge.Statement.{statement}
 use Rattle.coverage.proofs.edges.add_edge.Tie as tie
 
 abbrev Inv-loop : tie.InvT-loop
-Inv-loop scratch₀ n i c y cover₀ e base k r₀ scratch cover r =
+Inv-loop scratch₀ n i c y cover₀ e y0 y1 base k r₀ scratch cover r =
     (r ≤ 4)
     × (length scratch ≡ length scratch₀)
     × (length cover ≡ length cover₀)
@@ -29,30 +30,54 @@ Inv-loop scratch₀ n i c y cover₀ e base k r₀ scratch cover r =
     × Marked cover (partly c (length cover₀ * 4) y (edgesOf scratch₀ i) (edgeAt scratch₀ i) r)
 
 abbrev μ-loop : tie.MeasureT-loop
-μ-loop scratch₀ n i c y cover₀ e base k r₀ scratch cover r = 4 - r
+μ-loop scratch₀ n i c y cover₀ e y0 y1 base k r₀ scratch cover r = 4 - r
 
 -- a sample row, as it is handed on
 line : (y r : ℕ) → y < 1024 → r < 4 → toZ w32 (64 * (4 * y + r) + 32) ≡ sample (4 * y + r)
 line y r h k = toZ-pos w32 (omega arith)
 
--- what begins
-begun-at : (c : tie.After-start Inv-loop μ-loop)
-    → c .start .result ≡ startOf (c .before .before .before .before .before .before .args .c) (length (c .before .before .before .before .before .before .args .cover .now) * 4) (sample (4 * c .before .before .before .before .before .before .args .y + c .before .before .loop .r)) (edgeAt (c .before .before .before .before .before .before .args .scratch .now) (c .before .before .before .before .before .before .args .i))
-begun-at c =
+-- what the test tells of the edge, and what begins
+tested : (c : tie.After-misses Inv-loop μ-loop)
+    → c .misses .result ≡ missed (edgeAt (c .before .before .before .before .before .before .args .scratch .now) (c .before .before .before .before .before .before .args .i) .y0) (edgeAt (c .before .before .before .before .before .before .args .scratch .now) (c .before .before .before .before .before .before .args .i) .y1) (c .before .before .before .before .before .before .args .y)
+tested c =
     let s = c .before .before .before .before .before .before in
+    let e = s .pre .1 .0 .small (s .args .i) (omega arith) in
+    let o = c .before .before .before .load .ensures in
+    let d = edgeAt (s .args .scratch .now) (s .args .i) in
+    c .misses .ensures
+    ∙ ap₂ (λ (a b : ℤ). missed a b (s .args .y)) (ap (λ (f : Edge). toZ w32 (ofZ w32 (f .y0))) o ∙ clean (d .y0) (e .y0)) (ap (λ (f : Edge). toZ w32 (ofZ w32 (f .y1))) o ∙ clean (d .y1) (e .y1))
+
+begun-at : (c : tie.After-start Inv-loop μ-loop)
+    → c .start .result ≡ startOf (c .before .before .before .before .before .before .before .before .before .before .args .c) (length (c .before .before .before .before .before .before .before .before .before .before .args .cover .now) * 4) (sample (4 * c .before .before .before .before .before .before .before .before .before .before .args .y + c .before .before .loop .r)) (edgeAt (c .before .before .before .before .before .before .before .before .before .before .args .scratch .now) (c .before .before .before .before .before .before .before .before .before .before .args .i))
+begun-at c =
+    let s = c .before .before .before .before .before .before .before .before .before .before in
     let a = s .args in
     let l = c .before .before .loop in
-    c .start .ensures ∙ ap₂ (startOf (a .c) (length (a .cover .now) * 4)) (line (a .y) (l .r) (omega arith) (omega arith)) (c .before .before .before .load .ensures)
+    c .start .ensures ∙ ap₂ (startOf (a .c) (length (a .cover .now) * 4)) (line (a .y) (l .r) (omega arith) (omega arith)) (c .before .before .before .before .before .before .before .load .ensures)
 
 -- what is added, as the local holds it
 by-read : (c : tie.After-start Inv-loop μ-loop) → (natAbs (c .start .result .by) ≤ 1) × (toZ w32 (ofZ w32 (c .start .result .by)) ≡ c .start .result .by)
 by-read c =
-    let a = c .before .before .before .before .before .before .args in
+    let a = c .before .before .before .before .before .before .before .before .before .before .args in
     let h = by-small (a .c) (length (a .cover .now) * 4) (sample (4 * a .y + c .before .before .loop .r)) (edgeAt (a .scratch .now) (a .i)) (c .start .result) (begun-at c) in
     (h, clean (c .start .result .by) (omega (arith, h)))
 
 load-requires : tie.Need-load-requires Inv-loop μ-loop
 load-requires c κs = search needs
+
+misses-requires : tie.Need-misses-requires Inv-loop μ-loop
+misses-requires c κs = search needs
+
+same-length : tie.Need-same-length Inv-loop μ-loop
+same-length c = search needs
+
+returns : tie.Need-returns Inv-loop μ-loop
+returns c =
+    let s = c .before .before .before .before .before .before .before in
+    let a = s .args in
+    let w = length (a .cover .now) in
+    let q = sym (tested (c .before)) ∙ c .if1 .taken in
+    (miss-sums (a .n) w (a .c) (a .y) (a .scratch .now) (s .pre .1 .0 .room) (a .i) q (s .pre .1 .1 .0), miss-marks (a .n) w (a .c) (a .y) (a .scratch .now) (s .pre .1 .0 .room) (a .i) q (a .cover .now) (s .pre .1 .1 .1))
 
 mul-base : tie.Need-mul-base Inv-loop μ-loop
 mul-base c = search needs
@@ -62,7 +87,7 @@ mul-k c = search needs
 
 loop-holds : tie.Need-loop-holds Inv-loop μ-loop
 loop-holds c =
-    let s = c .before .before .before in
+    let s = c .before .before .before .before .before .before .before in
     let a = s .args in
     let w = length (a .cover .now) in (
       search needs,
@@ -89,14 +114,14 @@ cast-start c = search needs
 
 start-requires : tie.Need-start-requires Inv-loop μ-loop
 start-requires c κs =
-    let s = c .before .before .before .before .before in
+    let s = c .before .before .before .before .before .before .before .before .before in
     let a = s .args in
     let l = c .before .loop in
-    (subst Small (sym (c .before .before .load .ensures)) (s .pre .1 .0 .small (a .i) (omega arith)), (subst (λ (z : ℤ). natAbs z ≤ 8388608) (sym (line (a .y) (l .r) (omega arith) (omega arith))) (omega arith), s .pre .0 .2))
+    (subst Small (sym (c .before .before .before .before .before .before .load .ensures)) (s .pre .1 .0 .small (a .i) (omega arith)), (subst (λ (z : ℤ). natAbs z ≤ 8388608) (sym (line (a .y) (l .r) (omega arith) (omega arith))) (omega arith), s .pre .0 .2))
 
 put-requires : tie.Need-put-requires Inv-loop μ-loop
 put-requires c κs =
-    let s = c .before .before .before .before .before .before .before .before .before in
+    let s = c .before .before .before .before .before .before .before .before .before .before .before .before .before in
     let a = s .args in
     let l = c .before .before .before .before .before .loop in
     let t = c .before .before .before in
@@ -113,7 +138,7 @@ loop-less c = search needs
 
 loop-again : tie.Need-loop-again Inv-loop μ-loop
 loop-again c =
-    let s = c .before .before .before .before .before .before .before .before .before .before .before .before .before in
+    let s = c .before .before .before .before .before .before .before .before .before .before .before .before .before .before .before .before .before in
     let a = s .args in
     let l = c .before .before .before .before .before .before .before .before .before .loop in
     let t = c .before .before .before .before .before .before .before in
@@ -128,15 +153,15 @@ loop-again c =
       next-marks (a .n) w (a .c) (a .y) (a .scratch .now) (s .pre .1 .0 .room) (a .i) (l .r) (omega arith) (t .start .result) (begun-at t) (l .cover) (p .last .1 .1 .0) (p .ensures .1) (l .inv .4),
     )
 
-same-length : tie.Need-same-length Inv-loop μ-loop
-same-length c = search needs
-
 same-length-2 : tie.Need-same-length-2 Inv-loop μ-loop
 same-length-2 c = search needs
 
-returns : tie.Need-returns Inv-loop μ-loop
-returns c =
-    let s = c .before .before .before .before .before in
+same-length-3 : tie.Need-same-length-3 Inv-loop μ-loop
+same-length-3 c = search needs
+
+returns-2 : tie.Need-returns-2 Inv-loop μ-loop
+returns-2 c =
+    let s = c .before .before .before .before .before .before .before .before .before in
     let a = s .args in
     let l = c .before .loop in
     let w = length (a .cover .now) in (
@@ -151,6 +176,9 @@ add-edge-spec =
     Inv-loop
     μ-loop
     load-requires
+    misses-requires
+    same-length
+    returns
     mul-base
     mul-k
     loop-holds
@@ -164,6 +192,6 @@ add-edge-spec =
     add-r
     loop-less
     loop-again
-    same-length
     same-length-2
-    returns)
+    same-length-3
+    returns-2)

@@ -33,8 +33,8 @@ loop-holds c =
       no-marks (a .n) w (a .c) (a .y) (a .scratch .now) (s .pre .1 .0 .room) (a .cover .now),
     )
 
-add-if-active-requires : tie.Need-add-if-active-requires Inv-loop μ-loop
-add-if-active-requires c κs =
+add-edge-requires : tie.Need-add-edge-requires Inv-loop μ-loop
+add-edge-requires c κs =
     let s = c .before .before .before .before .before in
     let a = s .args in
     let l = c .before .before .before .loop in (
@@ -53,7 +53,7 @@ loop-again c =
     let s = c .before .before .before .before .before .before .before .before .before in
     let a = s .args in
     let l = c .before .before .before .before .before .before .before .loop in
-    let g = c .before .before .before .add-if-active in
+    let g = c .before .before .before .add-edge in
     let w = length (a .cover .now) in (
       search needs,
       omega (arith, g .kept .0, l .inv .1),
@@ -84,7 +84,7 @@ add-edges-spec =
     Inv-loop
     μ-loop
     loop-holds
-    add-if-active-requires
+    add-edge-requires
     add-i
     loop-less
     loop-again
