@@ -123,8 +123,9 @@ typedef struct wayramesh_answer {
  *   scratch, scratch_len  Working memory of at least WAYRAMESH_SCRATCH_NUMBERS numbers. What it holds before the call
  *                         does not matter.
  *
- * No pointer may be NULL; one to a run of length 0 is not read or written. A panel takes a few milliseconds; the largest
- * scene that the format allows, 64 draws of 2,048 edges each over 1,024 by 1,024 pixels, takes near a second.
+ * No pointer may be NULL; one to a run of length 0 is not read or written. A panel takes some milliseconds; the largest
+ * scene that the format allows, 64 draws of 2,048 edges each over 1,024 by 1,024 pixels, takes more than a second, and
+ * less with more scratch (docs/SPEED.md).
  */
 wayramesh_answer wayramesh_draw(const uint8_t *scene, size_t scene_len,
                                 uint8_t *surface, size_t surface_len,
