@@ -2,21 +2,28 @@
  * wayramesh.h: the C interface of Wayramesh, a verified renderer for instrument panels.
  *
  * A scene file goes in, and pixels come out. wayramesh_draw draws a scene in full. wayramesh_redraw takes a surface
- * from one scene to the next and writes only the area in which they may differ.
+ * from one scene to the next by drawing only the area in which they may differ. The scene file's format is paper 01's,
+ * "The scene file".
  *
- * Link with libwayramesh.a. The library allocates nothing, keeps nothing between calls, does no input or output, and
- * always returns. Calls that share no writable buffer may run at the same time. examples/panel.c is a whole program.
+ * Link with libwayramesh.a (x86-64; it needs memcpy and memset of the C library). The library allocates nothing, keeps
+ * nothing between calls, and does no input or output. examples/panel.c is a whole program.
  *
  * What is proved of both functions, for every input:
  *
- *   1. A refused call writes neither the surface nor the scratch. An accepted call leaves every number of the scratch
- *      zero.
- *   2. An accepted wayramesh_draw leaves the picture of the scene in the surface, whatever surface and scratch held.
- *   3. An accepted wayramesh_redraw leaves the new scene's picture in the area that it answers, and every byte outside
- *      that area as it was. If the surface held the old scene's picture, it holds the whole of the new one's.
+ *   1. The call returns, and its seven numbers are those of the rules below: which calls are refused, with which code,
+ *      draw and scene number, and which area an accepted one answers.
+ *   2. After a refused call surface and scratch hold what they held. After an accepted call every number of the scratch
+ *      is zero.
+ *   3. After an accepted wayramesh_draw the surface holds the picture of the scene, whatever surface and scratch held.
+ *   4. After an accepted wayramesh_redraw the surface holds the new scene's picture in the area that is answered, and
+ *      outside it every byte that it held. If it held the old scene's picture, it holds the whole of the new one's.
  *
- * The scenes are never written. What the proof takes for granted is what C cannot check: that each pointer comes with
- * the number of items that lie there, and that surface and scratch overlap neither each other nor a scene.
+ * The scenes are not changed. This speaks of what the buffers hold when a call has returned: while it runs, the area
+ * shows the background and part of the draws, so a display that reads the surface meanwhile may show that.
+ *
+ * What the proof takes for granted: that each pointer is not NULL, is aligned for its type and comes with the number of
+ * items that lie there; that no buffer overlaps surface or scratch, and no one else uses these two during the call; that
+ * there are 32 KiB of stack; and that compiler and machine do what they should.
  */
 
 #ifndef WAYRAMESH_H
@@ -30,10 +37,10 @@ extern "C" {
 #endif
 
 /*
- * Codes. Every call returns one of these and no other. A scene is judged from its start to its end, and the first rule
- * that it breaks decides; then come the surface and the scratch, in this order:
+ * Codes. Every call returns one of these and no other (proved too). A scene is judged from its start to its end, and the
+ * first rule that it breaks decides; then come the surface and the scratch, in this order:
  *
- *   the length of the file, as far as it can be judged without reading    WAYRAMESH_BAD_LENGTH
+ *   the length of the file: at least 512, and a multiple of 512           WAYRAMESH_BAD_LENGTH
  *   the check of block 0                                                  WAYRAMESH_BAD_CHECKSUM
  *   the fields of block 0, in order                                       WAYRAMESH_ILLEGAL_ARGUMENT
  *   the length that the number of draws asks for                          WAYRAMESH_BAD_LENGTH
@@ -91,9 +98,10 @@ extern "C" {
  *   scene    1 if the new scene of a redraw broke a rule or its size differs from the old one's; else 0.
  *   x, y, width, height
  *            The pixels that an accepted call has drawn: columns x to x + width - 1 and rows y to y + height - 1, where
- *            row 0 is the lowest. A full drawing answers the whole surface. A redraw answers the smallest rectangle
- *            round the old and new bounds of every changed draw, or the whole surface if the background changed; all
- *            four are 0 where nothing was to be drawn, and in every refusal.
+ *            row 0 is the lowest. They lie on the surface. A full drawing answers the whole surface. A redraw answers
+ *            the smallest rectangle that holds the old and the new box of every changed draw, or the whole surface if
+ *            the background changed; all four are 0 where no such box has a pixel, and in every refusal. A draw's box
+ *            is that of its path's edges, in whole pixels, cut to the surface; scissors do not count.
  */
 typedef struct wayramesh_answer {
     uint32_t code;
@@ -115,7 +123,9 @@ typedef struct wayramesh_answer {
  *   scratch, scratch_len  Working memory of at least WAYRAMESH_SCRATCH_NUMBERS numbers. What it holds before the call
  *                         does not matter.
  *
- * No pointer may be NULL. A pointer to a run of length 0 is not read or written.
+ * No pointer may be NULL; one to a run of length 0 is not read or written. A panel takes some milliseconds; the largest
+ * scene that the format allows, 64 draws of 2,048 edges each over 1,024 by 1,024 pixels, takes more than a second, and
+ * less with more scratch (docs/SPEED.md).
  */
 wayramesh_answer wayramesh_draw(const uint8_t *scene, size_t scene_len,
                                 uint8_t *surface, size_t surface_len,
@@ -127,7 +137,7 @@ wayramesh_answer wayramesh_draw(const uint8_t *scene, size_t scene_len,
  *   old, old_len          The scene file that the surface was drawn from.
  *   new_scene, new_len    The scene file to show next, of the same width and height. The two may be the same bytes in
  *                         memory.
- *   surface, surface_len  As in wayramesh_draw. Only pixels of the answered area are written.
+ *   surface, surface_len  As in wayramesh_draw. Pixels outside the answered area are as before.
  *   scratch, scratch_len  As in wayramesh_draw.
  *
  * Draws are compared by number and by bytes: a draw counts as changed if any byte of its fields or path differs, or only

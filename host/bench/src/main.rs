@@ -72,18 +72,19 @@ fn print_stages(workload: &Workload, budget: Duration) {
     let versions = Versions::of(&workload.scene);
     let mut surface = vec![0; workload.surface_bytes];
     let mut scratch = vec![0; library::SCRATCH_NUMBERS];
-    let [mut judged, mut bare, mut outside, mut hidden, mut full] = [Duration::MAX; 5];
+    let [mut judged, mut bare, mut outside, mut framed, mut hidden, mut full] = [Duration::MAX; 6];
     let begin = Instant::now();
     let mut turns = 0;
     while turns < 4 || begin.elapsed() < budget {
-        let (answer, time) = timed(|| library::draw(&versions.judged, &mut surface, &mut []));
+        let (answer, time) = timed(|| library::draw(&versions.full, &mut surface, &mut []));
         assert_eq!(answer.code, library::OUT_OF_MEMORY, "{}", workload.name);
         judged = judged.min(time);
         for (scene, least) in [
             (&versions.bare, &mut bare),
             (&versions.outside, &mut outside),
+            (&versions.framed, &mut framed),
             (&versions.hidden, &mut hidden),
-            (&versions.judged, &mut full),
+            (&versions.full, &mut full),
         ] {
             let (answer, time) = timed(|| library::draw(scene, &mut surface, &mut scratch));
             assert_eq!(answer.code, 0, "{}", workload.name);
@@ -91,12 +92,13 @@ fn print_stages(workload: &Workload, budget: Duration) {
         }
         turns += 1;
     }
+    let colors = framed.saturating_sub(hidden);
     for (name, time) in [
         ("rules", judged),
         ("background", bare),
         ("edges", outside.saturating_sub(judged + bare)),
-        ("coverage", hidden.saturating_sub(outside)),
-        ("paint, blend", full.saturating_sub(hidden)),
+        ("coverage", full.saturating_sub(outside + colors)),
+        ("paint, blend", colors),
     ] {
         println!("  {:<12} {} {:>9.1}%", name, micros(time), 100.0 * time.as_secs_f64() / full.as_secs_f64());
     }

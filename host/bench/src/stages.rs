@@ -1,19 +1,26 @@
 //! Where a full drawing's time goes, seen from outside: the same scene is drawn in versions that stop short of a stage,
 //! and a stage's time is the difference of two of them.
 
-use scene::Scene;
+use scene::{PaintType, Scene, Scissor};
 
-/// A version of a scene, and the stages that drawing it takes.
+/// Versions of a scene that take some of the stages.
 pub struct Versions {
-    /// Refused for want of scratch, once all rules have passed: the rules alone.
-    pub judged: Vec<u8>,
+    /// The scene itself. With no scratch it is refused once all rules have passed: the rules alone.
+    pub full: Vec<u8>,
     /// No draws: the background, and the rules of one block.
     pub bare: Vec<u8>,
     /// Every path moved to the right of the surface, where its box is empty: rules, background and edges.
     pub outside: Vec<u8>,
-    /// Scissoring on with no rectangle: all but paint and blending, since every k is 0.
+    /// Scissors that hide nothing: all stages, and the scissors' own time.
+    pub framed: Vec<u8>,
+    /// Scissors that hide everything, and no gradients: every k is 0, so all but paint and blending, and the scissors' own time.
     pub hidden: Vec<u8>,
 }
+
+/// Below and left of every surface.
+const NOWHERE: Scissor = Scissor { x: -2, y: -2, width: 1, height: 1 };
+
+const EVERYWHERE: Scissor = Scissor { x: 0, y: 0, width: 1_024, height: 1_024 };
 
 impl Versions {
     pub fn of(scene: &Scene) -> Versions {
@@ -23,11 +30,24 @@ impl Versions {
         for draw in &mut outside.draws {
             draw.matrix[4] += 2.0 * 1_024.0;
         }
+        let mut framed = scene.clone();
         let mut hidden = scene.clone();
-        for draw in &mut hidden.draws {
+        for draw in framed.draws.iter_mut().chain(&mut hidden.draws) {
             draw.scissoring = true;
-            draw.scissors.clear();
+            draw.scissors = vec![NOWHERE; 4];
         }
-        Versions { judged: scene.bytes(), bare: bare.bytes(), outside: outside.bytes(), hidden: hidden.bytes() }
+        for draw in &mut framed.draws {
+            draw.scissors[3] = EVERYWHERE;
+        }
+        for draw in &mut hidden.draws {
+            draw.paint = PaintType::Color;
+        }
+        Versions {
+            full: scene.bytes(),
+            bare: bare.bytes(),
+            outside: outside.bytes(),
+            framed: framed.bytes(),
+            hidden: hidden.bytes(),
+        }
     }
 }
