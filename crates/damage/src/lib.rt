@@ -1,6 +1,7 @@
 // The redrawn area of a change from one scene to another.
 use color::Pixel;
 use rect::Rect;
+use scene::layout::DRAW_BYTES;
 ghost use mathlib.Core.Path.{_≡_};
 ghost use mathlib.Core.List.{foldl};
 ghost use Prim.Native.Nat.{_≤_, max};
@@ -163,8 +164,8 @@ pub fn damage(old: &[u8], new: &[u8], scratch: &mut [i32], width: usize, height:
     ensures { λ r. ⌜ now (scratch .exit) ≡ now (scratch .entry) ⌝ }
 {
     if same_background(old, new) {
-        let mut d = [0u8; 2032];
-        let mut e = [0u8; 2032];
+        let mut d = [0u8; DRAW_BYTES];
+        let mut e = [0u8; DRAW_BYTES];
         return changed_boxes(old, new, &mut d, &mut e, scratch, width, height);
     }
     Rect {

@@ -3,6 +3,7 @@ use crate::brush::paint_outline;
 use crate::edges::clear_edges;
 use crate::edges::lay_edges;
 use rect::Rect;
+use scene::layout::DRAW_BYTES;
 ghost use mathlib.Core.Path.{_≡_};
 ghost use Prim.Native.Nat.{_*_, _≤_};
 ghost use lib.IntN.{pos};
@@ -106,6 +107,6 @@ pub fn paint_area(
         a,
         scene::header::background(scene).premultiplied(),
     );
-    let mut d = [0u8; 2032];
+    let mut d = [0u8; DRAW_BYTES];
     paint_draws(surface, scratch, scene, &mut d, width, height, n, a);
 }
