@@ -9,9 +9,6 @@ ghost use Rattle.console.specs.Sizes.{noSize, Allowed, mostBytes, pictur
 // The bytes of the largest surface.
 pub const SURFACE_BYTES: usize = 4194304;
 
-// The numbers of the least scratch that a call takes.
-pub const SCRATCH_NUMBERS: usize = 12300;
-
 // The size that the scene's first block gives, or 0 by 0 where the scene is too short for it or the picture too large. An accepted scene has
 // the size of its picture; the surface's length does not matter for another.
 pub fn picture_size(s: &[u8]) -> Size

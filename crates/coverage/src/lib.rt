@@ -2,7 +2,7 @@
 mod column;
 pub mod cover;
 mod edges;
-mod fill;
+pub mod fill;
 mod samples;
 pub mod scissors;
 

@@ -5,13 +5,13 @@ use scene::layout::DRAW_BYTES;
 ghost use mathlib.Core.Path.{_≡_};
 ghost use mathlib.Core.List.{foldl};
 ghost use Prim.Native.Nat.{_≤_, max};
-ghost use lib.IntN.{pos};
-ghost use lib.ListN.{length, replicate};
+ghost use lib.ListN.{length};
 ghost use Rattle.rect.specs.Rects.{On, joinOf, smallest};
 ghost use Rattle.scene.specs.Layout.{drawBytes};
 ghost use Rattle.scene.specs.Header.{countOf};
 ghost use Rattle.scene.specs.Accepted.{AcceptedScene};
 ghost use Rattle.damage.specs.Damage.{changedAt, boxAt, boxesAt, changedBoxes, sameBytes, sameBackground, damageOf};
+ghost use Rattle.engine.specs.Rows.{Blank};
 
 // The box of draw i, if the scene has it; d is a buffer for a draw.
 fn box_at(
@@ -23,7 +23,7 @@ fn box_at(
     height: usize,
 ) -> Rect
     requires { ⌜ AcceptedScene (now s) × (length (now d) ≡ drawBytes) ⌝ }
-    requires { ⌜ (12300 ≤ length (now scratch)) × (now scratch ≡ replicate (length (now scratch)) (pos 0)) ⌝ }
+    requires { ⌜ Blank (now scratch) ⌝ }
     requires { ⌜ (width ≤ 1024) × (height ≤ 1024) ⌝ }
     ensures { λ r. ⌜ (r ≡ boxAt width height (now (s .entry)) i) × ((r .x1 ≤ width) × (r .y1 ≤ height)) ⌝ }
     ensures { λ r. ⌜ now (scratch .exit) ≡ now (scratch .entry) ⌝ }
@@ -74,7 +74,7 @@ fn grow(
 ) -> Rect
     requires { ⌜ AcceptedScene (now old) × AcceptedScene (now new) ⌝ }
     requires { ⌜ (length (now d) ≡ drawBytes) × (length (now e) ≡ drawBytes) ⌝ }
-    requires { ⌜ (12300 ≤ length (now scratch)) × (now scratch ≡ replicate (length (now scratch)) (pos 0)) ⌝ }
+    requires { ⌜ Blank (now scratch) ⌝ }
     requires { ⌜ On width height a × ((width ≤ 1024) × (height ≤ 1024)) ⌝ }
     ensures { λ r. ⌜ (r ≡ foldl joinOf a (boxesAt width height (now (old .entry)) (now (new .entry)) i)) × On width height r ⌝ }
     ensures { λ r. ⌜ now (scratch .exit) ≡ now (scratch .entry) ⌝ }
@@ -110,7 +110,7 @@ fn changed_boxes(
 ) -> Rect
     requires { ⌜ AcceptedScene (now old) × AcceptedScene (now new) ⌝ }
     requires { ⌜ (length (now d) ≡ drawBytes) × (length (now e) ≡ drawBytes) ⌝ }
-    requires { ⌜ (12300 ≤ length (now scratch)) × (now scratch ≡ replicate (length (now scratch)) (pos 0)) ⌝ }
+    requires { ⌜ Blank (now scratch) ⌝ }
     requires { ⌜ (width ≤ 1024) × (height ≤ 1024) ⌝ }
     ensures { λ r. ⌜ (r ≡ smallest (changedBoxes width height (now (old .entry)) (now (new .entry)))) × On width height r ⌝ }
     ensures { λ r. ⌜ now (scratch .exit) ≡ now (scratch .entry) ⌝ }
@@ -159,7 +159,7 @@ fn same_bytes(p: Pixel, q: Pixel) -> bool
 pub fn damage(old: &[u8], new: &[u8], scratch: &mut [i32], width: usize, height: usize) -> Rect
     requires { ⌜ AcceptedScene (now old) × AcceptedScene (now new) ⌝ }
     requires { ⌜ (width ≤ 1024) × (height ≤ 1024) ⌝ }
-    requires { ⌜ (12300 ≤ length (now scratch)) × (now scratch ≡ replicate (length (now scratch)) (pos 0)) ⌝ }
+    requires { ⌜ Blank (now scratch) ⌝ }
     ensures { λ r. ⌜ (r ≡ damageOf width height (now (old .entry)) (now (new .entry))) × On width height r ⌝ }
     ensures { λ r. ⌜ now (scratch .exit) ≡ now (scratch .entry) ⌝ }
 {

@@ -20,7 +20,7 @@ use Rattle.scene.specs.Accepted.{AcceptedDraw}
 use Rattle.engine.specs.Picture.{drawEdges}
 use Rattle.engine.specs.Rows.{Laid}
 
-zeros-table : (n : ℕ) → replicate n (pos 0) ≡ tab n (λ j. pos 0)
+pub zeros-table : (n : ℕ) → replicate n (pos 0) ≡ tab n (λ j. pos 0)
 zeros-table zero = refl
 zeros-table (suc n) = sym (ap (λ (k : ℕ). replicate k (pos 0)) (add-one n)) ∙ sym (replicate-append-replicate n 1 (pos 0)) ∙ ap (λ (l : List ℤ). l ++ (pos 0 ∷ [])) (zeros-table n)
 

@@ -6,16 +6,14 @@ use paint::LinearPoints;
 use paint::Paint;
 use rect::Rect;
 ghost use mathlib.Core.Path.{_≡_};
-ghost use Prim.Native.Nat.{_*_, _≤_};
 ghost use lib.ListN.{length};
-ghost use Rattle.rect.specs.Rects.{On};
 ghost use Rattle.raster.specs.Surface.{pixelOf, overlay};
 ghost use Rattle.paint.specs.declared.Paint.the-variants.{Linear};
 ghost use Rattle.scene.specs.Layout.{drawBytes};
 ghost use Rattle.scene.specs.Fields.{paintOf};
 ghost use Rattle.scene.specs.Accepted.{AcceptedDraw};
 ghost use Rattle.engine.specs.Picture.{drawStep};
-ghost use Rattle.engine.specs.Rows.{Laid};
+ghost use Rattle.engine.specs.Rows.{Laid, Part};
 
 // The draw, at every pixel of a.
 pub fn paint_outline(
@@ -29,7 +27,7 @@ pub fn paint_outline(
 )
     requires { ⌜ (length (now d) ≡ drawBytes) × AcceptedDraw (now d) ⌝ }
     requires { ⌜ Laid (now d) (now scratch) n ⌝ }
-    requires { ⌜ (length (now surface) ≡ height * (width * 4)) × (On width height a × ((width ≤ 1024) × (height ≤ 1024))) ⌝ }
+    requires { ⌜ Part width height a (now surface) ⌝ }
     ensures { λ _. ⌜ now (scratch .exit) ≡ now (scratch .entry) ⌝ }
     ensures { λ _. ⌜ now (surface .exit) ≡ overlay width height a (λ x y. drawStep (now (d .entry)) x y (pixelOf width (now (surface .entry)) x y)) (now (surface .entry)) ⌝ }
 {
@@ -70,7 +68,7 @@ fn paint_linear(
 )
     requires { ⌜ (length (now d) ≡ drawBytes) × AcceptedDraw (now d) ⌝ }
     requires { ⌜ Laid (now d) (now scratch) n ⌝ }
-    requires { ⌜ (length (now surface) ≡ height * (width * 4)) × (On width height a × ((width ≤ 1024) × (height ≤ 1024))) ⌝ }
+    requires { ⌜ Part width height a (now surface) ⌝ }
     requires { ⌜ paintOf (now d) ≡ Linear p ⌝ }
     ensures { λ _. ⌜ now (scratch .exit) ≡ now (scratch .entry) ⌝ }
     ensures { λ _. ⌜ now (surface .exit) ≡ overlay width height a (λ x y. drawStep (now (d .entry)) x y (pixelOf width (now (surface .entry)) x y)) (now (surface .entry)) ⌝ }

@@ -5,16 +5,13 @@ use crate::edges::lay_edges;
 use rect::Rect;
 use scene::layout::DRAW_BYTES;
 ghost use mathlib.Core.Path.{_≡_};
-ghost use Prim.Native.Nat.{_*_, _≤_};
-ghost use lib.IntN.{pos};
-ghost use lib.ListN.{length, replicate};
-ghost use Rattle.rect.specs.Rects.{On};
+ghost use lib.ListN.{length};
 ghost use Rattle.raster.specs.Surface.{pixelOf, overlay};
 ghost use Rattle.scene.specs.Layout.{drawBytes};
 ghost use Rattle.scene.specs.Header.{countOf};
 ghost use Rattle.scene.specs.Accepted.{AcceptedDraw, AcceptedScene};
 ghost use Rattle.engine.specs.Picture.{drawStep, drawAll, firstDraws, pixelAt};
-ghost use Rattle.engine.specs.Rows.{Laid};
+ghost use Rattle.engine.specs.Rows.{Laid, Blank, Part};
 
 // A draw whose edges lie in the scratch, at every pixel of a; only its box is gone through.
 fn paint_inside(
@@ -28,7 +25,7 @@ fn paint_inside(
 )
     requires { ⌜ (length (now d) ≡ drawBytes) × AcceptedDraw (now d) ⌝ }
     requires { ⌜ Laid (now d) (now scratch) n ⌝ }
-    requires { ⌜ (length (now surface) ≡ height * (width * 4)) × (On width height a × ((width ≤ 1024) × (height ≤ 1024))) ⌝ }
+    requires { ⌜ Part width height a (now surface) ⌝ }
     ensures { λ _. ⌜ now (scratch .exit) ≡ now (scratch .entry) ⌝ }
     ensures { λ _. ⌜ now (surface .exit) ≡ overlay width height a (λ x y. drawStep (now (d .entry)) x y (pixelOf width (now (surface .entry)) x y)) (now (surface .entry)) ⌝ }
 {
@@ -49,8 +46,8 @@ fn paint_draw(
     a: Rect,
 )
     requires { ⌜ (length (now d) ≡ drawBytes) × AcceptedDraw (now d) ⌝ }
-    requires { ⌜ (12300 ≤ length (now scratch)) × (now scratch ≡ replicate (length (now scratch)) (pos 0)) ⌝ }
-    requires { ⌜ (length (now surface) ≡ height * (width * 4)) × (On width height a × ((width ≤ 1024) × (height ≤ 1024))) ⌝ }
+    requires { ⌜ Blank (now scratch) ⌝ }
+    requires { ⌜ Part width height a (now surface) ⌝ }
     ensures { λ _. ⌜ now (scratch .exit) ≡ now (scratch .entry) ⌝ }
     ensures { λ _. ⌜ now (surface .exit) ≡ overlay width height a (λ x y. drawStep (now (d .entry)) x y (pixelOf width (now (surface .entry)) x y)) (now (surface .entry)) ⌝ }
 {
@@ -71,8 +68,8 @@ fn paint_draws(
     a: Rect,
 )
     requires { ⌜ AcceptedScene (now scene) × ((n ≡ countOf (now scene)) × (length (now d) ≡ drawBytes)) ⌝ }
-    requires { ⌜ (12300 ≤ length (now scratch)) × (now scratch ≡ replicate (length (now scratch)) (pos 0)) ⌝ }
-    requires { ⌜ (length (now surface) ≡ height * (width * 4)) × (On width height a × ((width ≤ 1024) × (height ≤ 1024))) ⌝ }
+    requires { ⌜ Blank (now scratch) ⌝ }
+    requires { ⌜ Part width height a (now surface) ⌝ }
     ensures { λ _. ⌜ now (scratch .exit) ≡ now (scratch .entry) ⌝ }
     ensures { λ _. ⌜ now (surface .exit) ≡ overlay width height a (λ x y. drawAll (firstDraws (now (scene .entry)) n) x y (pixelOf width (now (surface .entry)) x y)) (now (surface .entry)) ⌝ }
 {
@@ -95,8 +92,8 @@ pub fn paint_area(
     a: Rect,
 )
     requires { ⌜ AcceptedScene (now scene) × (n ≡ countOf (now scene)) ⌝ }
-    requires { ⌜ (12300 ≤ length (now scratch)) × (now scratch ≡ replicate (length (now scratch)) (pos 0)) ⌝ }
-    requires { ⌜ (length (now surface) ≡ height * (width * 4)) × (On width height a × ((width ≤ 1024) × (height ≤ 1024))) ⌝ }
+    requires { ⌜ Blank (now scratch) ⌝ }
+    requires { ⌜ Part width height a (now surface) ⌝ }
     ensures { λ _. ⌜ now (scratch .exit) ≡ now (scratch .entry) ⌝ }
     ensures { λ _. ⌜ now (surface .exit) ≡ overlay width height a (pixelAt (now (scene .entry))) (now (surface .entry)) ⌝ }
 {

@@ -9,17 +9,13 @@ ghost use Rattle.path.specs.Boxes.{boxOf};
 ghost use Rattle.scene.specs.Layout.{drawBytes};
 ghost use Rattle.scene.specs.Accepted.{AcceptedDraw};
 ghost use Rattle.engine.specs.Picture.{drawEdges};
-ghost use Rattle.engine.specs.Rows.{Laid};
+ghost use Rattle.engine.specs.Rows.{Laid, Blank};
 
 // Zeros.
 pub fn clear(s: &mut [i32])
     ensures { λ _. ⌜ now (s .exit) ≡ replicate (length (now (s .entry))) (pos 0) ⌝ }
 {
-    let mut i = 0;
-    while i < s.len() {
-        s[i] = 0;
-        i += 1;
-    }
+    coverage::fill::zero_numbers(s);
 }
 
 // Zeros in place of the n edges.
@@ -34,7 +30,7 @@ pub fn clear_edges(scratch: &mut [i32], n: usize)
 // The edges of a draw, laid into zeros. How many there are.
 pub fn lay_edges(scratch: &mut [i32], d: &[u8]) -> usize
     requires { ⌜ (length (now d) ≡ drawBytes) × AcceptedDraw (now d) ⌝ }
-    requires { ⌜ (12300 ≤ length (now scratch)) × (now scratch ≡ replicate (length (now scratch)) (pos 0)) ⌝ }
+    requires { ⌜ Blank (now scratch) ⌝ }
     ensures { λ r. ⌜ Laid (now (d .entry)) (now (scratch .exit)) r ⌝ }
     ensures { λ r. ⌜ replicate (r * 4) (pos 0) ++ drop (r * 4) (now (scratch .exit)) ≡ now (scratch .entry) ⌝ }
 {
@@ -50,7 +46,7 @@ pub fn lay_edges(scratch: &mut [i32], d: &[u8]) -> usize
 // The box of a draw, cut to the surface.
 pub fn draw_bounds(scratch: &mut [i32], d: &[u8], width: usize, height: usize) -> Rect
     requires { ⌜ (length (now d) ≡ drawBytes) × AcceptedDraw (now d) ⌝ }
-    requires { ⌜ (12300 ≤ length (now scratch)) × (now scratch ≡ replicate (length (now scratch)) (pos 0)) ⌝ }
+    requires { ⌜ Blank (now scratch) ⌝ }
     requires { ⌜ (width ≤ 1024) × (height ≤ 1024) ⌝ }
     ensures { λ r. ⌜ r ≡ boxOf width height (drawEdges (now (d .entry))) ⌝ }
     ensures { λ _. ⌜ now (scratch .exit) ≡ now (scratch .entry) ⌝ }

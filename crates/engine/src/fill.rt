@@ -6,12 +6,11 @@ use rect::Rect;
 ghost use mathlib.Core.Path.{_≡_};
 ghost use Prim.Native.Nat.{_*_, _≤_};
 ghost use lib.ListN.{length};
-ghost use Rattle.rect.specs.Rects.{On};
 ghost use Rattle.raster.specs.Surface.{pixelOf, overlay};
 ghost use Rattle.scene.specs.Layout.{drawBytes};
 ghost use Rattle.scene.specs.Fields.{scissorCount, scissorsOf};
 ghost use Rattle.engine.specs.Picture.{drawEdges};
-ghost use Rattle.engine.specs.Rows.{stepWith, shadeAt, Shaded, styleOf, Laid};
+ghost use Rattle.engine.specs.Rows.{stepWith, shadeAt, Shaded, styleOf, Laid, Part};
 
 // How the draw is filled.
 fn style(d: &[u8]) -> Style
@@ -44,7 +43,7 @@ fn fill_with(
     requires { ⌜ (length (now d) ≡ drawBytes) × (scissorCount (now d) ≤ 4) ⌝ }
     requires { ⌜ Laid (now d) (now scratch) n ⌝ }
     requires { ⌜ Shaded shade (now offsets) (now colors) ⌝ }
-    requires { ⌜ (length (now surface) ≡ height * (width * 4)) × (On width height a × ((width ≤ 1024) × (height ≤ 1024))) ⌝ }
+    requires { ⌜ Part width height a (now surface) ⌝ }
     requires { ⌜ (length (now cover) ≡ 1024) × (length (now paints) ≡ 4096) ⌝ }
     ensures { λ _. ⌜ now (scratch .exit) ≡ now (scratch .entry) ⌝ }
     ensures { λ _. ⌜ now (surface .exit) ≡ overlay width height a (λ x y. stepWith (styleOf (now (d .entry))) (drawEdges (now (d .entry))) (scissorsOf (now (d .entry))) (shadeAt shade (now (offsets .entry)) (now (colors .entry))) x y (pixelOf width (now (surface .entry)) x y)) (now (surface .entry)) ⌝ }
@@ -84,7 +83,7 @@ pub fn fill(
     requires { ⌜ (length (now d) ≡ drawBytes) × (scissorCount (now d) ≤ 4) ⌝ }
     requires { ⌜ Laid (now d) (now scratch) n ⌝ }
     requires { ⌜ Shaded shade (now offsets) (now colors) ⌝ }
-    requires { ⌜ (length (now surface) ≡ height * (width * 4)) × (On width height a × ((width ≤ 1024) × (height ≤ 1024))) ⌝ }
+    requires { ⌜ Part width height a (now surface) ⌝ }
     ensures { λ _. ⌜ now (scratch .exit) ≡ now (scratch .entry) ⌝ }
     ensures { λ _. ⌜ now (surface .exit) ≡ overlay width height a (λ x y. stepWith (styleOf (now (d .entry))) (drawEdges (now (d .entry))) (scissorsOf (now (d .entry))) (shadeAt shade (now (offsets .entry)) (now (colors .entry))) x y (pixelOf width (now (surface .entry)) x y)) (now (surface .entry)) ⌝ }
 {

@@ -6,12 +6,11 @@ ghost use mathlib.Core.Path.{_≡_};
 ghost use Prim.Native.Nat.{_+_, _-_, _*_, _≤_, _<_};
 ghost use lib.ListN.{length};
 ghost use Rattle.lists.specs.Lists.{tab};
-ghost use Rattle.rect.specs.Rects.{On};
 ghost use Rattle.raster.specs.Surface.{run, pixelIn, pixelOf, overlay};
 ghost use Rattle.path.specs.Stored.{edgesOf};
 ghost use Rattle.coverage.specs.Engine.{Ready};
 ghost use Rattle.blend.specs.Rows.{Coverage, compositeRow};
-ghost use Rattle.engine.specs.Rows.{coverageWith, stepWith, shadeAt, Shaded};
+ghost use Rattle.engine.specs.Rows.{coverageWith, stepWith, shadeAt, Shaded, Part};
 
 // k of each pixel from (x, y) on, in one row.
 fn cover_row(
@@ -113,7 +112,7 @@ pub fn draw_rect(
     requires { ⌜ Ready (now scratch) n ⌝ }
     requires { ⌜ (style .scissors ≤ 4) × (64 ≤ length (now scissors)) ⌝ }
     requires { ⌜ Shaded shade (now offsets) (now colors) ⌝ }
-    requires { ⌜ (length (now surface) ≡ height * (width * 4)) × (On width height a × ((width ≤ 1024) × (height ≤ 1024))) ⌝ }
+    requires { ⌜ Part width height a (now surface) ⌝ }
     requires { ⌜ (length (now cover) ≡ a .x1 - a .x0) × (length (now paints) ≡ (a .x1 - a .x0) * 4) ⌝ }
     ensures { λ _. ⌜ now (scratch .exit) ≡ now (scratch .entry) ⌝ }
     ensures { λ _. ⌜ now (surface .exit) ≡ overlay width height a (λ x y. stepWith style (edgesOf (now (scratch .entry)) n) (now (scissors .entry)) (shadeAt shade (now (offsets .entry)) (now (colors .entry))) x y (pixelOf width (now (surface .entry)) x y)) (now (surface .entry)) ⌝ }

@@ -25,7 +25,7 @@ colorAt stops i = record {
   a = channelByte (f32At stops (20 * i + 16));
 }
 
--- does an offset fall below the one before it, among the first n + 1?
+-- an offset falls below the one before it, among the first n + 1
 abbrev pub fallsIn : List ℕ → ℕ → Bool
 fallsIn stops zero = false
 fallsIn stops (suc n) = fallsIn stops n || lt (offsetAt stops (suc n)) (offsetAt stops n)

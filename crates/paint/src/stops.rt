@@ -14,7 +14,7 @@ ghost use Rattle.paint.specs.Buffers.{lessReal};
 
 const STOP_BYTES: usize = 20;
 
-// Does an offset fall below the one before it?
+// Whether an offset falls below the one before it.
 pub fn falls(stops: &[u8], n: usize) -> bool
     requires { ⌜ 20 * n ≤ length (now stops) ⌝ }
     ensures { λ r. ⌜ r ≡ fallsIn (now (stops .entry)) (n - 1) ⌝ }
