@@ -1,2 +1,4 @@
 pub mod Table
 pub mod Worked
+pub mod Judged
+pub mod Drawn

@@ -1,2 +1,3 @@
 -- The bench cases' inputs and the paper's numbers.
 pub mod Bench
+pub mod Scenes

@@ -1,0 +1,142 @@
+-- Scenes with draws, through the rules, the fields, the edges, the coverage, the paint, the blending and the area: the bench case's square turned from red to
+-- blue, and a curve filled with a gradient. Each is accepted, and what a call leaves and answers is given in numbers.
+use mathlib.Core.Path.{_≡_, refl, sym, _∙_}
+use mathlib.Core.List.{List}
+use mathlib.Core.Bool.{true}
+use Prim.Native.Nat.{ℕ, _≤_}
+use lib.ListN.{length, drop}
+use lib.Ieee.{lt, mul, add, ofBits, toUnsigned, isNan}
+use Rattle.rect.specs.declared.Rect.{Rect}
+use Rattle.rect.specs.Rects.{whole}
+use Rattle.color.specs.Channels.{channelByte}
+use Rattle.blend.specs.PorterDuff.{sourceFactor, destinationFactor, compositeByte}
+use Rattle.paint.specs.Gradient.{linearT, mapped}
+use Rattle.paint.specs.Ramps.{keptStops, withEnds, rampAt}
+use Rattle.paint.specs.Paints.{gradientColor, paintAt}
+use Rattle.path.specs.Segments.{pointsOf, penAfter, segmentCode}
+use Rattle.path.specs.Curves.{cut, curveEdges, pathEdges}
+use Rattle.path.specs.Boxes.{outer, outerOf, boxOf}
+use Rattle.coverage.specs.Winding.{upward, spans, atOrLeft, sign, weight, counts, winding, coverage}
+use Rattle.coverage.specs.Scissors.{scissored}
+use Rattle.scene.specs.Blocks.{checksumOf, blockRight, drawOf, sameDraw}
+use Rattle.scene.specs.Fields.{paintOf}
+use Rattle.scene.specs.Rules.{countRules, headRules, floatRules, pathRules, headerRules, drawRules}
+use Rattle.engine.specs.Picture.{drawEdges, drawCoverage, drawPaint, drawStep, pixelAt, picture}
+use Rattle.damage.specs.Damage.{changedAt, drawBox, boxAt, sameBackground, damageOf, damage}
+use Rattle.render.specs.declared.Answer.{Answer}
+use Rattle.render.specs.Answers.{acceptedAnswer, drawAnswer, drawSurface, redrawAnswer, redrawSurface, scratchNumbers, Accepted, OneSize, Lent}
+use Rattle.render.proofs.Demands.{full-drawing-accepted, full-drawing-leaves-picture, redraw-accepted, redraw-makes-picture}
+use Rattle.cases.specs.Scenes.{squareDraw, redDraw, blueDraw, curveDraw, red, blue, curve, squarePicture, redPicture, bluePicture, curvePicture, answer}
+use Rattle.cases.proofs.Judged.{block-there, lists-judged, rest-judged, draw-judged, scene-judged}
+
+-- ---- accepted: zero bytes of the draw from a place on, and how many; then every block
+red-rules : drawRules redDraw .code ≡ 0
+unfolding squareDraw ofBits isNan pointsOf penAfter segmentCode countRules headRules floatRules pathRules
+red-rules =
+    draw-judged redDraw refl refl (lists-judged redDraw 68 64 132 640 refl refl refl refl refl refl refl) refl
+    (rest-judged redDraw 777 123 910 1122 refl refl refl refl refl refl)
+
+red-accepted : Accepted red
+unfolding red squareDraw checksumOf headerRules drawOf
+red-accepted =
+    scene-judged red redDraw refl refl refl
+    (block-there red 0 (drop 0 red) refl refl refl)
+    (block-there red 1 (drop 512 red) refl refl refl)
+    (block-there red 2 (drop 1024 red) refl refl refl)
+    (block-there red 3 (drop 1536 red) refl refl refl)
+    (block-there red 4 (drop 2048 red) refl refl refl)
+    refl red-rules
+
+blue-rules : drawRules blueDraw .code ≡ 0
+unfolding squareDraw ofBits isNan pointsOf penAfter segmentCode countRules headRules floatRules pathRules
+blue-rules =
+    draw-judged blueDraw refl refl (lists-judged blueDraw 68 64 132 640 refl refl refl refl refl refl refl) refl
+    (rest-judged blueDraw 777 123 910 1122 refl refl refl refl refl refl)
+
+blue-accepted : Accepted blue
+unfolding blue squareDraw checksumOf headerRules drawOf
+blue-accepted =
+    scene-judged blue blueDraw refl refl refl
+    (block-there blue 0 (drop 0 blue) refl refl refl)
+    (block-there blue 1 (drop 512 blue) refl refl refl)
+    (block-there blue 2 (drop 1024 blue) refl refl refl)
+    (block-there blue 3 (drop 1536 blue) refl refl refl)
+    (block-there blue 4 (drop 2048 blue) refl refl refl)
+    refl blue-rules
+
+curve-rules : drawRules curveDraw .code ≡ 0
+unfolding curveDraw ofBits isNan pointsOf penAfter segmentCode countRules headRules floatRules pathRules
+curve-rules =
+    draw-judged curveDraw refl refl (lists-judged curveDraw 68 64 172 600 refl refl refl refl refl refl refl) refl
+    (rest-judged curveDraw 775 125 912 1120 refl refl refl refl refl refl)
+
+curve-accepted : Accepted curve
+unfolding curve curveDraw checksumOf headerRules drawOf
+curve-accepted =
+    scene-judged curve curveDraw refl refl refl
+    (block-there curve 0 (drop 0 curve) refl refl refl)
+    (block-there curve 1 (drop 512 curve) refl refl refl)
+    (block-there curve 2 (drop 1024 curve) refl refl refl)
+    (block-there curve 3 (drop 1536 curve) refl refl refl)
+    (block-there curve 4 (drop 2048 curve) refl refl refl)
+    refl curve-rules
+
+-- ---- the pictures, and the area of the change
+red-picture : picture red ≡ redPicture
+unfolding red squareDraw squarePicture drawOf paintOf ofBits lt mul add toUnsigned channelByte sourceFactor destinationFactor compositeByte paintAt
+    pointsOf penAfter cut curveEdges pathEdges upward spans atOrLeft sign weight counts winding coverage scissored drawEdges drawCoverage
+    drawPaint drawStep pixelAt picture
+red-picture = refl
+
+blue-picture : picture blue ≡ bluePicture
+unfolding blue squareDraw squarePicture drawOf paintOf ofBits lt mul add toUnsigned channelByte sourceFactor destinationFactor compositeByte paintAt
+    pointsOf penAfter cut curveEdges pathEdges upward spans atOrLeft sign weight counts winding coverage scissored drawEdges drawCoverage
+    drawPaint drawStep pixelAt picture
+blue-picture = refl
+
+curve-picture : picture curve ≡ curvePicture
+unfolding curve curveDraw curvePicture linearT mapped keptStops withEnds rampAt gradientColor drawOf paintOf ofBits lt mul add toUnsigned channelByte
+    sourceFactor destinationFactor compositeByte paintAt pointsOf penAfter cut curveEdges pathEdges upward spans atOrLeft sign weight counts
+    winding coverage scissored drawEdges drawCoverage drawPaint drawStep pixelAt picture
+curve-picture = refl
+
+red-blue-damage : acceptedAnswer (damage red blue) ≡ answer 0 0 3 3
+unfolding red blue squareDraw ofBits drawOf sameDraw pointsOf penAfter curveEdges pathEdges drawEdges outer outerOf boxOf changedAt drawBox boxAt
+    sameBackground damageOf
+red-blue-damage = refl
+
+-- ---- the calls, on any surface of 64 bytes with enough scratch
+module _ (surface : List ℕ) (scratch : ℕ) (size : length surface ≡ 64) (space : scratchNumbers ≤ scratch) where
+  red-lent : Lent red surface scratch
+  unfolding red
+  red-lent = record { size = size; space = space }
+
+  curve-lent : Lent curve surface scratch
+  unfolding curve
+  curve-lent = record { size = size; space = space }
+
+  pub curve-drawn : (drawAnswer curve (length surface) scratch ≡ answer 0 0 4 4) × (drawSurface curve surface scratch ≡ curvePicture)
+  unfolding curve
+  curve-drawn = (
+    full-drawing-accepted curve surface scratch curve-accepted curve-lent,
+    full-drawing-leaves-picture curve surface scratch curve-accepted curve-lent ∙ curve-picture,
+  )
+
+  red-drawn : drawSurface red surface scratch ≡ redPicture
+  red-drawn = full-drawing-leaves-picture red surface scratch red-accepted red-lent ∙ red-picture
+
+  one-size : OneSize red blue
+  unfolding red blue
+  one-size = record { width = refl; height = refl }
+
+  red-there : Lent blue redPicture scratch
+  unfolding blue squarePicture
+  red-there = record { size = refl; space = space }
+
+  pub red-turned-blue : (drawSurface red surface scratch ≡ redPicture) × (redrawAnswer red blue (length redPicture) scratch ≡ answer 0 0 3 3)
+      × (redrawSurface red blue redPicture scratch ≡ bluePicture)
+  red-turned-blue = (
+    red-drawn,
+    redraw-accepted red blue redPicture scratch red-accepted blue-accepted one-size red-there ∙ red-blue-damage,
+    redraw-makes-picture red blue redPicture scratch red-accepted blue-accepted one-size red-there (sym red-picture) ∙ blue-picture,
+  )
