@@ -24,7 +24,7 @@ fn main() {
         "{:<14} {:>10} {:>10} {:>10} {:>10} {:>8} {:>7}",
         "", "full", "median", "redraw", "median", "area", "ratio"
     );
-    for workload in workloads::all().into_iter().filter(|w| chosen.as_deref().is_none_or(|name| name == w.name)) {
+    for workload in workloads::all().into_iter().filter(|w| chosen.as_deref().map_or(true, |name| name == w.name)) {
         let times = whole_calls(&workload, Duration::from_secs_f64(seconds));
         print_line(&workload, times);
         print_stages(&workload, Duration::from_secs_f64(seconds));

@@ -117,7 +117,7 @@ pub fn compare(name: &str, call: Call, buffers: &Buffers) -> (library::Answer, B
 
     let check = |what: &str, holds: bool| {
         if !holds {
-            save(&call);
+            save(name, &call);
             panic!("{name}: {what} (library {answer:?}, reference {expected_answer:?})");
         }
     };
@@ -152,10 +152,11 @@ fn first_difference<T: PartialEq>(left: &[T], right: &[T]) -> Option<usize> {
     left.iter().zip(right).position(|(a, b)| a != b)
 }
 
-/// Keeps the scenes of a call that failed.
-fn save(call: &Call) {
+/// Keeps the scenes of a call that failed, under the name of its case.
+fn save(name: &str, call: &Call) {
+    let name: String = name.chars().map(|c| if c.is_ascii_alphanumeric() { c } else { '-' }).collect();
     for (i, scene) in call.scenes().iter().enumerate() {
-        let path = env::temp_dir().join(format!("wayramesh-failed-{i}.scene"));
+        let path = env::temp_dir().join(format!("wayramesh-{name}-{i}.scene"));
         match fs::write(&path, scene) {
             Ok(()) => eprintln!("scene saved as {}", path.display()),
             Err(error) => eprintln!("{}: {error}", path.display()),

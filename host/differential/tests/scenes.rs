@@ -115,6 +115,36 @@ fn redraws() {
     assert!(finished > count / 2, "{finished} of {count} redrawn");
 }
 
+/// The greatest sides again: wide and high surfaces, redrawn.
+#[test]
+fn redraws_of_wide_and_high_surfaces() {
+    let count = 80 * rounds();
+    let mut finished = 0;
+    for seed in 75_000_000..75_000_000 + count {
+        let mut random = Random::new(seed);
+        let short = random.range(1, 20) as u16;
+        let long = random.pick(&[1_024, 1_023, 1_000, 769, 513, 257]);
+        let (width, height) = if random.once_in(2) { (long, short) } else { (short, long) };
+        let mut old = scene::Scene::new(width, height, [7, 8, 9, 255]);
+        old.draws = (0..4).map(|_| scenes::draw(&mut random, width, height)).collect();
+        let new = scenes::next_scene(&mut random, &old);
+        let (old, new, surface) = (old.bytes(), new.bytes(), new.surface_bytes());
+        let name = format!("seed {seed}");
+        let rubbish = Buffers::rubbish(&mut random, surface, SCRATCH_NUMBERS);
+        let (answer, drawn) = compare(&name, Call::Draw(&old), &rubbish);
+        if answer.code != 0 {
+            continue;
+        }
+        let (answer, redrawn) = compare(&name, Call::Redraw(&old, &new), &drawn);
+        if answer.code == 0 {
+            let (_, full) = compare(&name, Call::Draw(&new), &rubbish);
+            assert!(redrawn.surface == full.surface, "{name}: the redraw is not the full drawing");
+            finished += 1;
+        }
+    }
+    assert!(finished > count / 2, "{finished} of {count} redrawn");
+}
+
 /// Redraws over rubbish, with buffers of any length: outside the area nothing is written.
 #[test]
 fn redraws_over_rubbish() {

@@ -14,7 +14,7 @@ fn files(folder: &str, extension: &str) -> Vec<PathBuf> {
     fs::read_dir(folder)
         .expect("the folder of vectors")
         .map(|entry| entry.expect("an entry").path())
-        .filter(|path| path.extension().is_some_and(|e| e == extension))
+        .filter(|path| path.extension().map_or(false, |e| e == extension))
         .collect()
 }
 

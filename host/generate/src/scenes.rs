@@ -67,7 +67,7 @@ fn channel(random: &mut Random) -> f32 {
         // Where the fraction changes sides: (c + 1/2) / 255 and its neighbours.
         3 => {
             let middle = (f32::from(random.byte()) + 0.5) / 255.0;
-            f32::from_bits(middle.to_bits().wrapping_add_signed(random.range(-2, 2)))
+            f32::from_bits(middle.to_bits().wrapping_add(random.range(-2, 2) as u32))
         }
         _ => random.unit(),
     }

@@ -23,7 +23,7 @@ struct Dial {
     red_from: f64,
 }
 
-pub fn speed(canvas: &Canvas, value: f64, draws: &mut Vec<Draw>) {
+pub(crate) fn speed(canvas: &Canvas, value: f64, draws: &mut Vec<Draw>) {
     let dial = Dial {
         center: (228.0, 292.0),
         greatest: 240.0,
@@ -36,7 +36,7 @@ pub fn speed(canvas: &Canvas, value: f64, draws: &mut Vec<Draw>) {
     dial.draw(canvas, value, "km/h", draws);
 }
 
-pub fn turns(canvas: &Canvas, value: f64, draws: &mut Vec<Draw>) {
+pub(crate) fn turns(canvas: &Canvas, value: f64, draws: &mut Vec<Draw>) {
     let dial = Dial {
         center: (796.0, 292.0),
         greatest: 8.0,

@@ -8,7 +8,7 @@ use crate::{Canvas, Readings};
 /// Blocks of a bar.
 const BLOCKS: i32 = 12;
 
-pub fn display(canvas: &Canvas, readings: &Readings, draws: &mut Vec<Draw>) {
+pub(crate) fn display(canvas: &Canvas, readings: &Readings, draws: &mut Vec<Draw>) {
     let frame = Shape::new().rounded_rectangle(444.0, 130.0, 136.0, 330.0, 18.0);
     draws.push(canvas.vertical(frame, 460.0, 130.0, &[(0.0, 0x6E7681), (0.5, 0x33383F), (1.0, 0x565D67)]));
     let glass = Shape::new().rounded_rectangle(448.0, 134.0, 128.0, 322.0, 14.0);

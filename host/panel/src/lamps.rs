@@ -7,7 +7,7 @@ use crate::{Canvas, Readings};
 
 const ROW: f64 = 536.0;
 
-pub fn lamps(canvas: &Canvas, readings: &Readings, draws: &mut Vec<Draw>) {
+pub(crate) fn lamps(canvas: &Canvas, readings: &Readings, draws: &mut Vec<Draw>) {
     let mut lamp = |shape: Shape, color: u32, on: bool| {
         let draw = if on { canvas.fill(shape, color, 1.0) } else { canvas.fill(shape, 0x8A93A0, 0.16) };
         draws.push(draw);

@@ -74,8 +74,7 @@ fn hash(data: &[u8], at: usize) -> Option<usize> {
 
 /// The length and distance of the match with the last place of the same hash; length 0 if there is none.
 fn match_at(data: &[u8], at: usize, last_seen: &[usize]) -> (usize, usize) {
-    let Some(slot) = hash(data, at) else { return (0, 0) };
-    let before = last_seen[slot];
+    let before = hash(data, at).map_or(usize::MAX, |slot| last_seen[slot]);
     if before == usize::MAX || at - before > FARTHEST_MATCH {
         return (0, 0);
     }
@@ -134,7 +133,7 @@ impl Bits {
             self.code(less_one, 5);
             return;
         }
-        let extra = less_one.ilog2() - 1;
+        let extra = 30 - less_one.leading_zeros();
         self.code(2 * extra + (less_one >> extra), 5);
         self.put(less_one & ((1 << extra) - 1), extra);
     }

@@ -17,12 +17,15 @@ impl Picture {
     /// redraw's line with the four numbers of its area may come first.
     pub fn parse(text: &str) -> Result<Picture, String> {
         let mut lines = text.lines().peekable();
-        if lines.peek().is_some_and(|line| line.split(' ').count() == 4) {
+        if lines.peek().map_or(false, |line| line.split(' ').count() == 4) {
             lines.next();
         }
         let size = lines.next().ok_or("the input is empty")?;
         let sides: Vec<usize> = size.split(' ').filter_map(|word| word.parse().ok()).collect();
-        let [width, height] = sides[..] else { return Err(format!("no picture: {size}")) };
+        let (width, height) = match sides[..] {
+            [width, height] => (width, height),
+            _ => return Err(format!("no picture: {size}")),
+        };
         let mut rgba = Vec::with_capacity(4 * width * height);
         for pixel in lines.flat_map(|line| line.split(' ')) {
             let number = u32::from_str_radix(pixel, 16).map_err(|_| format!("no pixel: {pixel}"))?;

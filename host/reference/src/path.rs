@@ -221,14 +221,14 @@ impl Walker<'_> {
 /// The point at k sixteenths of a quad or a cubic, rounded.
 pub fn cut(hull: &[Point], k: i64) -> Point {
     let u = 16 - k;
-    let weights: &[i64] = match hull.len() {
-        3 => &[u * u, 2 * k * u, k * k],
-        4 => &[u * u * u, 3 * k * u * u, 3 * k * k * u, k * k * k],
+    let weights = match hull.len() {
+        3 => vec![u * u, 2 * k * u, k * k],
+        4 => vec![u * u * u, 3 * k * u * u, 3 * k * k * u, k * k * k],
         other => unreachable!("a curve of {other} points"),
     };
     let total: i64 = if hull.len() == 3 { 256 } else { 4_096 };
     let coordinate = |of: fn(&Point) -> i64| {
-        let sum: i64 = hull.iter().zip(weights).map(|(p, w)| of(p) * w).sum();
+        let sum: i64 = hull.iter().zip(&weights).map(|(p, w)| of(p) * w).sum();
         (2 * sum + total).div_euclid(2 * total)
     };
     Point { x: coordinate(|p| p.x), y: coordinate(|p| p.y) }

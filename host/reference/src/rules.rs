@@ -57,7 +57,7 @@ pub struct DrawFault {
 /// The scene in a file, or its first fault.
 pub fn scene(bytes: &[u8]) -> Result<Scene, Fault> {
     let fault = |code, offset| Fault { code, draw: NO_DRAW, offset };
-    if !bytes.len().is_multiple_of(file::BLOCK) || bytes.len() < file::BLOCK {
+    if bytes.len() % file::BLOCK != 0 || bytes.len() < file::BLOCK {
         return Err(fault(BAD_LENGTH, 0));
     }
     if !file::check_holds(bytes, 0) {

@@ -23,8 +23,10 @@ fn a_redraw_ends_in_the_new_picture() {
         let mut random = Random::new(seed);
         let old = scenes::scene(&mut random, 24, 6);
         let new = scenes::next_scene(&mut random, &old);
-        let Some(mut surface) = drawn(&mut random, &old) else { continue };
-        let Some(expected) = drawn(&mut random, &new) else { continue };
+        let (mut surface, expected) = match (drawn(&mut random, &old), drawn(&mut random, &new)) {
+            (Some(surface), Some(expected)) => (surface, expected),
+            _ => continue,
+        };
         assert_eq!(drawn(&mut random, &new), Some(expected.clone()), "seed {seed}");
         let mut scratch = vec![1; SCRATCH_NUMBERS];
         let answer = redraw(&old.bytes(), &new.bytes(), &mut surface, &mut scratch);
@@ -41,12 +43,18 @@ fn outside_the_bounds_nothing_is_covered() {
     let mut tried = 0;
     for seed in 0..300 {
         let mut random = Random::new(seed);
-        let Ok(scene) = rules::scene(&scenes::scene(&mut random, 24, 6).bytes()) else { continue };
+        let scene = match rules::scene(&scenes::scene(&mut random, 24, 6).bytes()) {
+            Ok(scene) => scene,
+            Err(_) => continue,
+        };
         for draw in &scene.draws {
             let ends = || draw.edges.iter().flat_map(|e| [e.from, e.to]);
             let columns = (ends().map(|p| p.x >> 8).min(), ends().map(|p| p.x >> 8).max());
             let rows = (ends().map(|p| p.y >> 8).min(), ends().map(|p| p.y >> 8).max());
-            let ((Some(left), Some(right)), (Some(bottom), Some(top))) = (columns, rows) else { continue };
+            let (left, right, bottom, top) = match (columns, rows) {
+                ((Some(left), Some(right)), (Some(bottom), Some(top))) => (left, right, bottom, top),
+                _ => continue,
+            };
             for y in -3..i64::from(scene.height) + 3 {
                 for x in -3..i64::from(scene.width) + 3 {
                     if !(left..=right).contains(&x) || !(bottom..=top).contains(&y) {

@@ -14,7 +14,7 @@ fn files(folder: &str, extension: &str) -> Vec<PathBuf> {
     let mut files: Vec<PathBuf> = fs::read_dir(vectors().join(folder))
         .expect("the folder of vectors")
         .map(|entry| entry.expect("an entry").path())
-        .filter(|path| path.extension().is_some_and(|e| e == extension))
+        .filter(|path| path.extension().map_or(false, |e| e == extension))
         .collect();
     files.sort();
     files
@@ -49,19 +49,18 @@ fn redraws() {
     }
 }
 
-/// INDEX.md has a line for each edge case: number, code, draw, "offset", the offset.
+/// edges.txt has a line for each edge case: number, code, draw, "offset", the offset, and its name.
 #[test]
 fn faults_of_the_edge_cases() {
-    let index = fs::read_to_string(vectors().join("INDEX.md")).expect("the index");
+    let edges = fs::read_to_string(vectors().join("edges.txt")).expect("the edge cases");
     let mut cases = 0;
-    for line in index.lines().filter(|line| line.contains(" offset ")) {
+    for line in edges.lines() {
         let words: Vec<&str> = line.split_whitespace().collect();
-        let [number, code, draw, "offset", offset, ..] = words[..] else {
-            continue;
+        let (number, code, draw, offset) = match words[..] {
+            [number, code, draw, "offset", offset, ..] => (number, code, draw, offset),
+            _ => panic!("no edge case: {line}"),
         };
-        let Ok(code) = u32::from_str_radix(code, 16) else {
-            continue;
-        };
+        let code = u32::from_str_radix(code, 16).expect("a code");
         let scene = read(&vectors().join(format!("draw/edge-{number}.scene")));
         let found = rules::scene(&scene).map(|_| ());
         let expected = match code {
@@ -79,6 +78,6 @@ fn faults_of_the_edge_cases() {
 }
 
 fn files_with_prefix(prefix: &str) -> usize {
-    let named = |path: &&PathBuf| path.file_name().is_some_and(|name| name.to_string_lossy().starts_with(prefix));
+    let named = |path: &&PathBuf| path.file_name().map_or(false, |name| name.to_string_lossy().starts_with(prefix));
     files("draw", "scene").iter().filter(named).count()
 }

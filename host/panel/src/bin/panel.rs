@@ -5,9 +5,12 @@ use std::{env, fs, process};
 
 fn main() {
     let arguments: Vec<String> = env::args().skip(1).collect();
-    let [folder] = &arguments[..] else {
-        eprintln!("usage: panel FOLDER");
-        process::exit(2);
+    let folder = match &arguments[..] {
+        [folder] => folder,
+        _ => {
+            eprintln!("usage: panel FOLDER");
+            process::exit(2);
+        }
     };
     for (name, scene) in panel::files() {
         let path = Path::new(folder).join(name);

@@ -5,7 +5,10 @@ use std::{env, fs, io, process};
 
 fn main() {
     let arguments: Vec<String> = env::args().skip(1).collect();
-    let [target] = &arguments[..] else { fail("usage: picture-to-png IMAGE < PICTURE") };
+    let target = match &arguments[..] {
+        [target] => target,
+        _ => fail("usage: picture-to-png IMAGE < PICTURE"),
+    };
     let mut text = String::new();
     io::stdin().read_to_string(&mut text).unwrap_or_else(|error| fail(&error.to_string()));
     let picture = png::Picture::parse(&text).unwrap_or_else(|error| fail(&error));

@@ -5,9 +5,12 @@ use std::{env, fs, io, process};
 
 fn main() {
     let arguments: Vec<String> = env::args().skip(1).collect();
-    let [scene] = &arguments[..] else {
-        eprintln!("usage: reference-draw SCENE");
-        process::exit(2);
+    let scene = match &arguments[..] {
+        [scene] => scene,
+        _ => {
+            eprintln!("usage: reference-draw SCENE");
+            process::exit(2);
+        }
     };
     let bytes = fs::read(scene).unwrap_or_else(|e| {
         eprintln!("{scene}: {e}");

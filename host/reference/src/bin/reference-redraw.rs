@@ -5,9 +5,12 @@ use std::{env, fs, io, process};
 
 fn main() {
     let arguments: Vec<String> = env::args().skip(1).collect();
-    let [old, new] = &arguments[..] else {
-        eprintln!("usage: reference-redraw OLD NEW");
-        process::exit(2);
+    let (old, new) = match &arguments[..] {
+        [old, new] => (old, new),
+        _ => {
+            eprintln!("usage: reference-redraw OLD NEW");
+            process::exit(2);
+        }
     };
     let read = |path: &String| {
         fs::read(path).unwrap_or_else(|e| {
