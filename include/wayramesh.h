@@ -21,9 +21,20 @@
  * The scenes are not changed. This speaks of what the buffers hold when a call has returned: while it runs, the area
  * shows the background and part of the draws, so a display that reads the surface meanwhile may show that.
  *
- * What the proof takes for granted: that each pointer is not NULL, is aligned for its type and comes with the number of
- * items that lie there; that no buffer overlaps surface or scratch, and no one else uses these two during the call; that
- * there are 32 KiB of stack; and that compiler and machine do what they should.
+ * What the proof takes for granted of a caller, as docs/REVIEW.md has it:
+ *
+ *   1. Pointers. None is NULL. Each leads to as many items as its length says, and they stay there during the call. A
+ *      run of length 0 is not read or written.
+ *   2. Alignment. The scratch is aligned for int32_t. Scenes and surface may lie at any address.
+ *   3. Overlap. Surface and scratch overlap neither each other nor a scene. The two scenes of a redraw may overlap or be
+ *      the same.
+ *   4. Others. During a call no one else writes the scenes, and no one else reads or writes surface and scratch.
+ *   5. Stack. There are 32 KiB of stack free.
+ *   6. Floating-point environment. Round to nearest, as C programs start (fesetround(FE_TONEAREST)), and nothing flushed
+ *      to zero. In another rounding mode some colours differ by 1. A call leaves the mode as it is.
+ *   7. Machine and compiler. x86-64 with the calling convention of Linux, a C compiler that follows it, and a memcpy and
+ *      memset that do what C says.
+ *   8. Declarations. The caller's are those below.
  */
 
 #ifndef WAYRAMESH_H
