@@ -1,0 +1,17 @@
+-- The corners that no bench case reaches, in one statement: the definitions give what is asked.
+use mathlib.Core.Path.{_≡_, refl}
+use mathlib.Core.List.{map}
+use lib.Ieee.{lt, mul, add, ofBits, toUnsigned, isNan}
+use Rattle.color.specs.Channels.{channelByte}
+use Rattle.blend.specs.PorterDuff.{sourceFactor, destinationFactor, compositeByte}
+use Rattle.paint.specs.Ramps.{keptStops, withEnds, rampAt}
+use Rattle.path.specs.Segments.{pointsOf, penAfter, segmentCode}
+use Rattle.scene.specs.Blocks.{checksumOf, blockRight}
+use Rattle.scene.specs.Rules.{countRules, headRules, floatRules, listRules, pathRules, restRules, drawRules, headerRules, checkFaults}
+use Rattle.cases.specs.Scenes.{squareDraw, red}
+use Rattle.cases.specs.Corners.{corners}
+
+pub corner-cases : map (λ r. r .given) corners ≡ map (λ r. r .paper) corners
+unfolding corners red squareDraw lt mul add ofBits toUnsigned isNan channelByte sourceFactor destinationFactor compositeByte keptStops withEnds rampAt
+    pointsOf penAfter segmentCode checksumOf blockRight countRules headRules floatRules listRules pathRules restRules drawRules headerRules checkFaults
+corner-cases = refl

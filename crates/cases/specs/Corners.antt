@@ -1,0 +1,119 @@
+-- Corners that no bench case reaches: where in the file a fault is, the step alone on stray bytes, a last stop just below the end. What the definitions
+-- give, beside what is asked; the faults and their offsets are those of the edge vectors with these names (tests/vectors/edges.txt).
+use Prim.Native.Nat.{ℕ, _+_}
+use mathlib.Core.List.{List, [], _∷_, _++_, map}
+use mathlib.Core.Bool.{false}
+use lib.ListN.{set, length, replicate}
+use lib.IntN.{ℤ, pos}
+use Rattle.color.specs.declared.Pixel.{Pixel}
+use Rattle.blend.specs.declared.Composited.{Composited}
+use Rattle.blend.specs.PorterDuff.{compositeAnswer, modeDstOver, modeSrcOver}
+use Rattle.paint.specs.Ramps.{rampOf, rampAt}
+use Rattle.scene.specs.declared.Fault.{Fault}
+use Rattle.scene.specs.Rules.{inHeader, inDraw, headerRules, drawRules, pathRules, restRules, checkFaults}
+use Rattle.cases.specs.Bench.{Row}
+use Rattle.cases.specs.Scenes.{red, redDraw}
+
+abbrev row : List ℕ → List ℕ → Row
+row given asked = record { given = map pos given; paper = map pos asked }
+
+-- ---- faults: code, draw number, offset
+abbrev numbers : Fault → List ℕ
+numbers f = f .code ∷ f .draw ∷ f .offset ∷ []
+
+-- the draw of the red square, as draw 1, with another byte, or two, at a place
+abbrev draw : ℕ → ℕ → List ℕ
+draw place byte = numbers (inDraw 1 (drawRules (set redDraw place byte)))
+
+abbrev draw2 : ℕ → ℕ → ℕ → List ℕ
+draw2 place low high = numbers (inDraw 1 (drawRules (set (set redDraw place low) (place + 1) high)))
+
+-- its path alone, and its unused segments and coordinates alone
+abbrev path : ℕ → ℕ → List ℕ
+path place byte = numbers (inDraw 1 (pathRules (set redDraw place byte)))
+
+abbrev rest : ℕ → ℕ → List ℕ
+rest place byte = numbers (inDraw 1 (restRules (set redDraw place byte)))
+
+-- block 0 of the red square with another byte; the checks of draw 0 in a file of zeros with a 1 at its end
+abbrev header : ℕ → ℕ → List ℕ
+header place byte = numbers (inHeader (headerRules (set red place byte)))
+
+abbrev checks : ℕ → List ℕ
+checks place = numbers (checkFaults (replicate place 0 ++ (1 ∷ [])) 0)
+
+abbrev illegal : ℕ → ℕ → List ℕ
+illegal draw offset = 0x1001 ∷ draw ∷ offset ∷ []
+
+-- ---- the step alone: code and pixel
+abbrev pixel : ℕ → ℕ → ℕ → ℕ → Pixel
+pixel r g b a = record { r = r; g = g; b = b; a = a }
+
+abbrev bytes : Pixel → List ℕ
+bytes p = p .r ∷ p .g ∷ p .b ∷ p .a ∷ []
+
+abbrev step : ℕ → ℕ → Pixel → Pixel → List ℕ
+step mode k s d = compositeAnswer mode k s d .code ∷ bytes (compositeAnswer mode k s d .pixel)
+
+-- ---- two stops of five f32: opaque red at 0, and opaque blue at the offset with these bytes
+abbrev nought : List ℕ
+nought = 0 ∷ 0 ∷ 0 ∷ 0 ∷ []
+
+abbrev one : List ℕ
+one = 0 ∷ 0 ∷ 128 ∷ 63 ∷ []
+
+abbrev stops : List ℕ → List ℕ
+stops last = nought ++ one ++ nought ++ nought ++ one ++ last ++ nought ++ nought ++ one ++ one
+
+-- 65,535 / 65,536
+abbrev almostOne : List ℕ
+almostOne = 0 ∷ 255 ∷ 127 ∷ 63 ∷ []
+
+abbrev colorAt : List ℕ → ℕ → List ℕ
+colorAt last t = bytes (rampAt (rampOf false (stops last) 2) (pos t))
+
+-- ---- the table
+unfoldable pub corners : List Row
+corners =
+    -- block 0: width 0, height 1,028, count 65, the fourth number, its zeros; a wrong check in block 1
+    row (header 0 0) (illegal 64 0)
+    ∷ row (header 3 4) (illegal 64 2)
+    ∷ row (header 4 65) (illegal 64 4)
+    ∷ row (header 6 1) (illegal 64 6)
+    ∷ row (header 12 1) (illegal 64 12)
+    ∷ row (checks 1020) (0xB001 ∷ 0 ∷ 1020 ∷ [])
+    -- a draw's fields: flag bit 3, blend 2005, paint 0, spread 0, 129 segments, 5 scissors, 33 stops, the zero byte
+    ∷ row (draw 0 8) (illegal 1 2560)
+    ∷ row (draw 2 5) (illegal 1 2562)
+    ∷ row (draw 5 0) (illegal 1 2564)
+    ∷ row (draw 7 0) (illegal 1 2566)
+    ∷ row (draw 8 129) (illegal 1 2568)
+    ∷ row (draw 9 5) (illegal 1 2569)
+    ∷ row (draw 10 33) (illegal 1 2570)
+    ∷ row (draw 11 1) (illegal 1 2571)
+    -- an infinite matrix entry 0, 3, 4 and 5, a NaN in colour 0 and 3, an infinite linear point 0 and 3
+    ∷ row (draw2 14 128 127) (illegal 1 2572)
+    ∷ row (draw2 26 128 127) (illegal 1 2584)
+    ∷ row (draw2 30 128 127) (illegal 1 2588)
+    ∷ row (draw2 34 128 127) (illegal 1 2592)
+    ∷ row (draw2 38 192 127) (illegal 1 2596)
+    ∷ row (draw2 50 192 127) (illegal 1 2608)
+    ∷ row (draw2 54 128 127) (illegal 1 2612)
+    ∷ row (draw2 66 128 127) (illegal 1 2624)
+    -- an unused scissor's first byte, an unused stop of -0.0, an arc, a reserved segment, an unused segment
+    ∷ row (draw 68 1) (illegal 1 2628)
+    ∷ row (draw 135 128) (illegal 1 2695)
+    ∷ row (path 772 18) (0x1005 ∷ 1 ∷ 3336 ∷ [])
+    ∷ row (path 773 26) (illegal 1 3337)
+    ∷ row (rest 899 1) (illegal 1 3463)
+    -- the step alone: a mode and a k that are refused; B cut at 255 where a stray byte is above its alpha; k of 15 over it
+    ∷ row (step 0x2005 16 (pixel 1 2 3 4) (pixel 255 6 7 0)) (0x1001 ∷ 255 ∷ 6 ∷ 7 ∷ 0 ∷ [])
+    ∷ row (step modeSrcOver 17 (pixel 1 2 3 4) (pixel 255 6 7 0)) (0x1001 ∷ 255 ∷ 6 ∷ 7 ∷ 0 ∷ [])
+    ∷ row (step modeDstOver 16 (pixel 200 0 0 200) (pixel 255 0 9 100)) (0 ∷ 255 ∷ 0 ∷ 9 ∷ 222 ∷ [])
+    ∷ row (step modeDstOver 15 (pixel 200 0 0 200) (pixel 250 0 9 100)) (0 ∷ 255 ∷ 0 ∷ 9 ∷ 214 ∷ [])
+    -- a last stop at 65,535 is copied to 65,536, one at 65,536 is not; colours on both sides of it
+    ∷ row (length (rampOf false (stops almostOne) 2) ∷ length (rampOf false (stops one) 2) ∷ []) (3 ∷ 2 ∷ [])
+    ∷ row (colorAt almostOne 32768) (127 ∷ 0 ∷ 128 ∷ 255 ∷ [])
+    ∷ row (colorAt almostOne 65535) (0 ∷ 0 ∷ 255 ∷ 255 ∷ [])
+    ∷ row (colorAt one 32768) (128 ∷ 0 ∷ 128 ∷ 255 ∷ [])
+    ∷ []
