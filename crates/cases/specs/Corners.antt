@@ -1,5 +1,5 @@
 -- Corners that no bench case reaches: where in the file a fault is, the step alone on stray bytes, a last stop just below the end. What the definitions
--- give, beside what is asked; the faults and their offsets are those of the edge vectors with these names (tests/vectors/edges.txt).
+-- give, beside what is asked; nearly all faults and offsets are those of edge vectors with these names (tests/vectors/edges.txt).
 use Prim.Native.Nat.{ℕ, _+_}
 use mathlib.Core.List.{List, [], _∷_, _++_, map}
 use mathlib.Core.Bool.{false}
@@ -105,7 +105,7 @@ corners =
     ∷ row (draw 135 128) (illegal 1 2695)
     ∷ row (path 772 18) (0x1005 ∷ 1 ∷ 3336 ∷ [])
     ∷ row (path 773 26) (illegal 1 3337)
-    ∷ row (rest 899 1) (illegal 1 3463)
+    ∷ row (rest 777 1) (illegal 1 3341)
     -- the step alone: a mode and a k that are refused; B cut at 255 where a stray byte is above its alpha; k of 15 over it
     ∷ row (step 0x2005 16 (pixel 1 2 3 4) (pixel 255 6 7 0)) (0x1001 ∷ 255 ∷ 6 ∷ 7 ∷ 0 ∷ [])
     ∷ row (step modeSrcOver 17 (pixel 1 2 3 4) (pixel 255 6 7 0)) (0x1001 ∷ 255 ∷ 6 ∷ 7 ∷ 0 ∷ [])
