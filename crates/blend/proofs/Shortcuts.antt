@@ -59,7 +59,8 @@ unfolding sourceFactor
 fixed-source mode da h = by-neither (eqb mode modeDstOver) (eqb mode modeSrcIn) h (λ e q. rw (e, q))
 
 -- under a full coverage B is stored
-pub covered-stores : (mode : ℕ) (s d : Pixel) → fixedSource mode ≡ true → blendedPixel s (sourceFactor mode 0) d (destinationFactor mode (s .a)) ≡ composite mode 16 s d
+pub covered-stores : (mode : ℕ) (s d : Pixel) → fixedSource mode ≡ true → blendedPixel s (sourceFactor mode 0) d (destinationFactor mode (s .a))
+    ≡ composite mode 16 s d
 unfolding compositeByte
 covered-stores mode s d h =
     rw (← fixed-source mode (d .a) h, covered-byte _ (d .r), covered-byte _ (d .g), covered-byte _ (d .b), covered-byte _ (d .a))

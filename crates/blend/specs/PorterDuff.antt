@@ -3,6 +3,7 @@ use Prim.Native.Nat.{ℕ, min, _+_, _-_, _*_, _/_}
 use mathlib.Core.Bool.{Bool, cond, _&&_}
 use lib.Dec.{leb, eqb}
 use Rattle.color.specs.declared.Pixel.{Pixel}
+use Rattle.codes.specs.Codes.{acceptedCode, illegalArgument}
 use Rattle.blend.specs.declared.Composited.{Composited}
 
 -- the blend modes, by their numbers in the scene file
@@ -58,6 +59,8 @@ composite mode k s d = record {
   a = compositeByte mode k (s .a) (d .a) (s .a) (d .a);
 }
 
--- the step called alone (paper 02, P2): any other mode or k is refused 0x1001, and the pixel stays
+-- the step called alone (paper 02, P2): any other mode or k is refused, and the pixel stays
 abbrev pub compositeAnswer : ℕ → ℕ → Pixel → Pixel → Composited
-compositeAnswer mode k s d = cond (isMode mode && leb k 16) (record { code = 0; pixel = composite mode k s d }) (record { code = 0x1001; pixel = d })
+compositeAnswer mode k s d =
+    cond (isMode mode && leb k 16) (record { code = acceptedCode; pixel = composite mode k s d })
+    (record { code = illegalArgument; pixel = d })

@@ -3,9 +3,9 @@
 use mathlib.Core.Path.{_≡_}
 use mathlib.Core.Bool.{Bool, true, false, cond, not}
 use mathlib.Core.List.{List}
-use Prim.Native.Nat.{ℕ, _+_, _*_, _≤_, _<_}
+use Prim.Native.Nat.{ℕ, _≤_, _<_}
 use lib.Dec.{eqb}
-use lib.ListN.{length, getD, set}
+use lib.ListN.{length, getD}
 use Rattle.color.specs.declared.Pixel.{Pixel}
 use Rattle.blend.specs.PorterDuff.{modeSrc, modeSrcOver, modeDstOver, modeSrcIn, blended}
 
@@ -31,7 +31,3 @@ blendedPixel s fs d fd = record {
   b = blended (s .b) fs (d .b) fd;
   a = blended (s .a) fs (d .a) fd;
 }
-
--- a row with the ith pixel p
-abbrev pub putPixel : List ℕ → ℕ → Pixel → List ℕ
-putPixel s i p = set (set (set (set s (i * 4) (p .r)) (i * 4 + 1) (p .g)) (i * 4 + 2) (p .b)) (i * 4 + 3) (p .a)

@@ -11,6 +11,6 @@ use color::Pixel;
 
 // What the step on one pixel answers: 0 and the new pixel, or a refusal and the old one.
 pub struct Composited {
-    pub code: u16,
+    pub code: u32,
     pub pixel: Pixel,
 }

@@ -8,12 +8,12 @@ use crate::step::blended_pixel;
 use crate::step::composite_pixel;
 use color::Pixel;
 ghost use mathlib.Core.Path.{_≡_};
-ghost use Prim.Native.Nat.{_+_, _*_, _≤_, _<_};
+ghost use Prim.Native.Nat.{_*_, _≤_, _<_};
 ghost use lib.ListN.{length};
 ghost use Rattle.raster.specs.Surface.{run, pixelIn};
 ghost use Rattle.blend.specs.PorterDuff.{composite};
 ghost use Rattle.blend.specs.Rows.{Coverage, compositeRow};
-ghost use Rattle.blend.specs.Spans.{Span, blendedPixel, putPixel};
+ghost use Rattle.blend.specs.Spans.{Span, blendedPixel};
 
 // A paint of one pixel for each pixel of the row.
 pub fn composite_row(mode: u16, coverage: &[u8], src: &[u8], row: &mut [u8])
@@ -29,7 +29,7 @@ pub fn composite_row(mode: u16, coverage: &[u8], src: &[u8], row: &mut [u8])
             raster::pixel(src, i),
             raster::pixel(row, i),
         );
-        put_pixel(row, i, p);
+        raster::put_pixel(row, i, p);
         i += 1;
     }
 }
@@ -97,7 +97,7 @@ fn blend_covered(src: Pixel, fs: u8, row: &mut [u8], fd: u8, n: usize)
     let mut i = 0;
     while i < n {
         let p = blended_pixel(src, fs, raster::pixel(row, i), fd);
-        put_pixel(row, i, p);
+        raster::put_pixel(row, i, p);
         i += 1;
     }
 }
@@ -110,19 +110,7 @@ fn blend_span(mode: u16, coverage: u8, src: Pixel, row: &mut [u8], n: usize)
     let mut i = 0;
     while i < n {
         let p = blend_pixel(mode, coverage, src, raster::pixel(row, i));
-        put_pixel(row, i, p);
+        raster::put_pixel(row, i, p);
         i += 1;
     }
-}
-
-// The ith pixel of a row is p.
-fn put_pixel(row: &mut [u8], i: usize, p: Pixel)
-    requires { ⌜ i * 4 + 3 < length (now row) ⌝ }
-    ensures { λ _. ⌜ now (row .exit) ≡ putPixel (now (row .entry)) i p ⌝ }
-{
-    let at = i * 4;
-    row[at] = p.r;
-    row[at + 1] = p.g;
-    row[at + 2] = p.b;
-    row[at + 3] = p.a;
 }

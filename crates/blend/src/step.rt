@@ -4,6 +4,8 @@ use crate::factor::destination_factor;
 use crate::factor::hides;
 use crate::factor::is_mode;
 use crate::factor::source_factor;
+use codes::ACCEPTED;
+use codes::ILLEGAL_ARGUMENT;
 use color::Pixel;
 ghost use mathlib.Core.Path.{_≡_};
 ghost use mathlib.Core.Bool.{_&&_};
@@ -12,16 +14,13 @@ ghost use lib.Dec.{leb};
 ghost use Rattle.blend.specs.PorterDuff.{isMode, blended, stored, composite, compositeAnswer};
 ghost use Rattle.blend.specs.Spans.{blendedPixel};
 
-// OpenVG's code for a mode or a coverage that is none.
-const ILLEGAL_ARGUMENT: u16 = 0x1001;
-
 // The step called alone, on any bytes.
 pub fn composite(mode: u16, coverage: u8, src: Pixel, dst: Pixel) -> Composited
     ensures { λ r. ⌜ r ≡ compositeAnswer mode coverage src dst ⌝ }
 {
     if accepts(mode, coverage) {
         Composited {
-            code: 0,
+            code: ACCEPTED,
             pixel: composite_pixel(mode, coverage, src, dst),
         }
     } else {
@@ -95,6 +94,7 @@ fn blended_byte(s: u8, fs: u8, d: u8, fd: u8) -> u8
     ((n + (n >> 8)) >> 8) as u8
 }
 
+// The smaller of two.
 fn least(a: u16, b: u16) -> u16
     ensures { λ r. ⌜ r ≡ min a b ⌝ }
 {

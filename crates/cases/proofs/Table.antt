@@ -13,5 +13,6 @@ use Rattle.scene.specs.Blocks.{checksumOf}
 use Rattle.cases.specs.Bench.{table}
 
 pub bench-cases : map (λ r. r .given) table ≡ map (λ r. r .paper) table
-unfolding lt mul add ofBits toUnsigned channelByte sourceFactor destinationFactor compositeByte linearT mapped keptStops withEnds rampAt pointsOf penAfter cut curveEdges pathEdges upward spans atOrLeft sign weight counts winding coverage checksumOf table
+unfolding lt mul add ofBits toUnsigned channelByte sourceFactor destinationFactor compositeByte linearT mapped keptStops withEnds rampAt
+    pointsOf penAfter cut curveEdges pathEdges upward spans atOrLeft sign weight counts winding coverage checksumOf table
 bench-cases = refl

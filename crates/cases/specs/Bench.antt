@@ -87,7 +87,8 @@ row given paper = record { given = given; paper = paper }
 unfoldable pub table : List Row
 table =
     -- C1
-    row (pos (coverage (square (part 1 0)) false 0 0) ∷ pos (coverage (square (part 1 0)) false 1 0) ∷ pos (compositeByte modeSrcOver (coverage (square (part 1 0)) false 1 0) 255 255 255 0) ∷ [])
+    row (pos (coverage (square (part 1 0)) false 0 0) ∷ pos (coverage (square (part 1 0)) false 1 0)
+    ∷ pos (compositeByte modeSrcOver (coverage (square (part 1 0)) false 1 0) 255 255 255 0) ∷ [])
     (pos 8 ∷ pos 8 ∷ pos 128 ∷ [])
     -- C2
     ∷ row (pos (coverage (square (part 1 2)) false 0 0) ∷ pos (coverage (square (part 1 2)) false 1 0) ∷ []) (pos 16 ∷ pos 0 ∷ [])
@@ -101,7 +102,8 @@ table =
     ∷ row (pos (channelByte (part 1 0)) ∷ pos (channelByte one) ∷ pos (channelByte (fin true 1 (pos 0))) ∷ []) (pos 128 ∷ pos 255 ∷ pos 0 ∷ [])
     -- C7
     ∷ row (linearT (fixedPoints fourPixels) 0 0 ∷ linearT (fixedPoints fourPixels) 3 0 ∷ []) (pos 8192 ∷ pos 57344 ∷ [])
-    ∷ row (bytesOf (rampAt (rampOf false [] 0) (linearT (fixedPoints fourPixels) 0 0)) ++ bytesOf (rampAt (rampOf false [] 0) (linearT (fixedPoints fourPixels) 3 0)))
+    ∷ row (bytesOf (rampAt (rampOf false [] 0) (linearT (fixedPoints fourPixels) 0 0))
+    ++ bytesOf (rampAt (rampOf false [] 0) (linearT (fixedPoints fourPixels) 3 0)))
     (pos 32 ∷ pos 32 ∷ pos 32 ∷ pos 255 ∷ pos 223 ∷ pos 223 ∷ pos 223 ∷ pos 255 ∷ [])
     -- C8
     ∷ row (bytesOf (rampAt (rampOf false [] 0) (mapped spreadPad (negsuc 8191))) ++ mapped spreadRepeat (negsuc 8191) ∷ mapped spreadReflect (negsuc 8191) ∷ [])
@@ -110,7 +112,8 @@ table =
     ∷ row (bytesOf (rampAt (rampOf false redAndBlueAtZero 2) (negsuc 0)) ++ bytesOf (rampAt (rampOf false redAndBlueAtZero 2) (pos 0)))
     (pos 255 ∷ pos 0 ∷ pos 0 ∷ pos 255 ∷ pos 0 ∷ pos 0 ∷ pos 255 ∷ pos 255 ∷ [])
     -- C10
-    ∷ row (cutPoint origin (quadTo (point (pos 256) (pos 512)) (point (pos 512) (pos 0))) 8 .x ∷ cutPoint origin (quadTo (point (pos 256) (pos 512)) (point (pos 512) (pos 0))) 8 .y ∷ [])
+    ∷ row (cutPoint origin (quadTo (point (pos 256) (pos 512)) (point (pos 512) (pos 0))) 8 .x
+    ∷ cutPoint origin (quadTo (point (pos 256) (pos 512)) (point (pos 512) (pos 0))) 8 .y ∷ [])
     (pos 256 ∷ pos 256 ∷ [])
     -- C11
     ∷ row (transform (fixedMatrix (movedBy (part 1 8))) origin .x ∷ transform (fixedMatrix (movedBy (minus 1 8))) origin .x ∷ []) (pos 1 ∷ pos 0 ∷ [])

@@ -1,3 +1,2 @@
-pub mod Files
 pub mod Lines
 pub mod Sizes

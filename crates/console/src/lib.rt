@@ -6,11 +6,10 @@ mod output;
 pub mod pictures;
 pub mod sizes;
 
-// What became of a file: so many bytes, or it is too long, or it cannot be read.
-pub enum Loaded {
-    Bytes(usize),
-    TooLong,
-    Unreadable,
+// What became of a file: whether it could be read, and how many of its bytes stand in the buffer. One that fills the buffer is too long.
+pub struct Loaded {
+    pub readable: bool,
+    pub length: usize,
 }
 
 // A picture's width and height, or 0 and 0.

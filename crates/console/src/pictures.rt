@@ -6,6 +6,7 @@ use text::PIXEL_TEXT;
 ghost use mathlib.Core.Path.{_≡_};
 ghost use Prim.Native.Nat.{_*_};
 ghost use lib.ListN.{length};
+ghost use Rattle.text.specs.Text.{rowText};
 ghost use Rattle.console.specs.Sizes.{Surface};
 
 // The text of the widest row.
@@ -42,6 +43,7 @@ fn print_rows(surface: &[u8], width: usize, height: usize, out: &mut [u8])
 // Whether the row was written. Its text is put in out.
 fn print_row(pixels: &[u8], width: usize, out: &mut [u8]) -> bool
     requires { ⌜ (length (now pixels) ≡ width * 4) × (length (now out) ≡ width * 9) ⌝ }
+    ensures { λ _. ⌜ now (out .exit) ≡ rowText width (now (pixels .entry)) ⌝ }
 {
     text::row(pixels, width, out);
     output::write(out)

@@ -14,7 +14,7 @@ use Rattle.fixed.proofs.Within.{fits}
 use Rattle.fixed.proofs.Poly.{var, le, from-lt}
 use Rattle.path.specs.declared.Edge.{Edge}
 use Rattle.coverage.specs.Winding.{rises, turned, upward, spansUp, spans, sign, weight}
-use Rattle.coverage.specs.Engine.{firstColumn, place, startAt, startOf}
+use Rattle.coverage.specs.Scanline.{firstColumn, place, startAt, startOf}
 use Rattle.fixed.proofs.Tests.{is-true, is-false}
 use Rattle.coverage.proofs.Sums.{span-rises}
 

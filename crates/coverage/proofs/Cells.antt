@@ -13,8 +13,9 @@ use Rattle.lists.specs.Lists.{over}
 use Rattle.lists.proofs.Laws.{tab-length, tab-ext, over-length, over-part}
 use Rattle.coverage.specs.declared.Taken.{Taken}
 use Rattle.coverage.specs.declared.Cell.{Cell}
-use Rattle.coverage.specs.Winding.{inside, one, tally}
-use Rattle.coverage.specs.Engine.{at, laid, zeros, running, rowOf, takenFrom, lineFrom, fullOf, cellOf, cellFrom, cellAfter, pixelOf, Bounded, Marked, Tame}
+use Rattle.coverage.specs.Winding.{insideBy, oneIf, tally}
+use Rattle.coverage.specs.Scanline.{at, laid, zeros, running, rowOf, Bounded, Marked, Tame}
+use Rattle.coverage.specs.Scanline.{takenFrom, lineFrom, fullOf, cellOf, cellFrom, cellAfter, pixelOf}
 use Rattle.coverage.proofs.Tally.{taken-law}
 use Rattle.coverage.proofs.Zeros.{zeros-join}
 
@@ -40,7 +41,8 @@ module _ (nonZero : Bool) (s : List ℤ) (p : ℕ) where
   line-law : (r : ℕ) → lineFrom nonZero (running (rowOf s r) (p * 4)) (λ j. at s (p * 16 + j)) r ≡ line r
   line-law r =
       five (at-same (number 0 (p * 16 + r) (p * 4) (omega arith) (omega arith))) (at-same (number 1 (p * 16 + (r + 4)) (p * 4 + 1) (omega arith) (omega arith)))
-      (at-same (number 2 (p * 16 + (r + 8)) (p * 4 + 2) (omega arith) (omega arith))) (at-same (number 3 (p * 16 + (r + 12)) (p * 4 + 3) (omega arith) (omega arith)))
+      (at-same (number 2 (p * 16 + (r + 8)) (p * 4 + 2) (omega arith) (omega arith)))
+      (at-same (number 3 (p * 16 + (r + 12)) (p * 4 + 3) (omega arith) (omega arith)))
       ∙ taken-law nonZero (rowOf s r) p
     where
       number : (m i j : ℕ) → i ≡ p * 16 + (r + 4 * m) → j ≡ p * 4 + m → i ≡ j * 4 + r
@@ -54,7 +56,9 @@ module _ (nonZero : Bool) (s : List ℤ) (p : ℕ) where
       five p' q u v = rw (p', q, u, v)
 
 -- where the numbers are 0
-still-line : (nonZero : Bool) (z : ℤ) → takenFrom nonZero z (pos 0) (pos 0) (pos 0) (pos 0) ≡ record { sum = z; count = one (inside nonZero z) + one (inside nonZero z) + one (inside nonZero z) + one (inside nonZero z) }
+still-line : (nonZero : Bool) (z : ℤ)
+    → takenFrom nonZero z (pos 0) (pos 0) (pos 0) (pos 0)
+    ≡ record { sum = z; count = oneIf (insideBy nonZero z) + oneIf (insideBy nonZero z) + oneIf (insideBy nonZero z) + oneIf (insideBy nonZero z) }
 unfolding takenFrom
 still-line nonZero z = simp +ℤ-idr
 
@@ -70,7 +74,7 @@ pub stands-first : (nonZero : Bool) (s : List ℤ) → Stands nonZero s 0 (recor
 unfolding fullOf
 stands-first nonZero s = record { a = refl; b = refl; c = refl; d = refl; full = none nonZero }
   where
-    none : (r : Bool) → 0 ≡ (one (inside r (pos 0)) + one (inside r (pos 0)) + one (inside r (pos 0)) + one (inside r (pos 0))) * 4
+    none : (r : Bool) → 0 ≡ (oneIf (insideBy r (pos 0)) + oneIf (insideBy r (pos 0)) + oneIf (insideBy r (pos 0)) + oneIf (insideBy r (pos 0))) * 4
     none true = refl
     none false = refl
 
@@ -95,8 +99,10 @@ module _ (nonZero : Bool) (s : List ℤ) (p : ℕ) (z : Cell) (st : Stands nonZe
 
   cell-is : cellFrom nonZero z numbers ≡ cellOf nonZero (line nonZero s p 0) (line nonZero s p 1) (line nonZero s p 2) (line nonZero s p 3)
   cell-is =
-      four-lines nonZero (ap (λ (v : ℤ). lineFrom nonZero v numbers 0) (st .a) ∙ line-law nonZero s p 0) (ap (λ (v : ℤ). lineFrom nonZero v numbers 1) (st .b) ∙ line-law nonZero s p 1)
-      (ap (λ (v : ℤ). lineFrom nonZero v numbers 2) (st .c) ∙ line-law nonZero s p 2) (ap (λ (v : ℤ). lineFrom nonZero v numbers 3) (st .d) ∙ line-law nonZero s p 3)
+      four-lines nonZero (ap (λ (v : ℤ). lineFrom nonZero v numbers 0) (st .a) ∙ line-law nonZero s p 0)
+      (ap (λ (v : ℤ). lineFrom nonZero v numbers 1) (st .b) ∙ line-law nonZero s p 1)
+      (ap (λ (v : ℤ). lineFrom nonZero v numbers 2) (st .c) ∙ line-law nonZero s p 2)
+      (ap (λ (v : ℤ). lineFrom nonZero v numbers 3) (st .d) ∙ line-law nonZero s p 3)
 
   pub next-stands : (t : Cell) → t ≡ cellFrom nonZero z numbers → Stands nonZero s (p + 1) t
   unfolding cellOf
@@ -116,10 +122,13 @@ module _ (nonZero : Bool) (s : List ℤ) (p : ℕ) (z : Cell) (st : Stands nonZe
   blank-cell : ((j : ℕ) → j < 16 → numbers j ≡ pos 0) → cellAfter z ≡ cellFrom nonZero z numbers
   unfolding cellOf fullOf
   blank-cell h =
-      same-cell (st .full) (count-of (one (inside nonZero (z .a))) (one (inside nonZero (z .b))) (one (inside nonZero (z .c))) (one (inside nonZero (z .d))))
+      same-cell (st .full)
+      (count-of (oneIf (insideBy nonZero (z .a))) (oneIf (insideBy nonZero (z .b))) (oneIf (insideBy nonZero (z .c))) (oneIf (insideBy nonZero (z .d))))
       ∙ sym (four-lines nonZero (still 0 (z .a) (omega arith)) (still 1 (z .b) (omega arith)) (still 2 (z .c) (omega arith)) (still 3 (z .d) (omega arith)))
     where
-      still : (r : ℕ) (v : ℤ) → r < 4 → lineFrom nonZero v numbers r ≡ record { sum = v; count = one (inside nonZero v) + one (inside nonZero v) + one (inside nonZero v) + one (inside nonZero v) }
+      still : (r : ℕ) (v : ℤ) → r < 4
+          → lineFrom nonZero v numbers r
+          ≡ record { sum = v; count = oneIf (insideBy nonZero v) + oneIf (insideBy nonZero v) + oneIf (insideBy nonZero v) + oneIf (insideBy nonZero v) }
       still r v l =
           ap₂ (λ (a b : ℤ). takenFrom nonZero v a b (numbers (r + 8)) (numbers (r + 12))) (h r (omega arith)) (h (r + 4) (omega arith))
           ∙ ap₂ (λ (a b : ℤ). takenFrom nonZero v (pos 0) (pos 0) a b) (h (r + 8) (omega arith)) (h (r + 12) (omega arith)) ∙ still-line nonZero v
@@ -145,7 +154,7 @@ module _ (s v : List ℤ) (p : ℕ) (now : v ≡ over (zeros (p * 16)) s) where
   -- what an unmarked pixel has
   module _ (cover : List ℕ) (marks : Marked cover (at s)) (here : p < length cover) (mark : ℕ) (is : mark ≡ getD cover p 0) where
     nothing-begins : mark ≡ 0 → (j : ℕ) → j < 16 → at s (p * 16 + j) ≡ pos 0
-    nothing-begins e j h = marks .none (p * 16 + j) (omega arith) (ap (λ (n : ℕ). getD cover n 0) (pixel p j h) ∙ sym is ∙ e)
+    nothing-begins e j h = marks .unmarked (p * 16 + j) (omega arith) (ap (λ (n : ℕ). getD cover n 0) (pixel p j h) ∙ sym is ∙ e)
       where
         pixel : (p j : ℕ) → j < 16 → (p * 16 + j) / 16 ≡ p
         pixel p j h = omega arith

@@ -14,7 +14,7 @@ use Rattle.fixed.proofs.Round.{from-floor}
 use Rattle.fixed.proofs.Sign.{is-positive, above-zero, zero-or-more}
 use Rattle.path.specs.declared.Edge.{Edge}
 use Rattle.coverage.specs.Winding.{leftUp}
-use Rattle.coverage.specs.Engine.{ceilDiv, firstColumn, place}
+use Rattle.coverage.specs.Scanline.{ceilDiv, firstColumn, place}
 use Rattle.fixed.proofs.Tests.{same-test, leZ-not}
 
 -- not at or below is above
@@ -56,7 +56,8 @@ moved a x j d =
     let r = (num 64 ⊗ var j ⊕ num 32 ⊖ var x) ⊗ num d in
     let l' = var a ⊕ (var x ⊖ num 32) ⊗ num d in
     let r' = var j ⊗ num (64 * d) in
-    same-test (leZ (l .int) (r .int)) (leZ (l' .int) (r' .int)) (λ t. le l' r' (omega (arith, from-le l r (leZ-yes t))) .le) (λ t. le l r (omega (arith, from-le l' r' (leZ-yes t))) .le)
+    same-test (leZ (l .int) (r .int)) (leZ (l' .int) (r' .int)) (λ t. le l' r' (omega (arith, from-le l r (leZ-yes t))) .le)
+    (λ t. le l r (omega (arith, from-le l' r' (leZ-yes t))) .le)
 
 -- what an edge that goes up has
 pub rise-of : (a b : ℤ) → a <ℤ b → pos 0 <ℤ (b -ℤ a)
@@ -82,7 +83,8 @@ place-law c k (pos n) j h = by (leb n c) (leb (c + k) n) refl refl
     by : (s t : Bool) → leb n c ≡ s → leb (c + k) n ≡ t → leb (cond s 0 (cond t k (n - c))) j ≡ leb n (c + j)
     by true t e f = leb·zero j ∙ sym (le-leb n (c + j) (omega (arith, leb-true n c e)))
     by false true e f = lt-leb k j h ∙ sym (lt-leb n (c + j) (omega (arith, leb-true (c + k) n f)))
-    by false false e f = same-test (leb (n - c) j) (leb n (c + j)) (λ t. le→leb n (c + j) (omega (arith, leb→le (n - c) j t))) (λ t. le→leb (n - c) j (omega (arith, leb→le n (c + j) t)))
+    by false false e f = same-test (leb (n - c) j) (leb n (c + j)) (λ t. le→leb n (c + j) (omega (arith, leb→le (n - c) j t)))
+        (λ t. le→leb (n - c) j (omega (arith, leb→le n (c + j) t)))
 
 -- a place, by what its tests tell
 module _ (c k : ℕ) (z : ℤ) where
@@ -147,10 +149,12 @@ module _ (n d : ℤ) (c k : ℕ) (h : pos 0 <ℤ d) where
     pub column-past : c ≤ natAbs (n +ℤ pos 64 *ℤ d -ℤ pos 1) / 64 / natAbs d
     column-past = subst (λ (m : ℕ). c ≤ m) (sym column-is) (right-of (ceilDiv n width) c (sym left-test ∙ e))
 
-    pub column-inside : ltZ ((pos (c + k) -ℤ pos 1) *ℤ (pos 64 *ℤ d)) n ≡ false → natAbs (n +ℤ pos 64 *ℤ d -ℤ pos 1) / 64 / natAbs d - c ≡ place c k (ceilDiv n width)
+    pub column-inside : ltZ ((pos (c + k) -ℤ pos 1) *ℤ (pos 64 *ℤ d)) n ≡ false
+        → natAbs (n +ℤ pos 64 *ℤ d -ℤ pos 1) / 64 / natAbs d - c ≡ place c k (ceilDiv n width)
     column-inside f = ap (λ (m : ℕ). m - c) column-is ∙ place-in c k (ceilDiv n width) (sym left-test ∙ e) (sym right-test ∙ f)
 
 -- the crossing of an edge that goes up
-pub crossing-is : (u : Edge) (Y n : ℤ) → n ≡ (Y -ℤ u .y0) *ℤ (u .x1 -ℤ u .x0) +ℤ (u .x0 -ℤ pos 32) *ℤ (u .y1 -ℤ u .y0) → ceilDiv n (64 * natAbs (u .y1 -ℤ u .y0)) ≡ firstColumn u Y
+pub crossing-is : (u : Edge) (Y n : ℤ) → n ≡ (Y -ℤ u .y0) *ℤ (u .x1 -ℤ u .x0) +ℤ (u .x0 -ℤ pos 32) *ℤ (u .y1 -ℤ u .y0)
+    → ceilDiv n (64 * natAbs (u .y1 -ℤ u .y0)) ≡ firstColumn u Y
 unfolding firstColumn
 crossing-is u Y n e = ap (λ (m : ℤ). ceilDiv m (64 * natAbs (u .y1 -ℤ u .y0))) e

@@ -13,7 +13,7 @@ use lib.ListN.{length, getD, set, take, drop, length-set, List·getD-append}
 use lib.Seq.{length-take-le, getD-append-add, getD-take, getD-set-same, getD-set-other, set-append-left, take-at, drop-at}
 use Rattle.lists.specs.Lists.{tab}
 use Rattle.lists.proofs.Laws.{tab-length, tab-at, tab-ext, upto-same}
-use Rattle.coverage.specs.Engine.{laid}
+use Rattle.coverage.specs.Scanline.{laid}
 
 set-append-right : {A : Type 0} (xs ys : List A) (n : ℕ) (a : A) → set (xs ++ ys) (length xs + n) a ≡ xs ++ set ys n a
 set-append-right [] ys n a = rw zero-add
@@ -47,7 +47,9 @@ module _ (b m : ℕ) (l q : List ℤ) (h : b + m ≤ length l) (e : length q ≡
 
 -- a number added to one of a table
 pub tab-bump : (m : ℕ) (f : ℕ → ℤ) (p : ℕ) (v : ℤ) → p < m → set (tab m f) p (f p +ℤ v) ≡ tab m (λ j. f j +ℤ cond (eqb p j) v (pos 0))
-tab-bump m f p v h = tab-ext (pos 0) (set (tab m f) p (f p +ℤ v)) m (λ j. f j +ℤ cond (eqb p j) v (pos 0)) (length-set (tab m f) p (f p +ℤ v) ∙ tab-length m f) (λ k l. by k l (ℕ-discrete k p))
+tab-bump m f p v h =
+    tab-ext (pos 0) (set (tab m f) p (f p +ℤ v)) m (λ j. f j +ℤ cond (eqb p j) v (pos 0)) (length-set (tab m f) p (f p +ℤ v) ∙ tab-length m f)
+    (λ k l. by k l (ℕ-discrete k p))
   where
     by : (k : ℕ) → k < m → Dec (k ≡ p) → getD (set (tab m f) p (f p +ℤ v)) k (pos 0) ≡ f k +ℤ cond (eqb p k) v (pos 0)
     by k l (yes e) =

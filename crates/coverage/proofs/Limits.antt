@@ -12,7 +12,8 @@ use Rattle.coverage.proofs.Tally.{tally-le}
 pub coverage-at-most-16 : (es : List Edge) (nonZero : Bool) (x y : ℕ) → coverage es nonZero x y ≤ 16
 unfolding coverage
 coverage-at-most-16 es nonZero x y =
-    let t : (r : ℕ) → tally nonZero (λ j. winding es (sample j) (sample (4 * y + r))) x ≤ 4 = λ r. tally-le nonZero (λ j. winding es (sample j) (sample (4 * y + r))) x in
+    let t : (r : ℕ) → tally nonZero (λ j. winding es (sample j) (sample (4 * y + r))) x ≤ 4 = λ r. tally-le nonZero
+    (λ j. winding es (sample j) (sample (4 * y + r))) x in
     omega (arith, t 0, t 1, t 2, t 3)
 
 module _ (on : Bool) (scissors : List ℕ) (n x y : ℕ) where

@@ -19,8 +19,9 @@ use Rattle.rect.specs.Rects.{Inside}
 use Rattle.path.specs.declared.Edge.{Edge}
 use Rattle.path.specs.Closed.{Closed}
 use Rattle.path.specs.Boxes.{outer, endOf, outerOf, within, boxOf}
-use Rattle.coverage.specs.Winding.{winding, inside, one, tally, sample, coverage}
-use Rattle.coverage.proofs.Sides.{Every, none, more, every-map, left-wind, right-wind, under-wind, over-wind}
+use Rattle.coverage.specs.Winding.{winding, insideBy, oneIf, tally, sample, coverage}
+use Rattle.outline.proofs.Every.{Every, none, more}
+use Rattle.coverage.proofs.Sides.{every-map, left-wind, right-wind, under-wind, over-wind}
 
 -- ---- the box
 module _ (a b : ℤ) where
@@ -58,7 +59,8 @@ outer-both true a b = greater a b
 outer-both false a b = lesser a b
 
 fold-outer : (high axis : Bool) (m : ℤ) (es : List Edge)
-    → (Beyond high (foldl (λ n d. outer high n (endOf high axis d)) m es) m) × Every (λ d. Beyond high (foldl (λ n d. outer high n (endOf high axis d)) m es) (endOf high axis d)) es
+    → (Beyond high (foldl (λ n d. outer high n (endOf high axis d)) m es) m)
+    × Every (λ d. Beyond high (foldl (λ n d. outer high n (endOf high axis d)) m es) (endOf high axis d)) es
 fold-outer high axis m [] = (beyond-refl high m, none)
 fold-outer high axis m (d ∷ es) =
     let e = endOf high axis d in
@@ -84,7 +86,7 @@ after-pixel m x j h k =
     le (var m) (num (64 * j + 32)) (omega (arith, from-floor (var m) 256 (lit< tt), from-le (var (floorDiv m 256) ⊕ num 1) (num x) h))
 
 -- no sample inside
-zero-out : (nonZero : Bool) → one (inside nonZero (pos 0)) ≡ 0
+zero-out : (nonZero : Bool) → oneIf (insideBy nonZero (pos 0)) ≡ 0
 zero-out true = refl
 zero-out false = refl
 
@@ -97,42 +99,46 @@ coverage-none : (es : List Edge) (nonZero : Bool) (x y : ℕ)
 unfolding coverage
 coverage-none es nonZero x y h =
     total-none 4 (λ r. tally nonZero (λ j. winding es (sample j) (sample (4 * y + r))) x)
-    (λ r l. total-none 4 (λ m. one (inside nonZero (winding es (sample (4 * x + m)) (sample (4 * y + r)))))
-    (λ m k. ap (λ (w : ℤ). one (inside nonZero w)) (h (4 * x + m) (4 * y + r) (omega arith) (omega arith) (omega arith) (omega arith)) ∙ zero-out nonZero))
+    (λ r l. total-none 4 (λ m. oneIf (insideBy nonZero (winding es (sample (4 * x + m)) (sample (4 * y + r)))))
+    (λ m k. ap (λ (w : ℤ). oneIf (insideBy nonZero w)) (h (4 * x + m) (4 * y + r) (omega arith) (omega arith) (omega arith) (omega arith)) ∙ zero-out nonZero))
+
+-- ---- an edge's two ends on an axis: false for x, true for y
+abbrev fromOf : Bool → Edge → ℤ
+fromOf axis e = cond axis (e .y0) (e .x0)
+
+abbrev toOf : Bool → Edge → ℤ
+toOf axis e = cond axis (e .y1) (e .x1)
+
+module _ (es : List Edge) (p j : ℕ) where
+  every-past : (axis : Bool) → pos p <ℤ floorDiv (outerOf false axis es) 256 → j < 4 * p + 4
+      → Every (λ f. (sample j <ℤ fromOf axis f) × (sample j <ℤ toOf axis f)) es
+  every-past axis h b = every-map (λ f l. past axis f (<ℤ-≤ℤ-trans (before-pixel (outerOf false axis es) p j h b) l)) (every-outer false axis es)
+    where
+      past : (axis : Bool) (f : Edge) → sample j <ℤ endOf false axis f → (sample j <ℤ fromOf axis f) × (sample j <ℤ toOf axis f)
+      past true f m = (<ℤ-≤ℤ-trans m (lesser (f .y0) (f .y1) .0), <ℤ-≤ℤ-trans m (lesser (f .y0) (f .y1) .1))
+      past false f m = (<ℤ-≤ℤ-trans m (lesser (f .x0) (f .x1) .0), <ℤ-≤ℤ-trans m (lesser (f .x0) (f .x1) .1))
+
+  every-passed : (axis : Bool) → (floorDiv (outerOf true axis es) 256 +ℤ pos 1) ≤ℤ pos p → 4 * p ≤ j
+      → Every (λ f. (fromOf axis f ≤ℤ sample j) × (toOf axis f ≤ℤ sample j)) es
+  every-passed axis h a = every-map (λ f l. passed axis f (≤ℤ-trans l (after-pixel (outerOf true axis es) p j h a))) (every-outer true axis es)
+    where
+      passed : (axis : Bool) (f : Edge) → endOf true axis f ≤ℤ sample j → (fromOf axis f ≤ℤ sample j) × (toOf axis f ≤ℤ sample j)
+      passed true f m = (≤ℤ-trans (greater (f .y0) (f .y1) .0) m, ≤ℤ-trans (greater (f .y0) (f .y1) .1) m)
+      passed false f m = (≤ℤ-trans (greater (f .x0) (f .x1) .0) m, ≤ℤ-trans (greater (f .x0) (f .x1) .1) m)
 
 -- ---- the four sides, by the least and the greatest of the ends
 module _ (es : List Edge) (nonZero : Bool) (x y : ℕ) where
   left-of-box : pos x <ℤ floorDiv (outerOf false false es) 256 → coverage es nonZero x y ≡ 0
-  left-of-box h =
-      coverage-none es nonZero x y
-      (λ j r a b c d. left-wind (sample j) (sample r)
-      (every-map (λ f l. let m = <ℤ-≤ℤ-trans (before-pixel (outerOf false false es) x j h b) l in
-      (<ℤ-≤ℤ-trans m (lesser (f .x0) (f .x1) .0), <ℤ-≤ℤ-trans m (lesser (f .x0) (f .x1) .1)))
-      (every-outer false false es)))
+  left-of-box h = coverage-none es nonZero x y (λ j r a b c d. left-wind (sample j) (sample r) (every-past es x j false h b))
 
   below-box : pos y <ℤ floorDiv (outerOf false true es) 256 → coverage es nonZero x y ≡ 0
-  below-box h =
-      coverage-none es nonZero x y
-      (λ j r a b c d. under-wind (sample j) (sample r)
-      (every-map (λ f l. let m = <ℤ-≤ℤ-trans (before-pixel (outerOf false true es) y r h d) l in
-      (<ℤ-≤ℤ-trans m (lesser (f .y0) (f .y1) .0), <ℤ-≤ℤ-trans m (lesser (f .y0) (f .y1) .1)))
-      (every-outer false true es)))
+  below-box h = coverage-none es nonZero x y (λ j r a b c d. under-wind (sample j) (sample r) (every-past es y r true h d))
 
   right-of-box : Closed es → (floorDiv (outerOf true false es) 256 +ℤ pos 1) ≤ℤ pos x → coverage es nonZero x y ≡ 0
-  right-of-box cl h =
-      coverage-none es nonZero x y
-      (λ j r a b c d. right-wind (sample j) (sample r) cl
-      (every-map (λ f l. let m = ≤ℤ-trans l (after-pixel (outerOf true false es) x j h a) in
-      (≤ℤ-trans (greater (f .x0) (f .x1) .0) m, ≤ℤ-trans (greater (f .x0) (f .x1) .1) m))
-      (every-outer true false es)))
+  right-of-box cl h = coverage-none es nonZero x y (λ j r a b c d. right-wind (sample j) (sample r) cl (every-passed es x j false h a))
 
   above-box : (floorDiv (outerOf true true es) 256 +ℤ pos 1) ≤ℤ pos y → coverage es nonZero x y ≡ 0
-  above-box h =
-      coverage-none es nonZero x y
-      (λ j r a b c d. over-wind (sample j) (sample r)
-      (every-map (λ f l. let m = ≤ℤ-trans l (after-pixel (outerOf true true es) y r h c) in
-      (≤ℤ-trans (greater (f .y0) (f .y1) .0) m, ≤ℤ-trans (greater (f .y0) (f .y1) .1) m))
-      (every-outer true true es)))
+  above-box h = coverage-none es nonZero x y (λ j r a b c d. over-wind (sample j) (sample r) (every-passed es y r true h c))
 
 -- ---- the box, cut to the surface
 below-cut : (n : ℕ) (z : ℤ) (x : ℕ) → x < within n z → pos x <ℤ z

@@ -10,7 +10,7 @@ use borrow.Author.Tests.{le-leb, lt-leb, le-ltb}
 use Rattle.fixed.specs.Little.{i32At}
 use Rattle.coverage.specs.declared.Span.{Span}
 use Rattle.coverage.specs.Scissors.{inScissor, inScissors, scissored}
-use Rattle.coverage.specs.Engine.{inSpan, noSpan, runOf, spanOf}
+use Rattle.coverage.specs.Scanline.{inSpan, noSpan, runOf, spanOf}
 
 not-in-none : (x : ℕ) → inSpan noSpan x ≡ false
 not-in-none x = ap (λ (t : Bool). leZ (pos 0) (pos x) && t) (le-ltb x 0 (omega arith)) ∙ and-false (leZ (pos 0) (pos x))
@@ -54,15 +54,21 @@ four-same x p q r s = four (in-same p) (in-same q) (in-same r) (in-same s)
 
 -- the four spans are the rectangles
 pub spans-are : (scissors : List ℕ) (n x y : ℕ) → n ≤ 4
-    → (inSpan (spanOf scissors n 0 y) x || inSpan (spanOf scissors n 1 y) x || inSpan (spanOf scissors n 2 y) x || inSpan (spanOf scissors n 3 y) x) ≡ inScissors scissors n x y
-spans-are s zero x y h = four (past-none s 0 x y 0 (omega arith)) (past-none s 0 x y 1 (omega arith)) (past-none s 0 x y 2 (omega arith)) (past-none s 0 x y 3 (omega arith))
+    → (inSpan (spanOf scissors n 0 y) x || inSpan (spanOf scissors n 1 y) x || inSpan (spanOf scissors n 2 y) x || inSpan (spanOf scissors n 3 y) x)
+    ≡ inScissors scissors n x y
+spans-are s zero x y h =
+    four (past-none s 0 x y 0 (omega arith)) (past-none s 0 x y 1 (omega arith)) (past-none s 0 x y 2 (omega arith)) (past-none s 0 x y 3 (omega arith))
 spans-are s (suc zero) x y h =
-    four (span-is s 1 x y 0 (omega arith)) (past-none s 1 x y 1 (omega arith)) (past-none s 1 x y 2 (omega arith)) (past-none s 1 x y 3 (omega arith)) ∙ simp or-false
+    four (span-is s 1 x y 0 (omega arith)) (past-none s 1 x y 1 (omega arith)) (past-none s 1 x y 2 (omega arith)) (past-none s 1 x y 3 (omega arith))
+    ∙ simp or-false
 spans-are s (suc (suc zero)) x y h =
-    four (span-is s 2 x y 0 (omega arith)) (span-is s 2 x y 1 (omega arith)) (past-none s 2 x y 2 (omega arith)) (past-none s 2 x y 3 (omega arith)) ∙ simp or-false
+    four (span-is s 2 x y 0 (omega arith)) (span-is s 2 x y 1 (omega arith)) (past-none s 2 x y 2 (omega arith)) (past-none s 2 x y 3 (omega arith))
+    ∙ simp or-false
 spans-are s (suc (suc (suc zero))) x y h =
-    four (span-is s 3 x y 0 (omega arith)) (span-is s 3 x y 1 (omega arith)) (span-is s 3 x y 2 (omega arith)) (past-none s 3 x y 3 (omega arith)) ∙ simp or-false
-spans-are s (suc (suc (suc (suc zero)))) x y h = four (span-is s 4 x y 0 (omega arith)) (span-is s 4 x y 1 (omega arith)) (span-is s 4 x y 2 (omega arith)) (span-is s 4 x y 3 (omega arith))
+    four (span-is s 3 x y 0 (omega arith)) (span-is s 3 x y 1 (omega arith)) (span-is s 3 x y 2 (omega arith)) (past-none s 3 x y 3 (omega arith))
+    ∙ simp or-false
+spans-are s (suc (suc (suc (suc zero)))) x y h =
+    four (span-is s 4 x y 0 (omega arith)) (span-is s 4 x y 1 (omega arith)) (span-is s 4 x y 2 (omega arith)) (span-is s 4 x y 3 (omega arith))
 spans-are s (suc (suc (suc (suc (suc n))))) x y h = absurd (omega arith)
 
 -- k is kept in a rectangle

@@ -12,17 +12,14 @@ use Rattle.fixed.proofs.Poly.{var, num, _⊖_, _⊗_, le, lt, from-le, from-lt}
 use Rattle.fixed.proofs.Tests.{is-true, is-false, both-left, both-right}
 use Rattle.path.specs.declared.Edge.{Edge}
 use Rattle.path.specs.Closed.{Closed}
+use Rattle.outline.proofs.Every.{Every, none, more}
 use Rattle.coverage.specs.Winding.{rises, turned, upward, spansUp, leftUp, spans, atOrLeft, sign, sumOf, weight, counts, winding}
 use Rattle.coverage.proofs.Telescope.{weight-law, closed-path-cancels}
 
 -- ---- what holds of every edge
-pub data Every (P : Edge → Type 0) : List Edge → Type 0 where
-  none : Every P []
-  more : {e : Edge} {es : List Edge} → P e → Every P es → Every P (e ∷ es)
-
 pub every-map : {P Q : Edge → Type 0} {es : List Edge} → ((e : Edge) → P e → Q e) → Every P es → Every Q es
 every-map f none = none
-every-map f (more {e} p r) = more (f e p) (every-map f r)
+every-map f (more {x = e} p r) = more (f e p) (every-map f r)
 
 sum-none : {f : Edge → ℤ} {es : List Edge} → Every (λ e. f e ≡ pos 0) es → sumOf f es ≡ pos 0
 sum-none none = refl
@@ -101,7 +98,9 @@ module _ (X Y : ℤ) where
   unfolding counts weight spans atOrLeft upward
   right-of e h = by (rises e)
     where
-      by : (r : Bool) → cond (leftUp (cond r e (turned e)) X Y) (cond (spansUp (cond r e (turned e)) Y) (sign e) (pos 0)) (pos 0) ≡ cond (spansUp (cond r e (turned e)) Y) (sign e) (pos 0)
+      by : (r : Bool)
+          → cond (leftUp (cond r e (turned e)) X Y) (cond (spansUp (cond r e (turned e)) Y) (sign e) (pos 0)) (pos 0)
+          ≡ cond (spansUp (cond r e (turned e)) Y) (sign e) (pos 0)
       by true = right-core e (sign e) (h .0) (h .1) (spansUp e Y) refl
       by false = right-core (turned e) (sign e) (h .1) (h .0) (spansUp (turned e) Y) refl
 
@@ -117,7 +116,9 @@ module _ (X Y : ℤ) where
       far y l = is-false (leZ y Y) (λ t. clashℤ {a = Y} {b = y} l (leZ-yes t))
 
   over : (e : Edge) → (e .y0 ≤ℤ Y) × (e .y1 ≤ℤ Y) → counts X Y e ≡ pos 0
-  over e h = flat e (weight-law e Y ∙ ap₂ (λ (a b : Bool). cond a (pos 1) (pos 0) -ℤ cond b (pos 1) (pos 0)) (is-true (leZ (e .y0) Y) (h .0 .le)) (is-true (leZ (e .y1) Y) (h .1 .le)))
+  over e h = flat e
+      (weight-law e Y
+      ∙ ap₂ (λ (a b : Bool). cond a (pos 1) (pos 0) -ℤ cond b (pos 1) (pos 0)) (is-true (leZ (e .y0) Y) (h .0 .le)) (is-true (leZ (e .y1) Y) (h .1 .le)))
 
   -- ---- all edges
   pub left-wind : {es : List Edge} → Every (λ e. (X <ℤ e .x0) × (X <ℤ e .x1)) es → winding es X Y ≡ pos 0

@@ -16,7 +16,7 @@ use Rattle.fixed.proofs.Tests.{is-true, is-false, both-left, both-right}
 use Rattle.path.specs.declared.Edge.{Edge}
 use Rattle.coverage.specs.declared.Start.{Start}
 use Rattle.coverage.specs.Winding.{spans, rises, sign, weight, sample}
-use Rattle.coverage.specs.Engine.{startAt, starts, startOf, sumsAt, missed}
+use Rattle.coverage.specs.Scanline.{startAt, starts, startOf, sumsAt, missed}
 use Rattle.coverage.proofs.Sums.{sum-more, sum-small}
 use Rattle.coverage.proofs.Telescope.{below, weight-law}
 
@@ -37,7 +37,8 @@ cond-small false v h = omega arith
 -- no column has more beginnings than there are edges
 pub starts-small : (c k : ℕ) (Y : ℤ) (es : List Edge) (j : ℕ) → natAbs (starts c k Y es j) ≤ length es
 unfolding starts
-starts-small c k Y es j = sum-small (λ e. cond (eqb (startAt c k Y e) j) (weight Y e) (pos 0)) es (λ e. cond-small (eqb (startAt c k Y e) j) (weight Y e) (weight-small Y e))
+starts-small c k Y es j =
+    sum-small (λ e. cond (eqb (startAt c k Y e) j) (weight Y e) (pos 0)) es (λ e. cond-small (eqb (startAt c k Y e) j) (weight Y e) (weight-small Y e))
 
 starts-more : (c k : ℕ) (Y : ℤ) (es : List Edge) (e : Edge) (j : ℕ)
     → starts c k Y (es ++ (e ∷ [])) j ≡ starts c k Y es j +ℤ cond (eqb (startAt c k Y e) j) (weight Y e) (pos 0)
@@ -73,15 +74,18 @@ module _ (c k y : ℕ) where
         → partly es e r i +ℤ cond (eqb (startAt c k (sample (4 * y + r)) e * 4 + r) i) (weight (sample (4 * y + r)) e) (pos 0) ≡ partly es e (r + 1) i
     partly-more r i h = by (ℕ-discrete (i % 4) r)
       where
-        by : Dec (i % 4 ≡ r) → partly es e r i +ℤ cond (eqb (startAt c k (sample (4 * y + r)) e * 4 + r) i) (weight (sample (4 * y + r)) e) (pos 0) ≡ partly es e (r + 1) i
+        by : Dec (i % 4 ≡ r)
+            → partly es e r i +ℤ cond (eqb (startAt c k (sample (4 * y + r)) e * 4 + r) i) (weight (sample (4 * y + r)) e) (pos 0) ≡ partly es e (r + 1) i
         by (yes p) =
             let s = startAt c k (sample (4 * y + i % 4)) e in
             ap (λ (q : ℕ). partly es e r i +ℤ cond (eqb (startAt c k (sample (4 * y + q)) e * 4 + q) i) (weight (sample (4 * y + q)) e) (pos 0)) (sym p)
-            ∙ ap₂ (λ (t : Bool) (u : Bool). sumsAt c k y es i +ℤ cond t (begun e i) (pos 0) +ℤ cond u (weight (sample (4 * y + i % 4)) e) (pos 0)) (le-ltb (i % 4) r (omega arith)) (number-of s i)
+            ∙ ap₂ (λ (t : Bool) (u : Bool). sumsAt c k y es i +ℤ cond t (begun e i) (pos 0) +ℤ cond u (weight (sample (4 * y + i % 4)) e) (pos 0))
+            (le-ltb (i % 4) r (omega arith)) (number-of s i)
             ∙ ap (λ (z : ℤ). z +ℤ begun e i) (+ℤ-idr (sumsAt c k y es i))
             ∙ sym (ap (λ (t : Bool). sumsAt c k y es i +ℤ cond t (begun e i) (pos 0)) (lt-ltb (i % 4) (r + 1) (omega arith)))
         by (no p) =
-            ap₂ (λ (t : Bool) (u : Bool). sumsAt c k y es i +ℤ cond t (begun e i) (pos 0) +ℤ cond u (weight (sample (4 * y + r)) e) (pos 0)) (later (ltb (i % 4) r) refl)
+            ap₂ (λ (t : Bool) (u : Bool). sumsAt c k y es i +ℤ cond t (begun e i) (pos 0) +ℤ cond u (weight (sample (4 * y + r)) e) (pos 0))
+            (later (ltb (i % 4) r) refl)
             (ne-eqb (startAt c k (sample (4 * y + r)) e * 4 + r) i (λ q. p (row-of (startAt c k (sample (4 * y + r)) e) q)))
             ∙ +ℤ-idr (partly es e (r + 1) i)
           where
@@ -103,7 +107,8 @@ module _ (c k y : ℕ) where
           arith,
           abs-add (sumsAt c k y es i) (cond (ltb (i % 4) r) (begun e i) (pos 0)),
           starts-small c k (sample (4 * y + i % 4)) es (i / 4),
-          cond-small (ltb (i % 4) r) (begun e i) (cond-small (eqb (startAt c k (sample (4 * y + i % 4)) e) (i / 4)) (weight (sample (4 * y + i % 4)) e) (weight-small (sample (4 * y + i % 4)) e)),
+          cond-small (ltb (i % 4) r) (begun e i)
+              (cond-small (eqb (startAt c k (sample (4 * y + i % 4)) e) (i / 4)) (weight (sample (4 * y + i % 4)) e) (weight-small (sample (4 * y + i % 4)) e)),
         )
 
 -- an edge that misses the row of pixels begins nothing in it
@@ -129,7 +134,8 @@ missed-weight e y r h q = weight-law e Y ∙ by (leZ (e .y0) (sample (4 * y))) r
         → below Y (e .y0) -ℤ below Y (e .y1) ≡ pos 0
     by true p u = ap₂ (λ (a b : Bool). cond a (pos 1) (pos 0) -ℤ cond b (pos 1) (pos 0)) (low (e .y0) (subst T (sym p) tt)) (low (e .y1) u)
     by false p u =
-        ap₂ (λ (a b : Bool). cond a (pos 1) (pos 0) -ℤ cond b (pos 1) (pos 0)) (high (e .y0) (both-left (ltZ (sample (4 * y + 3)) (e .y0)) (ltZ (sample (4 * y + 3)) (e .y1)) u))
+        ap₂ (λ (a b : Bool). cond a (pos 1) (pos 0) -ℤ cond b (pos 1) (pos 0))
+        (high (e .y0) (both-left (ltZ (sample (4 * y + 3)) (e .y0)) (ltZ (sample (4 * y + 3)) (e .y1)) u))
         (high (e .y1) (both-right (ltZ (sample (4 * y + 3)) (e .y0)) (ltZ (sample (4 * y + 3)) (e .y1)) u))
 
 pub missed-more : (c k y : ℕ) (es : List Edge) (e : Edge) (i : ℕ) → missed (e .y0) (e .y1) y ≡ true → sumsAt c k y es i ≡ sumsAt c k y (es ++ (e ∷ [])) i

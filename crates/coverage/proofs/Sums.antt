@@ -14,7 +14,7 @@ use Rattle.fixed.proofs.Poly.{var, _⊕_, eq, lt, from-le, from-lt}
 use Rattle.fixed.proofs.Within.{Within, within-add}
 use Rattle.path.specs.declared.Edge.{Edge}
 use Rattle.coverage.specs.Winding.{upward, spansUp, leftUp, spans, atOrLeft, sign, sumOf, weight, counts, winding, sample}
-use Rattle.coverage.specs.Engine.{firstColumn, place, startAt, starts, running}
+use Rattle.coverage.specs.Scanline.{firstColumn, place, startAt, starts, running}
 use Rattle.fixed.proofs.Tests.{both-left, both-right}
 use Rattle.coverage.proofs.Crossing.{first-column-law, place-law}
 
@@ -65,20 +65,21 @@ span-rises u Y t =
     let k : Y <ℤ u .y1 = ltZ-yes (both-right (leZ (u .y0) Y) (ltZ Y (u .y1)) t) in
     lt (var (u .y0)) (var (u .y1)) (omega (arith, from-le (var (u .y0)) (var Y) h, from-lt (var Y) (var (u .y1)) k))
 
-none : (t : Bool) → cond t (pos 0) (pos 0) ≡ pos 0
-none true = refl
-none false = refl
+zero-twice : (t : Bool) → cond t (pos 0) (pos 0) ≡ pos 0
+zero-twice true = refl
+zero-twice false = refl
 
 counts-law : (c k : ℕ) (Y : ℤ) (e : Edge) (j : ℕ) → j < k → counts (sample (c + j)) Y e ≡ cond (leb (startAt c k Y e) j) (weight Y e) (pos 0)
 unfolding counts weight startAt spans atOrLeft
 counts-law c k Y e j h = by (spansUp (upward e) Y) refl
   where
     by : (t : Bool) → spansUp (upward e) Y ≡ t
-        → cond (leftUp (upward e) (sample (c + j)) Y) (cond t (sign e) (pos 0)) (pos 0) ≡ cond (leb (cond t (place c k (firstColumn (upward e) Y)) k) j) (cond t (sign e) (pos 0)) (pos 0)
+        → cond (leftUp (upward e) (sample (c + j)) Y) (cond t (sign e) (pos 0)) (pos 0)
+        ≡ cond (leb (cond t (place c k (firstColumn (upward e) Y)) k) j) (cond t (sign e) (pos 0)) (pos 0)
     by true q =
         ap (λ (b : Bool). cond b (sign e) (pos 0))
         (first-column-law (upward e) Y (pos (c + j)) (span-rises (upward e) Y (subst T (sym q) tt)) ∙ sym (place-law c k (firstColumn (upward e) Y) j h))
-    by false q = none (leftUp (upward e) (sample (c + j)) Y) ∙ sym (none (leb k j))
+    by false q = zero-twice (leftUp (upward e) (sample (c + j)) Y) ∙ sym (zero-twice (leb k j))
 
 -- THE EXCHANGE: the running sum of what begins in the window is the winding number
 pub running-starts : (c k : ℕ) (Y : ℤ) (es : List Edge) (j : ℕ) → j < k → running (starts c k Y es) (suc j) ≡ winding es (sample (c + j)) Y
@@ -86,5 +87,6 @@ unfolding starts winding
 running-starts c k Y [] j h = run-zero (suc j)
 running-starts c k Y (e ∷ es) j h =
     run-add (λ i. cond (eqb (startAt c k Y e) i) (weight Y e) (pos 0)) (starts c k Y es) (suc j)
-    ∙ ap₂ _+ℤ_ (run-lone (startAt c k Y e) (weight Y e) (suc j) ∙ ap (λ (t : Bool). cond t (weight Y e) (pos 0)) (leb·suc-suc (startAt c k Y e) j) ∙ sym (counts-law c k Y e j h))
+    ∙ ap₂ _+ℤ_ (run-lone (startAt c k Y e) (weight Y e) (suc j) ∙ ap (λ (t : Bool). cond t (weight Y e) (pos 0)) (leb·suc-suc (startAt c k Y e) j)
+    ∙ sym (counts-law c k Y e j h))
     (running-starts c k Y es j h)

@@ -10,8 +10,8 @@ use mir.Syntax.{w32}
 use mir.Val.{SFits, ofZ}
 use Rattle.fixed.proofs.Within.{fits}
 use Rattle.fixed.proofs.Signed.{zero-yes, zero-no}
-use Rattle.coverage.specs.Winding.{inside, one, tally}
-use Rattle.coverage.specs.Engine.{takenFrom, running}
+use Rattle.coverage.specs.Winding.{insideBy, oneIf, tally}
+use Rattle.coverage.specs.Scanline.{takenFrom, running}
 
 -- ---- an odd number, by its remainder
 abs-neg : (n : ℕ) → natAbs (negℤ (pos n)) ≡ n
@@ -39,7 +39,8 @@ step : (f : ℕ → ℤ) (n m : ℕ) → m ≡ suc n → running f n +ℤ f n �
 step f n m e = sym (ap (running f) e)
 
 core-four : (nonZero : Bool) (z a b c d A B C D : ℤ) → z +ℤ a ≡ A → A +ℤ b ≡ B → B +ℤ c ≡ C → C +ℤ d ≡ D
-    → takenFrom nonZero z a b c d ≡ record { sum = D; count = 0 + one (inside nonZero A) + one (inside nonZero B) + one (inside nonZero C) + one (inside nonZero D) }
+    → takenFrom nonZero z a b c d
+    ≡ record { sum = D; count = 0 + oneIf (insideBy nonZero A) + oneIf (insideBy nonZero B) + oneIf (insideBy nonZero C) + oneIf (insideBy nonZero D) }
 unfolding takenFrom
 core-four nonZero z a b c d A B C D p q r s = rw (p, q, r, s, zero-add)
 
@@ -61,9 +62,16 @@ taken-law nonZero f x =
     next m n e = ap (running f) e
 
 pub tally-le : (nonZero : Bool) (w : ℕ → ℤ) (x : ℕ) → tally nonZero w x ≤ 4
-tally-le nonZero w x = omega (arith, small (inside nonZero (w (4 * x + 0))), small (inside nonZero (w (4 * x + 1))), small (inside nonZero (w (4 * x + 2))), small (inside nonZero (w (4 * x + 3))))
+tally-le nonZero w x =
+    omega (
+      arith,
+      small (insideBy nonZero (w (4 * x + 0))),
+      small (insideBy nonZero (w (4 * x + 1))),
+      small (insideBy nonZero (w (4 * x + 2))),
+      small (insideBy nonZero (w (4 * x + 3))),
+    )
   where
-    small : (b : Bool) → one b ≤ 1
+    small : (b : Bool) → oneIf b ≤ 1
     small true = omega arith
     small false = omega arith
 

@@ -17,7 +17,7 @@ use Rattle.path.specs.declared.Edge.{Edge}
 use Rattle.path.specs.Stored.{edgeAt, edgesOf, Small}
 use Rattle.coverage.specs.declared.Start.{Start}
 use Rattle.coverage.specs.Winding.{sample}
-use Rattle.coverage.specs.Engine.{laid, zeros, starts, startOf, sumsAt, missed, bumped, withSums, Edges, Marked}
+use Rattle.coverage.specs.Scanline.{laid, zeros, starts, startOf, sumsAt, missed, bumped, withSums, Edges, Marked}
 use Rattle.coverage.proofs.Laid.{laid-at, laid-before, laid-set, laid-again, tab-bump}
 use Rattle.coverage.proofs.Laid.{tab-same}
 use Rattle.coverage.proofs.Starts.{partly, partly-none, partly-more, partly-all, partly-small, missed-more}
@@ -48,7 +48,7 @@ module _ (b m : ℕ) (l : List ℤ) (fit : b + m ≤ length l) (f : ℕ → ℤ)
           (λ i k. sym (ap (λ (s : Bool). f i +ℤ cond s v (pos 0)) (ne-eqb (a * 4 + q) i (λ z. omega (arith, ltb-false (a / 4) w p, z))) ∙ +ℤ-idr (f i))))
 
 mark-turn : (d t : List ℕ) (f : ℕ → ℤ) (a q : ℕ) (v : ℤ) → q < 4 → t ≡ set d (a / 4) 1 → Marked d f → Marked t (λ i. f i +ℤ cond (eqb (a * 4 + q) i) v (pos 0))
-mark-turn d t f a q v h o k = record { none = λ i l z. by i l z (ℕ-discrete (i / 16) (a / 4)) }
+mark-turn d t f a q v h o k = record { unmarked = λ i l z. by i l z (ℕ-discrete (i / 16) (a / 4)) }
   where
     wide : length t ≡ length d
     wide = ap length o ∙ length-set d (a / 4) 1
@@ -59,10 +59,10 @@ mark-turn d t f a q v h o k = record { none = λ i l z. by i l z (ℕ-discrete (
         absurd (omega (arith, s, z))
     by i l z (no p) =
         let s : getD d (i / 16) 0 ≡ 0 = sym (ap (λ (u : List ℕ). getD u (i / 16) 0) o ∙ getD-set-other d (a / 4) (i / 16) 1 0 p) ∙ z in
-        ap₂ (λ (u : ℤ) (b : Bool). u +ℤ cond b v (pos 0)) (k .none i (omega (arith, wide)) s) (ne-eqb (a * 4 + q) i (λ e. omega (arith, p, e)))
+        ap₂ (λ (u : ℤ) (b : Bool). u +ℤ cond b v (pos 0)) (k .unmarked i (omega (arith, wide)) s) (ne-eqb (a * 4 + q) i (λ e. omega (arith, p, e)))
 
 pub mark-same : (d : List ℕ) (f g : ℕ → ℤ) → ((i : ℕ) → i < length d * 16 → f i ≡ g i) → Marked d f → Marked d g
-mark-same d f g h k = record { none = λ i l z. sym (h i l) ∙ k .none i l z }
+mark-same d f g h k = record { unmarked = λ i l z. sym (h i l) ∙ k .unmarked i l z }
 
 -- ---- the edges stand where they stood
 module _ (n m : ℕ) (l q : List ℤ) (fit : n * 4 + m ≤ length l) (e : length q ≡ m) where
@@ -100,7 +100,9 @@ module _ (n w c y : ℕ) (l : List ℤ) (fit : n * 4 + w * 16 ≤ length l) (i :
 
   -- it does not: before the first sample row, in each, and after the last
   pub first-sums : l ≡ withSums n w c y i l → l ≡ laid (n * 4) (w * 16) l (tab (w * 16) (sumsUpTo 0))
-  first-sums o = o ∙ ap (laid (n * 4) (w * 16) l) (tab-same (w * 16) (sumsAt c (w * 4) y (edgesOf l i)) (sumsUpTo 0) (λ j m. partly-none c (w * 4) y (edgesOf l i) (edgeAt l i) j))
+  first-sums o = o
+      ∙ ap (laid (n * 4) (w * 16) l)
+      (tab-same (w * 16) (sumsAt c (w * 4) y (edgesOf l i)) (sumsUpTo 0) (λ j m. partly-none c (w * 4) y (edgesOf l i) (edgeAt l i) j))
 
   pub first-marks : (d : List ℕ) → Marked d (sumsAt c (w * 4) y (edgesOf l i)) → Marked d (sumsUpTo 0)
   first-marks d = mark-same d (sumsAt c (w * 4) y (edgesOf l i)) (sumsUpTo 0) (λ j m. partly-none c (w * 4) y (edgesOf l i) (edgeAt l i) j)
@@ -119,17 +121,21 @@ module _ (n w c y : ℕ) (l : List ℤ) (fit : n * 4 + w * 16 ≤ length l) (i :
         ap (λ (z : Start). sumsUpTo r j +ℤ cond (eqb (z .at * 4 + r) j) (z .by) (pos 0)) q
         ∙ partly-more c (w * 4) y (edgesOf l i) (edgeAt l i) r j low
 
-    pub next-sums : (v t : List ℤ) → v ≡ laid (n * 4) (w * 16) l (tab (w * 16) (sumsUpTo r)) → t ≡ cond (ltb (s .at / 4) w) (bumped v (n * 4 + (s .at * 4 + r)) (s .by)) v
+    pub next-sums : (v t : List ℤ) → v ≡ laid (n * 4) (w * 16) l (tab (w * 16) (sumsUpTo r))
+        → t ≡ cond (ltb (s .at / 4) w) (bumped v (n * 4 + (s .at * 4 + r)) (s .by)) v
         → t ≡ laid (n * 4) (w * 16) l (tab (w * 16) (sumsUpTo (r + 1)))
     next-sums v t o p =
         put-turn (n * 4) (w * 16) l fit (sumsUpTo r) v o w (s .at) r (s .by) refl low t p
-        ∙ ap (laid (n * 4) (w * 16) l) (tab-same (w * 16) (λ j. sumsUpTo r j +ℤ cond (eqb (s .at * 4 + r) j) (s .by) (pos 0)) (sumsUpTo (r + 1)) (λ j m. next j))
+        ∙ ap (laid (n * 4) (w * 16) l)
+        (tab-same (w * 16) (λ j. sumsUpTo r j +ℤ cond (eqb (s .at * 4 + r) j) (s .by) (pos 0)) (sumsUpTo (r + 1)) (λ j m. next j))
 
     pub next-marks : (d t : List ℕ) → t ≡ set d (s .at / 4) 1 → Marked d (sumsUpTo r) → Marked t (sumsUpTo (r + 1))
     next-marks d t p k =
-        mark-same t (λ j. sumsUpTo r j +ℤ cond (eqb (s .at * 4 + r) j) (s .by) (pos 0)) (sumsUpTo (r + 1)) (λ j m. next j) (mark-turn d t (sumsUpTo r) (s .at) r (s .by) low p k)
+        mark-same t (λ j. sumsUpTo r j +ℤ cond (eqb (s .at * 4 + r) j) (s .by) (pos 0)) (sumsUpTo (r + 1)) (λ j m. next j)
+        (mark-turn d t (sumsUpTo r) (s .at) r (s .by) low p k)
 
-  pub sums-small : (r : ℕ) (t : List ℤ) → t ≡ laid (n * 4) (w * 16) l (tab (w * 16) (sumsUpTo r)) → (p : ℕ) → p < w * 16 → natAbs (getD t (n * 4 + p) (pos 0)) ≤ i + 1
+  pub sums-small : (r : ℕ) (t : List ℤ) → t ≡ laid (n * 4) (w * 16) l (tab (w * 16) (sumsUpTo r)) → (p : ℕ) → p < w * 16
+      → natAbs (getD t (n * 4 + p) (pos 0)) ≤ i + 1
   sums-small r t o p h =
       subst (λ (z : ℤ). natAbs z ≤ i + 1) (sym (stands (n * 4) (w * 16) l fit (sumsUpTo r) t o p h))
       (omega (arith, partly-small c (w * 4) y (edgesOf l i) (edgeAt l i) r p, tab-length i (edgeAt l)))
@@ -142,7 +148,7 @@ module _ (n w c y : ℕ) (l : List ℤ) (fit : n * 4 + w * 16 ≤ length l) wher
 
   pub no-marks : (d : List ℕ) → Marked d (sumsAt c (w * 4) y (edgesOf l 0))
   unfolding starts
-  no-marks d = record { none = λ i h z. refl }
+  no-marks d = record { unmarked = λ i h z. refl }
 
   module _ (i : ℕ) (few : i < n) (r : List ℤ) (now : r ≡ withSums n w c y i l) where
     abbrev sums : ℕ → List ℤ
@@ -179,4 +185,5 @@ module _ (n w c y : ℕ) (l : List ℤ) (fit : n * 4 + w * 16 ≤ length l) wher
 
       pub turn-marks : (d : List ℕ) → Marked d (sumsAt c (v * 4) y (edgesOf r (i + 1))) → Marked d (sumsAt c (w * 4) y (edgesOf l (i + 1)))
       turn-marks d m =
-          subst (λ (es : List Edge). Marked d (sumsAt c (w * 4) y es)) (edges-kept (i + 1) (omega arith)) (subst (λ (u : ℕ). Marked d (sumsAt c (u * 4) y (edgesOf r (i + 1)))) same m)
+          subst (λ (es : List Edge). Marked d (sumsAt c (w * 4) y es)) (edges-kept (i + 1) (omega arith))
+          (subst (λ (u : ℕ). Marked d (sumsAt c (u * 4) y (edgesOf r (i + 1)))) same m)

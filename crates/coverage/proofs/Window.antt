@@ -10,10 +10,10 @@ use lib.IntN.{ℤ, pos, natAbs, _+ℤ_}
 use lib.ListN.{length, take, drop, length-take, length-drop, List·getD-eq-default}
 use borrow.Author.Tests.{ltb-true, ltb-false}
 use Rattle.lists.specs.Lists.{tab, over, total}
-use Rattle.lists.proofs.Laws.{tab-length, tab-at, over-part}
+use Rattle.lists.proofs.Laws.{tab-length, tab-at, over-part, total-same}
 use Rattle.path.specs.declared.Edge.{Edge}
-use Rattle.coverage.specs.Winding.{atOrLeft, weight, counts, winding, sample, one, inside, tally, coverage}
-use Rattle.coverage.specs.Engine.{at, laid, starts, running, sumsAt, rowOf, pixelOf, Tame, Marked}
+use Rattle.coverage.specs.Winding.{atOrLeft, weight, counts, winding, sample, oneIf, insideBy, tally, coverage}
+use Rattle.coverage.specs.Scanline.{at, laid, starts, running, sumsAt, rowOf, pixelOf, Tame, Marked}
 use Rattle.coverage.proofs.Sums.{sum-small, running-starts}
 use Rattle.coverage.proofs.Laid.{laid-part, laid-again, tab-same}
 use Rattle.coverage.proofs.Starts.{starts-small, weight-small, cond-small}
@@ -23,13 +23,10 @@ run-same : (f g : ℕ → ℤ) (n : ℕ) → ((i : ℕ) → i < n → f i ≡ g 
 run-same f g zero h = refl
 run-same f g (suc n) h = ap₂ _+ℤ_ (run-same f g n (λ i l. h i (omega arith))) (h n (omega arith))
 
-total-same : (n : ℕ) (f g : ℕ → ℕ) → ((i : ℕ) → i < n → f i ≡ g i) → total n f ≡ total n g
-total-same zero f g h = refl
-total-same (suc n) f g h = ap₂ _+_ (total-same n f g (λ i l. h i (omega arith))) (h n (omega arith))
-
 tally-same : (nonZero : Bool) (f g : ℕ → ℤ) (x y : ℕ) → ((m : ℕ) → m < 4 → f (4 * x + m) ≡ g (4 * y + m)) → tally nonZero f x ≡ tally nonZero g y
 tally-same nonZero f g x y h =
-    total-same 4 (λ m. one (inside nonZero (f (4 * x + m)))) (λ m. one (inside nonZero (g (4 * y + m)))) (λ m l. ap (λ (z : ℤ). one (inside nonZero z)) (h m l))
+    total-same 4 (λ m. oneIf (insideBy nonZero (f (4 * x + m)))) (λ m. oneIf (insideBy nonZero (g (4 * y + m))))
+    (λ m l. ap (λ (z : ℤ). oneIf (insideBy nonZero z)) (h m l))
 
 winding-small : (es : List Edge) (X Y : ℤ) → natAbs (winding es X Y) ≤ length es
 unfolding winding counts
@@ -69,7 +66,8 @@ module _ (c w y : ℕ) (es : List Edge) where
     where
       by : (j : ℕ) (t : Bool) → ltb j (w * 16) ≡ t → natAbs (at sumsOf j) ≤ 1000000
       by j true q =
-          subst (λ (z : ℤ). natAbs z ≤ 1000000) (sym (reads j (ltb-true j (w * 16) q))) (le-trans (starts-small c (w * 4) (sample (4 * y + j % 4)) es (j / 4)) few)
+          subst (λ (z : ℤ). natAbs z ≤ 1000000) (sym (reads j (ltb-true j (w * 16) q)))
+          (le-trans (starts-small c (w * 4) (sample (4 * y + j % 4)) es (j / 4)) few)
       by j false q =
           subst (λ (z : ℤ). natAbs z ≤ 1000000) (sym (List·getD-eq-default sumsOf (pos 0) (omega (arith, sums-long, ltb-false j (w * 16) q)))) (omega arith)
 
@@ -86,7 +84,8 @@ pub window-covers : (x w y : ℕ) (es : List Edge) (nonZero : Bool) → tab w (p
 unfolding coverage
 window-covers x w y es nonZero =
     tab-same w (pixelOf nonZero (sumsOf (4 * x) w y es)) (λ i. total 4 (λ r. tally nonZero (λ j. winding es (sample j) (sample (4 * y + r))) (x + i)))
-    (λ i h. total-same 4 (λ r. tally nonZero (λ j. running (rowOf (sumsOf (4 * x) w y es) r) (suc j)) i) (λ r. tally nonZero (λ j. winding es (sample j) (sample (4 * y + r))) (x + i))
+    (λ i h. total-same 4 (λ r. tally nonZero (λ j. running (rowOf (sumsOf (4 * x) w y es) r) (suc j)) i)
+    (λ r. tally nonZero (λ j. winding es (sample j) (sample (4 * y + r))) (x + i))
     (λ r l. tally-same nonZero (λ j. running (rowOf (sumsOf (4 * x) w y es) r) (suc j)) (λ j. winding es (sample j) (sample (4 * y + r))) i (x + i)
     (λ m k. row-winds (4 * x) w y es r (4 * i + m) l (omega arith) ∙ ap (λ (n : ℕ). winding es (sample n) (sample (4 * y + r))) (omega arith))))
 

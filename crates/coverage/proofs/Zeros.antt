@@ -8,7 +8,7 @@ use lib.IntN.{ℤ, pos}
 use lib.ListN.{length, take, drop, length-take, length-drop, take-append-drop}
 use lib.Seq.{getD-drop}
 use Rattle.lists.proofs.Laws.{tab-length, tab-at, tab-ext}
-use Rattle.coverage.specs.Engine.{laid, zeros}
+use Rattle.coverage.specs.Scanline.{laid, zeros}
 
 zeros-drop : (k n : ℕ) → drop k (zeros n) ≡ zeros (n - k)
 zeros-drop k n =
@@ -17,7 +17,8 @@ zeros-drop k n =
 
 pub zeros-join : (m k : ℕ) → zeros m ++ zeros k ≡ zeros (m + k)
 zeros-join m zero = append-nil (zeros m) ∙ ap zeros (sym (add-zero m))
-zeros-join m (suc k) = sym (append-assoc (zeros m) (zeros k) (pos 0 ∷ [])) ∙ ap (λ (t : List ℤ). t ++ (pos 0 ∷ [])) (zeros-join m k) ∙ ap zeros (sym (add-suc m k))
+zeros-join m (suc k) =
+    sym (append-assoc (zeros m) (zeros k) (pos 0 ∷ [])) ∙ ap (λ (t : List ℤ). t ++ (pos 0 ∷ [])) (zeros-join m k) ∙ ap zeros (sym (add-suc m k))
 
 zeros-split : (m t : ℕ) → m ≤ t → zeros t ≡ zeros m ++ drop m (zeros t)
 zeros-split m t l = sym (ap (λ (u : List ℤ). zeros m ++ u) (zeros-drop m t) ∙ zeros-join m (t - m) ∙ ap zeros (whole m t l))
@@ -32,7 +33,8 @@ clear-laid l n m h c =
     ∙ ap (λ (t : List ℤ). take (n * 4) l ++ t) (c ∙ zeros-split m (length l - n * 4) (omega arith) ∙ ap (λ (t : List ℤ). zeros m ++ drop m t) (sym c))
 
 -- a part of m numbers lent and given back as zeros
-pub part-zeroed : (l z : List ℤ) (b m : ℕ) → b + m ≤ length l → z ≡ zeros (length (take (b + m - b) (drop b l))) → take b l ++ (z ++ drop (b + m - b) (drop b l)) ≡ laid b m l (zeros m)
+pub part-zeroed : (l z : List ℤ) (b m : ℕ) → b + m ≤ length l → z ≡ zeros (length (take (b + m - b) (drop b l)))
+    → take b l ++ (z ++ drop (b + m - b) (drop b l)) ≡ laid b m l (zeros m)
 part-zeroed l z b m h e =
     let w : b + m - b ≡ m = omega arith in
     let n : length (take m (drop b l)) ≡ m = simp (length-take, length-drop) (omega arith) in

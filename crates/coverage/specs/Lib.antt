@@ -1,4 +1,4 @@
 -- The definitions that contracts cite.
 pub mod Winding
 pub mod Scissors
-pub mod Engine
+pub mod Scanline

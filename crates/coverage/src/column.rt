@@ -7,7 +7,7 @@ ghost use lib.IntN.{pos, natAbs};
 ghost use lib.Signed.{ltZ, leZ, _<ℤ_};
 ghost use mathlib.Core.Bool.{_&&_};
 ghost use Rattle.path.specs.Stored.{Small};
-ghost use Rattle.coverage.specs.Engine.{ceilDiv, firstColumn, place, edge, startOf};
+ghost use Rattle.coverage.specs.Scanline.{ceilDiv, firstColumn, place, edge, startOf};
 
 // Of an edge that goes up: the first column whose sample is at or right of its crossing with the row y, in the window of k columns from c on.
 fn column_in(x0: i32, y0: i32, x1: i32, y1: i32, y: i32, c: usize, k: usize) -> usize

@@ -7,15 +7,16 @@
 //      96  . . . . | . . . .     Where nothing begins in a pixel, its four sample rows go on as they were, and so does k.
 //      32  . . . . | . . . .
 use crate::edges::add_edges;
-use crate::fill::zero_counts;
 use crate::samples::take_row;
+use crate::zero::zero_counts;
+use rect::least;
 ghost use mathlib.Core.Path.{_≡_};
-ghost use Prim.Native.Nat.{_+_, _*_, _<_, _≤_, min};
+ghost use Prim.Native.Nat.{_+_, _*_, _<_, _≤_};
 ghost use lib.ListN.{length};
 ghost use Rattle.lists.specs.Lists.{tab};
 ghost use Rattle.path.specs.Stored.{edgesOf};
 ghost use Rattle.coverage.specs.Winding.{coverage};
-ghost use Rattle.coverage.specs.Engine.{Ready};
+ghost use Rattle.coverage.specs.Scanline.{Outlined};
 
 // k of each pixel from (x, y) on, in one row, of the path whose n edges stand in the scratch.
 pub fn coverage_row(
@@ -26,7 +27,7 @@ pub fn coverage_row(
     cover: &mut [u8],
     nonzero: bool,
 )
-    requires { ⌜ Ready (now scratch) n ⌝ }
+    requires { ⌜ Outlined (now scratch) n ⌝ }
     requires { ⌜ (y < 1024) × (x + length (now cover) ≤ 1024) ⌝ }
     ensures { λ _. ⌜ now (scratch .exit) ≡ now (scratch .entry) ⌝ }
     ensures { λ _. ⌜ now (cover .exit) ≡ tab (length (now (cover .entry))) (λ i. coverage (edgesOf (now (scratch .entry)) n) nonzero (x + i) y) ⌝ }
@@ -41,15 +42,9 @@ pub fn coverage_row(
     }
 }
 
-fn least(a: usize, b: usize) -> usize
-    ensures { λ r. ⌜ r ≡ min a b ⌝ }
-{
-    if a < b { a } else { b }
-}
-
 // `coverage_row` for as many pixels as the scratch has room for. A count that is not 0 marks a pixel in which something may begin.
 fn coverage_run(scratch: &mut [i32], n: usize, x: usize, y: usize, cover: &mut [u8], nonzero: bool)
-    requires { ⌜ Ready (now scratch) n ⌝ }
+    requires { ⌜ Outlined (now scratch) n ⌝ }
     requires { ⌜ (y < 1024) × (x + length (now cover) ≤ 1024) × (n * 4 + length (now cover) * 16 ≤ length (now scratch)) ⌝ }
     ensures { λ _. ⌜ now (scratch .exit) ≡ now (scratch .entry) ⌝ }
     ensures { λ _. ⌜ now (cover .exit) ≡ tab (length (now (cover .entry))) (λ i. coverage (edgesOf (now (scratch .entry)) n) nonzero (x + i) y) ⌝ }

@@ -2,29 +2,15 @@
 // sample row r, so that the 16 numbers of a pixel stand together.
 use crate::Start;
 use crate::column::start;
-use path::Edge;
+use path::edges::load;
 ghost use mathlib.Core.Path.{_≡_};
 ghost use mathlib.Core.Bool.{cond};
 ghost use Prim.Native.Nat.{_+_, _*_, _/_, _^_, _<_, _≤_};
 ghost use lib.Dec.{ltb};
 ghost use lib.IntN.{pos, natAbs};
 ghost use lib.ListN.{length, getD, set};
-ghost use Rattle.path.specs.Stored.{edgeAt, edgesOf};
-ghost use Rattle.coverage.specs.Engine.{laid, zeros, missed, bumped, sumsAt, withSums, Edges, Marked};
-
-// The ith edge.
-fn load(scratch: &[i32], i: usize) -> Edge
-    requires { ⌜ i * 4 + 3 < length (now scratch) ⌝ }
-    ensures { λ r. ⌜ r ≡ edgeAt (now (scratch .entry)) i ⌝ }
-{
-    let at = i * 4;
-    Edge {
-        x0: scratch[at],
-        y0: scratch[at + 1],
-        x1: scratch[at + 2],
-        y1: scratch[at + 3],
-    }
-}
+ghost use Rattle.path.specs.Stored.{edgesOf};
+ghost use Rattle.coverage.specs.Scanline.{laid, zeros, missed, bumped, sumsAt, withSums, Edges, Marked};
 
 // Whether an edge has no sample row of the pixel row y between its ends.
 fn misses(y0: i32, y1: i32, y: usize) -> bool
@@ -43,7 +29,8 @@ fn misses(y0: i32, y1: i32, y: usize) -> bool
 fn put(scratch: &mut [i32], base: usize, cover: &mut [u8], r: usize, at: usize, by: i32)
     requires { ⌜ (r < 4) × (base + length (now cover) * 16 ≤ length (now scratch)) × (natAbs by ≤ 1) ⌝ }
     requires { ⌜ (at / 4 < length (now cover) → natAbs (getD (now scratch) (base + (at * 4 + r)) (pos 0)) ≤ 1000000) ⌝ }
-    ensures { λ _. ⌜ now (scratch .exit) ≡ cond (ltb (at / 4) (length (now (cover .entry)))) (bumped (now (scratch .entry)) (base + (at * 4 + r)) by) (now (scratch .entry)) ⌝ }
+    ensures { λ _. ⌜ now (scratch .exit)
+        ≡ cond (ltb (at / 4) (length (now (cover .entry)))) (bumped (now (scratch .entry)) (base + (at * 4 + r)) by) (now (scratch .entry)) ⌝ }
     ensures { λ _. ⌜ now (cover .exit) ≡ set (now (cover .entry)) (at / 4) 1 ⌝ }
 {
     let p = at / 4;

@@ -2,9 +2,9 @@
 mod column;
 pub mod cover;
 mod edges;
-pub mod fill;
 mod samples;
 pub mod scissors;
+pub mod zero;
 
 pub use crate::cover::coverage_row;
 pub use crate::scissors::scissor_row;

@@ -1,20 +1,19 @@
 // From what begins at each column to the samples that are inside.
 use crate::Cell;
 use crate::Taken;
-use crate::fill::zero_numbers;
+use crate::zero::zero_numbers;
 ghost use mathlib.Core.Path.{_≡_};
 ghost use mathlib.Core.Bool.{cond};
 ghost use Prim.Native.Nat.{ℕ, _+_, _*_, _<_, _≤_};
 ghost use lib.Dec.{eqb};
-ghost use lib.IntN.{natAbs};
 ghost use lib.ListN.{length};
 ghost use Rattle.lists.specs.Lists.{tab};
-ghost use Rattle.coverage.specs.Winding.{inside, one};
-ghost use Rattle.coverage.specs.Engine.{at, laid, zeros, takenFrom, fullOf, cellOf, cellFrom, cellAfter, pixelOf, Bounded, Marked, Tame};
+ghost use Rattle.coverage.specs.Winding.{insideBy, oneIf};
+ghost use Rattle.coverage.specs.Scanline.{at, laid, zeros, Low, takenFrom, lineFrom, fullOf, cellOf, cellFrom, cellAfter, pixelOf, Bounded, Marked, Tame};
 
 // 1 where the winding number is inside: not zero, or, by the even-odd rule, odd.
 fn one_inside(nonzero: bool, w: i32) -> u8
-    ensures { λ r. ⌜ (r ≡ one (inside nonzero w)) × (r ≤ 1) ⌝ }
+    ensures { λ r. ⌜ (r ≡ oneIf (insideBy nonzero w)) × (r ≤ 1) ⌝ }
 {
     if nonzero {
         if w != 0 { 1 } else { 0 }
@@ -25,7 +24,7 @@ fn one_inside(nonzero: bool, w: i32) -> u8
 
 // Four columns of a sample row, after the winding number z.
 fn take_four(nonzero: bool, z: i32, a: i32, b: i32, c: i32, d: i32) -> Taken
-    requires { ⌜ (natAbs z ≤ 1000000) × (natAbs a ≤ 1000000) × (natAbs b ≤ 1000000) × (natAbs c ≤ 1000000) × (natAbs d ≤ 1000000) ⌝ }
+    requires { ⌜ Low z × Low a × Low b × Low c × Low d ⌝ }
     ensures { λ r. ⌜ (r ≡ takenFrom nonzero z a b c d) × (r .count ≤ 4) ⌝ }
 {
     let za = z + a;
@@ -44,8 +43,8 @@ fn take_four(nonzero: bool, z: i32, a: i32, b: i32, c: i32, d: i32) -> Taken
 // Four columns of one sample row, from number i on.
 fn take_line(sums: &[i32], i: usize, z: i32, nonzero: bool) -> Taken
     requires { ⌜ i + 12 < length (now sums) ⌝ }
-    requires { ⌜ (natAbs z ≤ 1000000) × (natAbs (at (now sums) i) ≤ 1000000) × (natAbs (at (now sums) (i + 4)) ≤ 1000000) × (natAbs (at (now sums) (i + 8)) ≤ 1000000) × (natAbs (at (now sums) (i + 12)) ≤ 1000000) ⌝ }
-    ensures { λ r. ⌜ (r ≡ takenFrom nonzero z (at (now (sums .entry)) i) (at (now (sums .entry)) (i + 4)) (at (now (sums .entry)) (i + 8)) (at (now (sums .entry)) (i + 12))) × (r .count ≤ 4) ⌝ }
+    requires { ⌜ Low z × Low (at (now sums) i) × Low (at (now sums) (i + 4)) × Low (at (now sums) (i + 8)) × Low (at (now sums) (i + 12)) ⌝ }
+    ensures { λ r. ⌜ (r ≡ lineFrom nonzero z (at (now (sums .entry))) i) × (r .count ≤ 4) ⌝ }
 {
     take_four(nonzero, z, sums[i], sums[i + 4], sums[i + 8], sums[i + 12])
 }
@@ -83,7 +82,7 @@ fn full_of(nonzero: bool, a: i32, b: i32, c: i32, d: i32) -> u8
 // Pixel p, after z, with its 16 numbers, which are set to 0.
 fn take_cell(sums: &mut [i32], p: usize, z: Cell, nonzero: bool) -> Cell
     requires { ⌜ (p * 16 + 16 ≤ length (now sums)) × Bounded z ⌝ }
-    requires { ⌜ ((j : ℕ) → natAbs (at (now sums) (p * 16 + j)) ≤ 1000000) ⌝ }
+    requires { ⌜ ((j : ℕ) → Low (at (now sums) (p * 16 + j))) ⌝ }
     ensures { λ r. ⌜ r ≡ cellFrom nonzero z (λ j. at (now (sums .entry)) (p * 16 + j)) ⌝ }
     ensures { λ _. ⌜ now (sums .exit) ≡ laid (p * 16) 16 (now (sums .entry)) (zeros 16) ⌝ }
 {
@@ -104,7 +103,7 @@ fn take_cell(sums: &mut [i32], p: usize, z: Cell, nonzero: bool) -> Cell
 // Pixel p, after z. Where it is not marked, nothing begins in it.
 fn next_cell(sums: &mut [i32], p: usize, mark: u8, z: Cell, nonzero: bool) -> Cell
     requires { ⌜ (p * 16 + 16 ≤ length (now sums)) × Bounded z ⌝ }
-    requires { ⌜ ((j : ℕ) → natAbs (at (now sums) (p * 16 + j)) ≤ 1000000) ⌝ }
+    requires { ⌜ ((j : ℕ) → Low (at (now sums) (p * 16 + j))) ⌝ }
     ensures { λ r. ⌜ r ≡ cond (eqb mark 0) (cellAfter z) (cellFrom nonzero z (λ j. at (now (sums .entry)) (p * 16 + j))) ⌝ }
     ensures { λ _. ⌜ now (sums .exit) ≡ cond (eqb mark 0) (now (sums .entry)) (laid (p * 16) 16 (now (sums .entry)) (zeros 16)) ⌝ }
 {

@@ -6,13 +6,14 @@ ghost use Prim.Native.Nat.{_+_, _*_, _^_, _<_, _≤_};
 ghost use lib.ListN.{length, getD};
 ghost use Rattle.lists.specs.Lists.{tab};
 ghost use Rattle.coverage.specs.Scissors.{scissored};
-ghost use Rattle.coverage.specs.Engine.{spanOf, runOf, inSpan};
+ghost use Rattle.coverage.specs.Scanline.{spanOf, runOf, inSpan};
 
 // k of each pixel from (x, y) on, in one row, with scissoring on.
 pub fn scissor_row(scissors: &[u8], n: usize, x: usize, y: usize, cover: &mut [u8])
     requires { ⌜ (n ≤ 4) × (16 * n ≤ length (now scissors)) ⌝ }
     requires { ⌜ (y < 1024) × (x + length (now cover) ≤ 1024) ⌝ }
-    ensures { λ _. ⌜ now (cover .exit) ≡ tab (length (now (cover .entry))) (λ i. scissored true (now (scissors .entry)) n (x + i) y (getD (now (cover .entry)) i 0)) ⌝ }
+    ensures { λ _. ⌜ now (cover .exit)
+        ≡ tab (length (now (cover .entry))) (λ i. scissored true (now (scissors .entry)) n (x + i) y (getD (now (cover .entry)) i 0)) ⌝ }
 {
     let a = span(scissors, n, 0, y);
     let b = span(scissors, n, 1, y);

@@ -30,7 +30,8 @@ within-most n z = either (leZ z (pos 0)) (λ e. rw e (omega arith)) (λ e. rw e 
 edges-on : (w h : ℕ) (es : List Edge) → (boxOf w h es .x1 ≤ w) × (boxOf w h es .y1 ≤ h)
 unfolding boxOf
 edges-on w h [] = (omega arith, omega arith)
-edges-on w h (e ∷ es) = (within-most w (floorDiv (outerOf true false (e ∷ es)) 256 +ℤ pos 1), within-most h (floorDiv (outerOf true true (e ∷ es)) 256 +ℤ pos 1))
+edges-on w h (e ∷ es) =
+    (within-most w (floorDiv (outerOf true false (e ∷ es)) 256 +ℤ pos 1), within-most h (floorDiv (outerOf true true (e ∷ es)) 256 +ℤ pos 1))
 
 pub box-on : (w h : ℕ) (s : List ℕ) (i : ℕ) → (boxAt w h s i .x1 ≤ w) × (boxAt w h s i .y1 ≤ h)
 unfolding boxAt drawBox
@@ -64,7 +65,8 @@ module _ (p q : Pixel) where
   alpha-decides e f g = rw (eq-eqb (p .r) (q .r) e, eq-eqb (p .g) (q .g) f, eq-eqb (p .b) (q .b) g)
 
 -- what `same_background` answers
-pub background-answer : (old new : List ℕ) (p q : Pixel) (b : Bool) → p ≡ backgroundOf old → q ≡ backgroundOf new → b ≡ sameBytes p q → b ≡ sameBackground old new
+pub background-answer : (old new : List ℕ) (p q : Pixel) (b : Bool) → p ≡ backgroundOf old → q ≡ backgroundOf new → b ≡ sameBytes p q
+    → b ≡ sameBackground old new
 unfolding sameBackground
 background-answer old new p q b e f o = o ∙ ap₂ sameBytes e f
 

@@ -112,7 +112,8 @@ module _
     -- on a surface that holds the old scene's pixels, the new scene's inside the area make the new scene's picture
     pub redraw-right : overlay w h (damageOf w h old new) (pixelAt new) (raster w h (pixelAt old)) ≡ raster w h (pixelAt new)
     redraw-right =
-        surface-same w h _ (raster w h (pixelAt new)) (overlay-length w h (damageOf w h old new) (pixelAt new) (raster w h (pixelAt old))) (raster-length w h (pixelAt new))
+        surface-same w h _ (raster w h (pixelAt new)) (overlay-length w h (damageOf w h old new) (pixelAt new) (raster w h (pixelAt old)))
+        (raster-length w h (pixelAt new))
         (λ x y k l.
         in-or-out (damageOf w h old new) x y
         (λ i. overlay-in w h (damageOf w h old new) (pixelAt new) (raster w h (pixelAt old)) x y k l i ∙ sym (raster-at w h (pixelAt new) x y k l))

@@ -81,7 +81,8 @@ module _ (w h : ℕ) (old new : List ℕ) where
   pub damage-on : On w h (damageOf w h old new)
   damage-on =
       either (sameBackground old new)
-      (λ e. rw (damage-boxes w h old new e) (joined-on w h (changedBoxes w h old new) none none-on (of-changes (λ b. (b .x1 ≤ w) × (b .y1 ≤ h)) (λ i l c. (box-on w h old i, box-on w h new i)))))
+      (λ e. rw (damage-boxes w h old new e)
+      (joined-on w h (changedBoxes w h old new) none none-on (of-changes (λ b. (b .x1 ≤ w) × (b .y1 ≤ h)) (λ i l c. (box-on w h old i, box-on w h new i)))))
       (λ e. rw (damage-whole w h old new e) (record { across = omega arith; wide = omega arith; up = omega arith; high = omega arith }))
     where
       none-on : On w h none

@@ -5,24 +5,15 @@ use scene::layout::DRAW_BYTES;
 ghost use mathlib.Core.Path.{_≡_};
 ghost use mathlib.Core.List.{foldl};
 ghost use Prim.Native.Nat.{_≤_, max};
-ghost use lib.ListN.{length};
 ghost use Rattle.rect.specs.Rects.{On, joinOf, smallest};
-ghost use Rattle.scene.specs.Layout.{drawBytes};
 ghost use Rattle.scene.specs.Header.{countOf};
 ghost use Rattle.scene.specs.Accepted.{AcceptedScene};
 ghost use Rattle.damage.specs.Damage.{changedAt, boxAt, boxesAt, changedBoxes, sameBytes, sameBackground, damageOf};
 ghost use Rattle.engine.specs.Rows.{Blank};
 
-// The box of draw i, if the scene has it; d is a buffer for a draw.
-fn box_at(
-    s: &[u8],
-    i: usize,
-    d: &mut [u8],
-    scratch: &mut [i32],
-    width: usize,
-    height: usize,
-) -> Rect
-    requires { ⌜ AcceptedScene (now s) × (length (now d) ≡ drawBytes) ⌝ }
+// The box of draw i, if the scene has it.
+fn box_at(s: &[u8], i: usize, scratch: &mut [i32], width: usize, height: usize) -> Rect
+    requires { ⌜ AcceptedScene (now s) ⌝ }
     requires { ⌜ Blank (now scratch) ⌝ }
     requires { ⌜ (width ≤ 1024) × (height ≤ 1024) ⌝ }
     ensures { λ r. ⌜ (r ≡ boxAt width height (now (s .entry)) i) × ((r .x1 ≤ width) × (r .y1 ≤ height)) ⌝ }
@@ -37,14 +28,14 @@ fn box_at(
             y1: 0,
         };
     }
-    scene::blocks::read_draw(s, i, d);
-    engine::edges::draw_bounds(scratch, d, width, height)
+    let mut d = [0u8; DRAW_BYTES];
+    scene::blocks::read_draw(s, i, &mut d);
+    engine::edges::draw_bounds(scratch, &d, width, height)
 }
 
-// Whether draw i is changed; d and e are buffers for a draw.
-fn is_changed(old: &[u8], new: &[u8], i: usize, d: &mut [u8], e: &mut [u8]) -> bool
+// Whether draw i is changed.
+fn is_changed(old: &[u8], new: &[u8], i: usize) -> bool
     requires { ⌜ AcceptedScene (now old) × AcceptedScene (now new) ⌝ }
-    requires { ⌜ (length (now d) ≡ drawBytes) × (length (now e) ≡ drawBytes) ⌝ }
     ensures { λ r. ⌜ r ≡ changedAt (now (old .entry)) (now (new .entry)) i ⌝ }
 {
     let m = scene::header::count(old);
@@ -55,9 +46,11 @@ fn is_changed(old: &[u8], new: &[u8], i: usize, d: &mut [u8], e: &mut [u8]) -> b
     if n <= i {
         return true;
     }
-    scene::blocks::read_draw(old, i, d);
-    scene::blocks::read_draw(new, i, e);
-    !scene::blocks::same_draw(d, e)
+    let mut d = [0u8; DRAW_BYTES];
+    let mut e = [0u8; DRAW_BYTES];
+    scene::blocks::read_draw(old, i, &mut d);
+    scene::blocks::read_draw(new, i, &mut e);
+    !scene::blocks::same_draw(&d, &e)
 }
 
 // The rectangle a with both boxes of draw i, if it is changed.
@@ -66,22 +59,19 @@ fn grow(
     old: &[u8],
     new: &[u8],
     i: usize,
-    d: &mut [u8],
-    e: &mut [u8],
     scratch: &mut [i32],
     width: usize,
     height: usize,
 ) -> Rect
     requires { ⌜ AcceptedScene (now old) × AcceptedScene (now new) ⌝ }
-    requires { ⌜ (length (now d) ≡ drawBytes) × (length (now e) ≡ drawBytes) ⌝ }
     requires { ⌜ Blank (now scratch) ⌝ }
     requires { ⌜ On width height a × ((width ≤ 1024) × (height ≤ 1024)) ⌝ }
     ensures { λ r. ⌜ (r ≡ foldl joinOf a (boxesAt width height (now (old .entry)) (now (new .entry)) i)) × On width height r ⌝ }
     ensures { λ r. ⌜ now (scratch .exit) ≡ now (scratch .entry) ⌝ }
 {
-    if is_changed(old, new, i, d, e) {
-        let before = box_at(old, i, d, scratch, width, height);
-        let after = box_at(new, i, e, scratch, width, height);
+    if is_changed(old, new, i) {
+        let before = box_at(old, i, scratch, width, height);
+        let after = box_at(new, i, scratch, width, height);
         rect::join(rect::join(a, before), after)
     } else {
         a
@@ -99,17 +89,8 @@ fn most_draws(old: &[u8], new: &[u8]) -> usize
 }
 
 // The smallest rectangle that holds both boxes of every changed draw.
-fn changed_boxes(
-    old: &[u8],
-    new: &[u8],
-    d: &mut [u8],
-    e: &mut [u8],
-    scratch: &mut [i32],
-    width: usize,
-    height: usize,
-) -> Rect
+fn changed_boxes(old: &[u8], new: &[u8], scratch: &mut [i32], width: usize, height: usize) -> Rect
     requires { ⌜ AcceptedScene (now old) × AcceptedScene (now new) ⌝ }
-    requires { ⌜ (length (now d) ≡ drawBytes) × (length (now e) ≡ drawBytes) ⌝ }
     requires { ⌜ Blank (now scratch) ⌝ }
     requires { ⌜ (width ≤ 1024) × (height ≤ 1024) ⌝ }
     ensures { λ r. ⌜ (r ≡ smallest (changedBoxes width height (now (old .entry)) (now (new .entry)))) × On width height r ⌝ }
@@ -124,7 +105,7 @@ fn changed_boxes(
     let n = most_draws(old, new);
     let mut i = 0;
     while i < n {
-        a = grow(a, old, new, i, d, e, scratch, width, height);
+        a = grow(a, old, new, i, scratch, width, height);
         i += 1;
     }
     a
@@ -164,9 +145,7 @@ pub fn damage(old: &[u8], new: &[u8], scratch: &mut [i32], width: usize, height:
     ensures { λ r. ⌜ now (scratch .exit) ≡ now (scratch .entry) ⌝ }
 {
     if same_background(old, new) {
-        let mut d = [0u8; DRAW_BYTES];
-        let mut e = [0u8; DRAW_BYTES];
-        return changed_boxes(old, new, &mut d, &mut e, scratch, width, height);
+        return changed_boxes(old, new, scratch, width, height);
     }
     Rect {
         x0: 0,

@@ -1,6 +1,6 @@
 // Draws the scene file that its argument names, and prints the picture.
+use codes::ACCEPTED;
 use console::Line;
-use console::Loaded;
 use console::Size;
 use console::files::FILE_BUFFER;
 use console::files::load;
@@ -30,10 +30,14 @@ fn lend_file(file: &mut [u8; FILE_BUFFER]) {
 
 fn load_scene(file: &mut [u8]) {
     let loaded = load(1, file);
-    match loaded {
-        Loaded::Bytes(n) => draw_scene(&file[0..n]),
-        Loaded::TooLong => print_limit(),
-        Loaded::Unreadable => {}
+    if !loaded.readable {
+        return;
+    }
+    let n = loaded.length;
+    if n == file.len() {
+        print_limit();
+    } else {
+        draw_scene(&file[0..n]);
     }
 }
 
@@ -60,7 +64,7 @@ fn draw_picture(scene: &[u8], surface: &mut [u8], size: Size)
 {
     let mut scratch = [0i32; SCRATCH_NUMBERS];
     let answer = render::draw(scene, surface, &mut scratch);
-    if answer.code != 0 {
+    if answer.code != ACCEPTED {
         Line::new()
             .word(b"refused")
             .hex(answer.code as u64)

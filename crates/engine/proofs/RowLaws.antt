@@ -1,27 +1,30 @@
 -- A row's coverage and a row of pixels, taken apart and put together.
 use mathlib.Core.Path.{_≡_, sym, ap, _∙_}
-use mathlib.Core.List.{List, [], _∷_}
+use mathlib.Core.List.{List, [], _∷_, _++_}
 use mathlib.Core.Bool.{Bool, true, false}
-use Prim.Native.Nat.{ℕ, _+_, _≤_, _<_}
+use Prim.Native.Nat.{ℕ, _+_, _-_, _≤_, _<_}
 use native.Mathlib.Nat.{le-trans}
 use native.Mathlib.Omega.{arith}
-use lib.ListN.{length, getD, drop, length-take, length-drop}
+use lib.ListN.{length, getD, take, drop, length-append, length-drop, length-take}
+use lib.Seq.{take-at, drop-at}
 use Rattle.lists.specs.Lists.{tab}
 use Rattle.lists.proofs.Laws.{upto-same, tab-at, tab-length}
 use Rattle.color.specs.declared.Pixel.{Pixel}
-use Rattle.rect.specs.declared.Rect.{Rect}
-use Rattle.raster.specs.Surface.{run, pixelIn, pixelOf, overlay}
-use Rattle.scene.specs.Fields.{scissorsOf}
+use Rattle.raster.specs.Surface.{run, pixelIn}
 use Rattle.raster.proofs.Pixels.{run-at}
 use Rattle.blend.specs.PorterDuff.{composite}
 use Rattle.blend.specs.Rows.{Coverage, compositeRow}
-use Rattle.blend.proofs.Runs.{run-same}
+use Rattle.raster.proofs.Runs.{run-same}
 use Rattle.path.specs.declared.Edge.{Edge}
 use Rattle.coverage.specs.Winding.{coverage}
 use Rattle.coverage.specs.Scissors.{scissored}
 use Rattle.coverage.proofs.Limits.{coverage-at-most-16, scissored-at-most}
+use Rattle.paint.specs.declared.LinearGradient.{LinearGradient}
+use Rattle.paint.specs.Buffers.{stopsIn, gradientAt}
 use Rattle.engine.specs.declared.Style.{Style}
-use Rattle.engine.specs.Rows.{coverageWith, stepWith}
+use Rattle.engine.specs.declared.Shade.{Shade}
+use Rattle.engine.specs.declared.Shade.the-variants.{Solid, Linear}
+use Rattle.engine.specs.Rows.{coverageWith, stepWith, shadeAt}
 
 tab-same : {A : Type 0} (n : ℕ) (f g : ℕ → A) → ((k : ℕ) → k < n → f k ≡ g k) → tab n f ≡ tab n g
 tab-same n f g h = upto-same n (λ k. f k ∷ []) (λ k. g k ∷ []) (λ k l. ap (λ a. a ∷ []) (h k l))
@@ -29,7 +32,9 @@ tab-same n f g h = upto-same n (λ k. f k ∷ []) (λ k. g k ∷ []) (λ k l. ap
 module _ (style : Style) (es : List Edge) (scissors : List ℕ) (x y : ℕ) where
   pub with-at-most : (i : ℕ) → coverageWith style es scissors i y ≤ 16
   unfolding coverageWith
-  with-at-most i = le-trans (scissored-at-most (style .scissoring) scissors (style .scissors) i y (coverage es (style .nonzero) i y)) (coverage-at-most-16 es (style .nonzero) i y)
+  with-at-most i =
+      le-trans (scissored-at-most (style .scissoring) scissors (style .scissors) i y (coverage es (style .nonzero) i y))
+      (coverage-at-most-16 es (style .nonzero) i y)
 
   -- without scissoring
   pub cover-plain : (n : ℕ) (c : List ℕ) → style .scissoring ≡ false → c ≡ tab n (λ i. coverage es (style .nonzero) (x + i) y)
@@ -57,30 +62,59 @@ module _ (style : Style) (es : List Edge) (scissors : List ℕ) (x y : ℕ) wher
       rw (ap (λ (s : List ℕ). getD s i 0) o ∙ tab-at n (λ i. coverageWith style es scissors (x + i) y) i 0 m) (with-at-most (x + i))
 
   -- a row of pixels under that coverage
-  pub row-steps : (n : ℕ) (c d : List ℕ) (paint : ℕ → ℕ → Pixel) (p : ℕ → Pixel) → c ≡ tab n (λ i. coverageWith style es scissors (x + i) y)
-      → ((i : ℕ) → i < n → p i ≡ paint (x + i) y)
-      → compositeRow (style .mode) c p d ≡ run n (λ i. stepWith style es scissors paint (x + i) y (pixelIn d i))
+  pub row-steps : (n : ℕ) (k c d ramp r : List ℕ) → k ≡ c → c ≡ tab n (λ i. coverageWith style es scissors (x + i) y)
+      → r ≡ compositeRow (style .mode) k (λ i. shadeAt (style .shade) ramp (x + i) y) d
+      → r ≡ run n (λ i. stepWith style es scissors ramp (x + i) y (pixelIn d i))
   unfolding stepWith
-  row-steps n c d paint p o h =
-      ap (λ (k : ℕ). run k (λ i. composite (style .mode) (getD c i 0) (p i) (pixelIn d i))) (ap length o ∙ tab-length n _)
-      ∙ run-same n _ _
-      (λ i l.
-      ap (λ (k : ℕ). composite (style .mode) k (p i) (pixelIn d i)) (ap (λ (s : List ℕ). getD s i 0) o ∙ tab-at n _ i 0 l)
-      ∙ ap (λ (q : Pixel). composite (style .mode) (coverageWith style es scissors (x + i) y) q (pixelIn d i)) (h i l))
+  row-steps n k c d ramp r e o q =
+      let f : ℕ → ℕ → Pixel = λ i z. composite (style .mode) z (shadeAt (style .shade) ramp (x + i) y) (pixelIn d i) in
+      q
+      ∙ rw e
+      (ap (λ (m : ℕ). run m (λ i. f i (getD c i 0))) (ap length o ∙ tab-length n _)
+      ∙ run-same n _ _ (λ i l. ap (f i) (ap (λ (z : List ℕ). getD z i 0) o ∙ tab-at n _ i 0 l)))
 
--- the paint's pixels from a row of bytes
-pub row-painted : (mode n : ℕ) (c d s : List ℕ) (f : ℕ → Pixel) → length c ≡ n → s ≡ run n f → compositeRow mode c (pixelIn s) d ≡ compositeRow mode c f d
-row-painted mode n c d s f e o =
-    run-same (length c) _ _
-    (λ i l.
-    ap (λ (q : Pixel). composite mode (getD c i 0) q (pixelIn d i))
-    (ap (λ (z : List ℕ). pixelIn z i) o ∙ run-at n f i (rw e at l)))
+-- ---- a row's buffer: k of each pixel, then the paint of each
+pub covered-length : (b : List ℕ) (n : ℕ) → n ≤ length b → length (take n b) ≡ n
+covered-length b n h = simp length-take (omega arith)
 
--- ---- a draw's bytes taken apart
-pub scissors-length : (d : List ℕ) → length d ≡ 2032 → length (scissorsOf d) ≡ 64
-scissors-length d e = length-take 64 (drop 68 d) ∙ rw (length-drop 68 d) (omega arith)
+pub first-of : (b : List ℕ) (n : ℕ) → take (n - 0) (drop 0 b) ≡ take n b
+first-of b n =
+    let e : n - 0 ≡ n = omega arith in
+    rw e
 
--- the same step in other words, at every pixel
-pub overlay-parts : (w h : ℕ) (a : Rect) (surface : List ℕ) (paint : ℕ → ℕ → Pixel) (s t : Style) (es fs : List Edge) (b c : List ℕ) → s ≡ t → es ≡ fs → b ≡ c
-    → overlay w h a (λ x y. stepWith s es b paint x y (pixelOf w surface x y)) surface ≡ overlay w h a (λ x y. stepWith t fs c paint x y (pixelOf w surface x y)) surface
-overlay-parts w h a surface paint s t es fs b c e f g = rw (e, f, g)
+-- what is given back first stands first
+pub first-part : (q rest : List ℕ) (n : ℕ) → length q ≡ n → take n (q ++ rest) ≡ q
+first-part q rest n e = take-at q rest n e
+
+pub first-given : (b q : List ℕ) (n : ℕ) → length q ≡ n → n ≤ length b → length (q ++ drop (n - 0) b) ≡ length b
+first-given b q n e h = simp (length-append, length-drop) (omega arith)
+
+-- q is given back as the paint: before it stands what stood there
+module _ (b q rest : List ℕ) (n : ℕ) where
+  pub cover-part : n ≤ length b → take (n - 0) (drop 0 (take n b ++ (q ++ rest))) ≡ take n b
+  cover-part h = first-of (take n b ++ (q ++ rest)) n ∙ take-at (take n b) (q ++ rest) n (covered-length b n h)
+
+  pub paint-part : (m : ℕ) → n ≤ length b → length q ≡ m - n → take (m - n) (drop n (take n b ++ (q ++ rest))) ≡ q
+  paint-part m h e = rw (drop-at (take n b) (q ++ rest) n (covered-length b n h)) (take-at q rest (m - n) e)
+
+-- ---- a shade's row, blended
+module _ (mode n x y : ℕ) (b row ramp r : List ℕ) (s : Shade) where
+  pub solid-row : (p : Pixel) → s ≡ Solid p → r ≡ compositeRow mode (take (n - 0) (drop 0 b)) (λ i. p) row
+      → r ≡ compositeRow mode (take n b) (λ i. shadeAt s ramp (x + i) y) row
+  unfolding shadeAt
+  solid-row p e o = o ∙ rw (e, first-of b n)
+
+  -- the paint's pixels come from q
+  pub linear-row : (g : LinearGradient) (q rest : List ℕ) (m : ℕ) → s ≡ Linear g → n ≤ length b → length q ≡ m - n
+      → q ≡ run n (λ i. gradientAt g (stopsIn ramp (g .count)) (x + i) y)
+      → r ≡ compositeRow mode (take (n - 0) (drop 0 (take n b ++ (q ++ rest)))) (pixelIn (take (m - n) (drop n (take n b ++ (q ++ rest))))) row
+      → r ≡ compositeRow mode (take n b) (λ i. shadeAt s ramp (x + i) y) row
+  unfolding shadeAt
+  linear-row g q rest m e h l o u =
+      let f : ℕ → Pixel = λ i. gradientAt g (stopsIn ramp (g .count)) (x + i) y in
+      u
+      ∙ rw (cover-part b q rest n h, paint-part b q rest n m h l, e)
+      (run-same (length (take n b)) _ _
+      (λ i k.
+      ap (λ (p : Pixel). composite mode (getD (take n b) i 0) p (pixelIn row i))
+      (ap (λ (z : List ℕ). pixelIn z i) o ∙ run-at n f i (rw (covered-length b n h) at k))))

@@ -22,7 +22,10 @@ use Rattle.engine.specs.Rows.{Laid}
 
 pub zeros-table : (n : ℕ) → replicate n (pos 0) ≡ tab n (λ j. pos 0)
 zeros-table zero = refl
-zeros-table (suc n) = sym (ap (λ (k : ℕ). replicate k (pos 0)) (add-one n)) ∙ sym (replicate-append-replicate n 1 (pos 0)) ∙ ap (λ (l : List ℤ). l ++ (pos 0 ∷ [])) (zeros-table n)
+zeros-table (suc n) =
+    sym (ap (λ (k : ℕ). replicate k (pos 0)) (add-one n))
+    ∙ sym (replicate-append-replicate n 1 (pos 0))
+    ∙ ap (λ (l : List ℤ). l ++ (pos 0 ∷ [])) (zeros-table n)
 
 zeros-dropped : (k n : ℕ) → k ≤ n → replicate k (pos 0) ++ drop k (replicate n (pos 0)) ≡ replicate n (pos 0)
 zeros-dropped zero n l = refl
@@ -30,7 +33,8 @@ zeros-dropped (suc k) zero l = absurd (omega arith)
 zeros-dropped (suc k) (suc n) l = ap (λ (z : List ℤ). pos 0 ∷ z) (zeros-dropped k n (omega arith))
 
 -- what `flatten` gets of draw d
-module _ (d : List ℕ) (m : FixedMatrix) (ss cs : List ℕ) (n : ℕ) (matrix : m ≡ fixedMatrix (matrixOf d)) (segments : ss ≡ segmentsOf d) (coordinates : cs ≡ coordinatesOf d) (count : n ≡ segmentCount d) (accepted : AcceptedDraw d) where
+module _ (d : List ℕ) (m : FixedMatrix) (ss cs : List ℕ) (n : ℕ) (matrix : m ≡ fixedMatrix (matrixOf d)) (segments : ss ≡ segmentsOf d)
+    (coordinates : cs ≡ coordinatesOf d) (count : n ≡ segmentCount d) (accepted : AcceptedDraw d) where
   limited : Limited m
   limited = subst Limited (sym matrix) (matrix-limited (matrixOf d) (accepted .matrix))
 
@@ -45,14 +49,21 @@ module _ (d : List ℕ) (m : FixedMatrix) (ss cs : List ℕ) (n : ℕ) (matrix :
       let long : length ss ≡ 128 = ap length segments ∙ length-take 128 (drop 772 d) ∙ rw (length-drop 772 d) (omega arith) in
       ((few, omega (arith, few, long)), (limited, faultless))
 
-  module _ (l q : List ℤ) (r : ℕ) (long : 12300 ≤ length l) (zeros : l ≡ replicate (length l) (pos 0)) (put : q ≡ putEdges l 0 (pathEdges m ss cs n)) (all : r ≡ length (pathEdges m ss cs n)) where
+  module _ (l q : List ℤ) (r : ℕ) (long : 12300 ≤ length l) (zeros : l ≡ replicate (length l) (pos 0)) (put : q ≡ putEdges l 0 (pathEdges m ss cs n))
+      (all : r ≡ length (pathEdges m ss cs n)) where
     flat : Flattened m ss cs n l q r
     flat = flattened m ss cs n l q r few limited faultless (omega arith) put all
 
     pub edges-laid : Laid d q r
     unfolding drawEdges
     edges-laid = record {
-      ready = record { few = flat .few; room = omega (arith, flat .room, long); small = flat .small; clear = clear-behind flat (zeros ∙ zeros-table (length l)) };
+      ready = record {
+        few = flat .few;
+        room = omega (arith, flat .room, long);
+        small = flat .small;
+        clear = clear-behind flat (zeros
+            ∙ zeros-table (length l));
+      };
       edges = flat .edges ∙ rw (matrix, segments, coordinates, count);
     }
 

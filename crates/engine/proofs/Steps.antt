@@ -2,16 +2,17 @@
 use mathlib.Core.Path.{_≡_, sym, ap, _∙_}
 use mathlib.Core.List.{List, foldl-append}
 use mathlib.Core.Bool.{true, false}
-use Prim.Native.Nat.{ℕ, _+_, _*_, _<_}
+use Prim.Native.Nat.{ℕ, _+_, _<_}
 use native.Mathlib.Omega.{arith}
 use native.Mathlib.Numerals.{add-one}
-use lib.ListN.{length}
 use Rattle.color.specs.declared.Pixel.{Pixel}
 use Rattle.color.specs.Channels.{premultiplied}
 use Rattle.rect.specs.declared.Rect.{Rect}
 use Rattle.rect.specs.Rects.{Inside, On, meetOf, emptyOf}
 use Rattle.rect.proofs.Laws.{empty-out, not-empty}
+use Rattle.raster.specs.declared.Target.{Target}
 use Rattle.raster.specs.Surface.{overlay, pixelOf}
+use Rattle.raster.specs.Rows.{Part, stepped}
 use Rattle.raster.proofs.Overlay.{overlay-none, overlay-skip, overlay-then, overlay-same}
 use Rattle.blend.specs.PorterDuff.{composite}
 use Rattle.blend.proofs.Shortcuts.{uncovered-keeps}
@@ -46,38 +47,48 @@ pub draws-more : (s : List ℕ) (n x y : ℕ) (p : Pixel) → drawAll (firstDraw
 draws-more s n x y p = rw (add-one, foldl-append)
 
 -- ---- the pixels of the box are enough
-module _ (d s : List ℕ) (w h : ℕ) (a : Rect) where
-  pub box-enough : (t : List ℕ) → t ≡ overlay w h (meetOf a (boxOf w h (drawEdges d))) (λ x y. drawStep d x y (pixelOf w s x y)) s
-      → t ≡ overlay w h a (λ x y. drawStep d x y (pixelOf w s x y)) s
-  box-enough t o = overlay-skip w h a (drawStep d) (boxOf w h (drawEdges d)) s t (λ x y p k l i. step-out d w h x y p k l i) o
-
-  pub box-none : length s ≡ h * (w * 4) → emptyOf (meetOf a (boxOf w h (drawEdges d))) ≡ true → s ≡ overlay w h a (λ x y. drawStep d x y (pixelOf w s x y)) s
-  box-none e z =
-      let b = meetOf a (boxOf w h (drawEdges d)) in
-      box-enough s (overlay-none w h b (λ x y. drawStep d x y (pixelOf w s x y)) s e (λ x y i. empty-out b x y z i))
-
-pub meet-on : (w h : ℕ) (a b : Rect) → On w h a → emptyOf (meetOf a b) ≡ false → On w h (meetOf a b)
+meet-on : (w h : ℕ) (a b : Rect) → On w h a → emptyOf (meetOf a b) ≡ false → On w h (meetOf a b)
 meet-on w h a b o e =
     let n = not-empty (meetOf a b) e in
     record { across = omega arith; wide = omega arith; up = omega arith; high = omega arith }
 
-pixel-is : (scene : List ℕ) (n : ℕ) (p : Pixel) (x y : ℕ) → n ≡ countOf scene → p ≡ premultiplied (backgroundOf scene) → drawAll (firstDraws scene n) x y p ≡ pixelAt scene x y
+module _ (t : Target) (d s : List ℕ) where
+  pub box-enough : (b : Rect) (r : List ℕ) → b ≡ meetOf (t .area) (boxOf (t .width) (t .height) (drawEdges d))
+      → r ≡ stepped (record { width = t .width; height = t .height; area = b }) (drawStep d) s → r ≡ stepped t (drawStep d) s
+  box-enough b r e o =
+      let box = boxOf (t .width) (t .height) (drawEdges d) in
+      overlay-skip (t .width) (t .height) (t .area) (drawStep d) box s r (λ x y p k l i. step-out d (t .width) (t .height) x y p k l i)
+      (o ∙ ap (λ (z : Rect). stepped (record { width = t .width; height = t .height; area = z }) (drawStep d) s) e)
+
+  pub box-none : (b : Rect) → Part t s → b ≡ meetOf (t .area) (boxOf (t .width) (t .height) (drawEdges d)) → emptyOf b ≡ true → s ≡ stepped t (drawStep d) s
+  box-none b p e z = box-enough b s e (overlay-none (t .width) (t .height) b _ s (p .long) (λ x y i. empty-out b x y z i))
+
+  -- and lie on the surface
+  pub box-part : (b : Rect) → Part t s → b ≡ meetOf (t .area) (boxOf (t .width) (t .height) (drawEdges d)) → emptyOf b ≡ false
+      → Part (record { width = t .width; height = t .height; area = b }) s
+  box-part b p e z =
+      let c = boxOf (t .width) (t .height) (drawEdges d) in
+      let on : On (t .width) (t .height) b = rw e (meet-on (t .width) (t .height) (t .area) c (p .placed .on) (ap emptyOf (sym e) ∙ z)) in
+      record { placed = record { on = on; wide = p .placed .wide; high = p .placed .high }; long = p .long }
+
+-- ---- a turn of the loop over the draws, and the background before them
+pub draws-turn : (t : Target) (scene s r e d : List ℕ) (i : ℕ) → e ≡ drawOf scene i → s ≡ stepped t (drawAll (firstDraws scene i)) d
+    → r ≡ stepped t (drawStep e) s → r ≡ stepped t (drawAll (firstDraws scene (i + 1))) d
+draws-turn t scene s r e d i q o u =
+    let w = t .width in
+    let h = t .height in
+    let a = t .area in
+    overlay-then w h a (drawStep (drawOf scene i)) (λ x y. drawAll (firstDraws scene i) x y (pixelOf w d x y)) s r d o
+    (u ∙ ap (λ (z : List ℕ). stepped t (drawStep z) s) q)
+    ∙ overlay-same w h a _ _ d (λ x y k l j. sym (draws-more scene i x y (pixelOf w d x y)))
+
+pixel-is : (scene : List ℕ) (n : ℕ) (p : Pixel) (x y : ℕ) → n ≡ countOf scene → p ≡ premultiplied (backgroundOf scene)
+    → drawAll (firstDraws scene n) x y p ≡ pixelAt scene x y
 unfolding pixelAt
 pixel-is scene n p x y e f = ap (λ (k : ℕ). drawAll (firstDraws scene k) x y p) e ∙ ap (drawAll (firstDraws scene (countOf scene)) x y) f
 
--- ---- a turn of the loop over the draws, and the background before them
-pub draws-turn : (scene s t e d : List ℕ) (w h i : ℕ) (a : Rect) → e ≡ drawOf scene i
-    → s ≡ overlay w h a (λ x y. drawAll (firstDraws scene i) x y (pixelOf w d x y)) d
-    → t ≡ overlay w h a (λ x y. drawStep e x y (pixelOf w s x y)) s
-    → t ≡ overlay w h a (λ x y. drawAll (firstDraws scene (i + 1)) x y (pixelOf w d x y)) d
-draws-turn scene s t e d w h i a q o u =
-    overlay-then w h a (drawStep (drawOf scene i)) (λ x y. drawAll (firstDraws scene i) x y (pixelOf w d x y)) s t d o
-    (u ∙ ap (λ (z : List ℕ). overlay w h a (λ x y. drawStep z x y (pixelOf w s x y)) s) q)
-    ∙ overlay-same w h a (λ x y. drawStep (drawOf scene i) x y (drawAll (firstDraws scene i) x y (pixelOf w d x y))) (λ x y. drawAll (firstDraws scene (i + 1)) x y (pixelOf w d x y)) d
-    (λ x y k l j. sym (draws-more scene i x y (pixelOf w d x y)))
-
-pub background-then : (scene s t d : List ℕ) (w h n : ℕ) (p : Pixel) (a : Rect) → n ≡ countOf scene → p ≡ premultiplied (backgroundOf scene) → s ≡ overlay w h a (λ x y. p) d
-    → t ≡ overlay w h a (λ x y. drawAll (firstDraws scene n) x y (pixelOf w s x y)) s → t ≡ overlay w h a (pixelAt scene) d
+pub background-then : (scene s t d : List ℕ) (w h n : ℕ) (p : Pixel) (a : Rect) → n ≡ countOf scene → p ≡ premultiplied (backgroundOf scene)
+    → s ≡ overlay w h a (λ x y. p) d → t ≡ overlay w h a (λ x y. drawAll (firstDraws scene n) x y (pixelOf w s x y)) s → t ≡ overlay w h a (pixelAt scene) d
 background-then scene s t d w h n p a e f o u =
     overlay-then w h a (drawAll (firstDraws scene n)) (λ x y. p) s t d o u
     ∙ overlay-same w h a (λ x y. drawAll (firstDraws scene n) x y p) (pixelAt scene) d (λ x y k l j. pixel-is scene n p x y e f)

@@ -1,56 +1,98 @@
 -- What the row functions compute of a draw that was taken apart. A reviewer of the paper need not read it.
-use Prim.Native.Nat.{ℕ, _*_, _≤_}
-use mathlib.Core.List.{List}
-use Rattle.color.specs.declared.Pixel.{Pixel}
-use Rattle.path.specs.declared.Edge.{Edge}
-use Rattle.blend.specs.PorterDuff.{composite}
-use Rattle.coverage.specs.Winding.{coverage}
+use Prim.Native.Nat.{ℕ, _+_, _*_, _≤_, _<_}
 use mathlib.Core.Path.{_≡_}
+use mathlib.Core.List.{List}
 use lib.IntN.{ℤ, pos}
 use lib.ListN.{length, replicate}
+use Rattle.color.specs.declared.Pixel.{Pixel}
 use Rattle.rect.specs.declared.Rect.{Rect}
 use Rattle.rect.specs.Rects.{On}
+use Rattle.path.specs.declared.Edge.{Edge}
 use Rattle.path.specs.Stored.{edgesOf}
-use Rattle.coverage.specs.Engine.{Ready}
+use Rattle.coverage.specs.Scanline.{Outlined}
 use Rattle.coverage.specs.Scissors.{scissored}
-use Rattle.scene.specs.Fields.{blendOf, nonZeroRule, scissoring, scissorCount}
-use Rattle.engine.specs.Picture.{drawEdges}
-use Rattle.paint.specs.Buffers.{Near, Held, stopsIn, linearAt}
+use Rattle.coverage.specs.Winding.{coverage}
+use Rattle.blend.specs.PorterDuff.{composite}
+use Rattle.paint.specs.declared.LinearGradient.{LinearGradient}
+use Rattle.paint.specs.declared.LinearPoints.{LinearPoints}
+use Rattle.paint.specs.Gradient.{fixedPoints}
+use Rattle.paint.specs.Ramps.{rampOf}
+use Rattle.paint.specs.Buffers.{LimitedPoints, HeldRamp, Written, stopsIn, gradientAt}
+use Rattle.scene.specs.Fields.{blendOf, nonZeroRule, scissoring, scissorCount, spreadOf, rampPremultiplied, stopsOf, stopCount}
+use Rattle.engine.specs.Picture.{drawEdges, drawPaint}
 use Rattle.engine.specs.declared.Style.{Style}
+use Rattle.engine.specs.declared.Strip.{Strip}
 use Rattle.engine.specs.declared.Shade.{Shade}
 use Rattle.engine.specs.declared.Shade.the-variants.{Solid, Linear}
 
--- k at a pixel
+-- ---- what is computed at a pixel
+-- k
 unfoldable pub coverageWith : Style → List Edge → List ℕ → ℕ → ℕ → ℕ
 coverageWith s es scissors x y = scissored (s .scissoring) scissors (s .scissors) x y (coverage es (s .nonzero) x y)
 
--- what is stored there, under a paint
-unfoldable pub stepWith : Style → List Edge → List ℕ → (ℕ → ℕ → Pixel) → ℕ → ℕ → Pixel → Pixel
-stepWith s es scissors paint x y q = composite (s .mode) (coverageWith s es scissors x y) (paint x y) q
+-- the paint, with a ramp in a run of numbers
+unfoldable pub shadeAt : Shade → List ℕ → ℕ → ℕ → Pixel
+shadeAt (Solid p) ramp x y = p
+shadeAt (Linear g) ramp x y = gradientAt g (stopsIn ramp (g .count)) x y
 
--- the paint at a pixel, with a ramp in two buffers
-unfoldable pub shadeAt : Shade → List ℕ → List ℕ → ℕ → ℕ → Pixel
-shadeAt (Solid p) offsets colors x y = p
-shadeAt (Linear g) offsets colors x y = linearAt g (stopsIn offsets colors (g .count)) x y
+-- what is stored
+unfoldable pub stepWith : Style → List Edge → List ℕ → List ℕ → ℕ → ℕ → Pixel → Pixel
+stepWith s es scissors ramp x y q = composite (s .mode) (coverageWith s es scissors x y) (shadeAt (s .shade) ramp x y) q
 
--- what a gradient asks of the buffers
-abbrev pub Shaded : Shade → List ℕ → List ℕ → Type 0
-Shaded (Solid p) offsets colors = Unit
-Shaded (Linear g) offsets colors = Near (g .points) × Held offsets colors (g .count)
+-- ---- what is asked
+-- of the scissors
+abbrev pub Scissors : Style → List ℕ → Type 0
+Scissors s scissors = (s .scissors ≤ 4) × (64 ≤ length scissors)
 
--- how a draw is filled, by its bytes
-abbrev pub styleOf : List ℕ → Style
-styleOf d = record { mode = blendOf d; nonzero = nonZeroRule d; scissoring = scissoring d; scissors = scissorCount d }
+-- of the run that a gradient's ramp lies in
+abbrev pub Shaded : Shade → List ℕ → Type 0
+Shaded (Solid p) ramp = Unit
+Shaded (Linear g) ramp = LimitedPoints (g .points) × HeldRamp ramp (g .count)
 
--- the scratch before and after a draw: enough numbers, all zero
+-- of the pixels of a row
+abbrev pub OnSurface : Strip → Type 0
+OnSurface s = (s .y < 1024) × (s .x + s .length ≤ 1024)
+
+-- of a surface of width by height pixels, and a rectangle on it
+abbrev pub Area : ℕ → ℕ → Rect → List ℕ → Type 0
+Area width height a surface = (length surface ≡ height * (width * 4)) × (On width height a × ((width ≤ 1024) × (height ≤ 1024)))
+
+-- of the scratch before and after a draw: enough numbers, all zero
 abbrev pub Blank : List ℤ → Type 0
 Blank scratch = (12300 ≤ length scratch) × (scratch ≡ replicate (length scratch) (pos 0))
 
--- a rectangle of a surface of width by height pixels
-abbrev pub Part : ℕ → ℕ → Rect → List ℕ → Type 0
-Part width height a surface = (length surface ≡ height * (width * 4)) × (On width height a × ((width ≤ 1024) × (height ≤ 1024)))
-
 -- the scratch holds the n edges of draw d, and zeros after them
 pub record Laid (d : List ℕ) (scratch : List ℤ) (n : ℕ) : Type 0 where
-  pub ready : Ready scratch n
+  pub ready : Outlined scratch n
   pub edges : edgesOf scratch n ≡ drawEdges d
+
+-- ---- a draw decoded, by its bytes d
+abbrev pub styleOf : List ℕ → ℕ → Shade → Style
+styleOf d n shade = record {
+  edges = n;
+  nonzero = nonZeroRule d;
+  scissoring = scissoring d;
+  scissors = scissorCount d;
+  mode = blendOf d;
+  shade = shade;
+}
+
+-- a linear gradient with these points, its ramp written to the run `before`
+pub record Gradients (d : List ℕ) (p : LinearPoints) (g : LinearGradient) (before after : List ℕ) : Type 0 where
+  pub points : g .points ≡ fixedPoints p
+  pub spread : g .spread ≡ spreadOf d
+  pub premultiply : g .premultiply ≡ rampPremultiplied d
+  pub ramp : Written before after (g .count) (rampOf (rampPremultiplied d) (stopsOf d) (stopCount d))
+  pub near : LimitedPoints (g .points)
+  pub held : HeldRamp after (g .count)
+
+-- the run after a shade was decoded: a gradient's ramp is written to it
+abbrev pub RampBy : List ℕ → Shade → List ℕ → List ℕ → Type 0
+RampBy d (Solid p) before after = after ≡ before
+RampBy d (Linear g) before after = Written before after (g .count) (rampOf (rampPremultiplied d) (stopsOf d) (stopCount d))
+
+-- a shade of the draw's paint
+pub record Shades (d : List ℕ) (s : Shade) (before after : List ℕ) : Type 0 where
+  pub paint : (x y : ℕ) → shadeAt s after x y ≡ drawPaint d x y
+  pub asked : Shaded s after
+  pub run : RampBy d s before after

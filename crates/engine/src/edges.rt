@@ -15,7 +15,7 @@ ghost use Rattle.engine.specs.Rows.{Laid, Blank};
 pub fn clear(s: &mut [i32])
     ensures { λ _. ⌜ now (s .exit) ≡ replicate (length (now (s .entry))) (pos 0) ⌝ }
 {
-    coverage::fill::zero_numbers(s);
+    coverage::zero::zero_numbers(s);
 }
 
 // Zeros in place of the n edges.

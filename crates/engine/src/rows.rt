@@ -1,143 +1,178 @@
-// Rows of a draw: coverage, scissors, paint and blending, from edges in the scratch.
+// A draw whose edges lie in the scratch, row after row: the coverage of each pixel, its paint, and both blended into the surface.
 use crate::Shade;
+use crate::Strip;
 use crate::Style;
-use rect::Rect;
+use crate::decode::shade;
+use crate::decode::style;
+use paint::build::RAMP_NUMBERS;
+use raster::Target;
 ghost use mathlib.Core.Path.{_≡_};
 ghost use Prim.Native.Nat.{_+_, _-_, _*_, _≤_, _<_};
-ghost use lib.ListN.{length};
+ghost use lib.ListN.{length, take};
 ghost use Rattle.lists.specs.Lists.{tab};
-ghost use Rattle.raster.specs.Surface.{run, pixelIn, pixelOf, overlay};
+ghost use Rattle.raster.specs.Surface.{run, pixelIn};
+ghost use Rattle.raster.specs.Rows.{Part, stepped};
 ghost use Rattle.path.specs.Stored.{edgesOf};
-ghost use Rattle.coverage.specs.Engine.{Ready};
+ghost use Rattle.coverage.specs.Scanline.{Outlined};
+ghost use Rattle.paint.specs.Buffers.{rampNumbers};
 ghost use Rattle.blend.specs.Rows.{Coverage, compositeRow};
-ghost use Rattle.engine.specs.Rows.{coverageWith, stepWith, shadeAt, Shaded, Part};
+ghost use Rattle.scene.specs.Layout.{drawBytes};
+ghost use Rattle.scene.specs.Accepted.{AcceptedDraw};
+ghost use Rattle.engine.specs.Picture.{drawStep};
+ghost use Rattle.engine.specs.Rows.{coverageWith, stepWith, shadeAt, Shaded, Scissors, OnSurface, Laid};
 
-// k of each pixel from (x, y) on, in one row.
-fn cover_row(
-    scratch: &mut [i32],
-    n: usize,
-    scissors: &[u8],
-    style: Style,
-    x: usize,
-    y: usize,
-    cover: &mut [u8],
-)
-    requires { ⌜ Ready (now scratch) n ⌝ }
-    requires { ⌜ (style .scissors ≤ 4) × (64 ≤ length (now scissors)) ⌝ }
-    requires { ⌜ (y < 1024) × (x + length (now cover) ≤ 1024) ⌝ }
+// Bytes for the longest row: k and four bytes of paint to a pixel.
+const ROW_BYTES: usize = 5120;
+
+// The draw of n edges, at every pixel of the target.
+pub fn fill(surface: &mut [u8], scratch: &mut [i32], n: usize, d: &[u8], target: Target)
+    requires { ⌜ (length (now d) ≡ drawBytes) × AcceptedDraw (now d) ⌝ }
+    requires { ⌜ Laid (now d) (now scratch) n ⌝ }
+    requires { ⌜ Part target (now surface) ⌝ }
     ensures { λ _. ⌜ now (scratch .exit) ≡ now (scratch .entry) ⌝ }
-    ensures { λ _. ⌜ now (cover .exit) ≡ tab (length (now (cover .entry))) (λ i. coverageWith style (edgesOf (now (scratch .entry)) n) (now (scissors .entry)) (x + i) y) ⌝ }
+    ensures { λ _. ⌜ now (surface .exit) ≡ stepped target (drawStep (now (d .entry))) (now (surface .entry)) ⌝ }
 {
-    let nonzero = style.nonzero;
-    coverage::cover::coverage_row(scratch, n, x, y, cover, nonzero);
-    if !style.scissoring {
-        return;
-    }
-    let count = style.scissors;
-    coverage::scissors::scissor_row(scissors, count, x, y, cover);
+    let mut ramp = [0u32; RAMP_NUMBERS];
+    let mut buffer = [0u8; ROW_BYTES];
+    fill_with(surface, scratch, n, d, target, &mut ramp, &mut buffer);
 }
 
-// The paint of each pixel from (x, y) on, blended into a row by its coverage.
-fn shade_row(
-    row: &mut [u8],
-    cover: &[u8],
-    mode: u16,
-    shade: Shade,
-    offsets: &[u32],
-    colors: &[u8],
-    paints: &mut [u8],
-    x: usize,
-    y: usize,
-)
-    requires { ⌜ Shaded shade (now offsets) (now colors) ⌝ }
-    requires { ⌜ (y < 1024) × (x + length (now cover) ≤ 1024) × (length (now row) ≡ length (now cover) * 4) × (length (now paints) ≡ length (now cover) * 4) ⌝ }
-    requires { ⌜ Coverage (now cover) ⌝ }
-    ensures { λ _. ⌜ now (row .exit) ≡ compositeRow mode (now (cover .entry)) (λ i. shadeAt shade (now (offsets .entry)) (now (colors .entry)) (x + i) y) (now (row .entry)) ⌝ }
-{
-    match shade {
-        Shade::Solid(p) => {
-            blend::composite_run(mode, cover, p, row);
-        }
-        Shade::Linear(g) => {
-            let n = cover.len();
-            paint::row::linear_row(g, offsets, colors, x, y, n, paints);
-            blend::composite_row(mode, cover, paints, row);
-        }
-    }
-}
-
-// One row of a draw.
-fn draw_row(
-    row: &mut [u8],
-    scratch: &mut [i32],
-    n: usize,
-    scissors: &[u8],
-    style: Style,
-    cover: &mut [u8],
-    shade: Shade,
-    offsets: &[u32],
-    colors: &[u8],
-    paints: &mut [u8],
-    x: usize,
-    y: usize,
-)
-    requires { ⌜ Ready (now scratch) n ⌝ }
-    requires { ⌜ (style .scissors ≤ 4) × (64 ≤ length (now scissors)) ⌝ }
-    requires { ⌜ Shaded shade (now offsets) (now colors) ⌝ }
-    requires { ⌜ (y < 1024) × (x + length (now cover) ≤ 1024) × (length (now row) ≡ length (now cover) * 4) × (length (now paints) ≡ length (now cover) * 4) ⌝ }
-    ensures { λ _. ⌜ now (scratch .exit) ≡ now (scratch .entry) ⌝ }
-    ensures { λ _. ⌜ now (row .exit) ≡ run (length (now (cover .entry))) (λ i. stepWith style (edgesOf (now (scratch .entry)) n) (now (scissors .entry)) (shadeAt shade (now (offsets .entry)) (now (colors .entry))) (x + i) y (pixelIn (now (row .entry)) i)) ⌝ }
-{
-    cover_row(scratch, n, scissors, style, x, y, cover);
-    let mode = style.mode;
-    shade_row(row, cover, mode, shade, offsets, colors, paints, x, y);
-}
-
-// A draw, at every pixel of a.
-pub fn draw_rect(
+// The same with a run for its ramp and a buffer for a row. What these hold afterwards is free.
+fn fill_with(
     surface: &mut [u8],
     scratch: &mut [i32],
     n: usize,
-    scissors: &[u8],
-    style: Style,
-    cover: &mut [u8],
-    shade: Shade,
-    offsets: &[u32],
-    colors: &[u8],
-    paints: &mut [u8],
-    width: usize,
-    height: usize,
-    a: Rect,
+    d: &[u8],
+    target: Target,
+    ramp: &mut [u32],
+    buffer: &mut [u8],
 )
-    requires { ⌜ Ready (now scratch) n ⌝ }
-    requires { ⌜ (style .scissors ≤ 4) × (64 ≤ length (now scissors)) ⌝ }
-    requires { ⌜ Shaded shade (now offsets) (now colors) ⌝ }
-    requires { ⌜ Part width height a (now surface) ⌝ }
-    requires { ⌜ (length (now cover) ≡ a .x1 - a .x0) × (length (now paints) ≡ (a .x1 - a .x0) * 4) ⌝ }
+    requires { ⌜ (length (now d) ≡ drawBytes) × AcceptedDraw (now d) ⌝ }
+    requires { ⌜ Laid (now d) (now scratch) n ⌝ }
+    requires { ⌜ Part target (now surface) ⌝ }
+    requires { ⌜ (rampNumbers ≤ length (now ramp)) × (5120 ≤ length (now buffer)) ⌝ }
     ensures { λ _. ⌜ now (scratch .exit) ≡ now (scratch .entry) ⌝ }
-    ensures { λ _. ⌜ now (surface .exit) ≡ overlay width height a (λ x y. stepWith style (edgesOf (now (scratch .entry)) n) (now (scissors .entry)) (shadeAt shade (now (offsets .entry)) (now (colors .entry))) x y (pixelOf width (now (surface .entry)) x y)) (now (surface .entry)) ⌝ }
+    ensures { λ _. ⌜ now (surface .exit) ≡ stepped target (drawStep (now (d .entry))) (now (surface .entry)) ⌝ }
 {
-    let x0 = a.x0;
-    let x1 = a.x1;
-    let y1 = a.y1;
-    let mut y = a.y0;
+    let s = style(d, n, shade(d, ramp));
+    let m = (target.area.x1 - target.area.x0) * 5;
+    draw_rect(
+        surface,
+        scratch,
+        scene::fields::scissors(d),
+        ramp,
+        &mut buffer[0..m],
+        s,
+        target,
+    );
+}
+
+// Row after row of the target. What the buffer, five bytes to a pixel of a row, holds afterwards is free.
+fn draw_rect(
+    surface: &mut [u8],
+    scratch: &mut [i32],
+    scissors: &[u8],
+    ramp: &[u32],
+    buffer: &mut [u8],
+    style: Style,
+    target: Target,
+)
+    requires { ⌜ Outlined (now scratch) (style .edges) ⌝ }
+    requires { ⌜ Scissors style (now scissors) × Shaded (style .shade) (now ramp) ⌝ }
+    requires { ⌜ Part target (now surface) × (length (now buffer) ≡ (target .area .x1 - target .area .x0) * 5) ⌝ }
+    ensures { λ _. ⌜ now (scratch .exit) ≡ now (scratch .entry) ⌝ }
+    ensures { λ _. ⌜
+        now (surface .exit)
+        ≡ stepped target (stepWith style (edgesOf (now (scratch .entry)) (style .edges)) (now (scissors .entry)) (now (ramp .entry))) (now (surface .entry))
+        ⌝ }
+{
+    let x = target.area.x0;
+    let length = target.area.x1 - x;
+    let y1 = target.area.y1;
+    let mut y = target.area.y0;
     while y < y1 {
-        let at = (y * width + x0) * 4;
-        let e = (y * width + x1) * 4;
+        let r = raster::row_bytes(target, y);
+        let from = r.from;
+        let to = r.to;
+        let strip = Strip { x, y, length };
         draw_row(
-            &mut surface[at..e],
+            &mut surface[from..to],
             scratch,
-            n,
             scissors,
+            ramp,
+            buffer,
             style,
-            cover,
-            shade,
-            offsets,
-            colors,
-            paints,
-            x0,
-            y,
+            strip,
         );
         y += 1;
+    }
+}
+
+// One row: the buffer's first bytes take k of each pixel, the others its paint.
+fn draw_row(
+    row: &mut [u8],
+    scratch: &mut [i32],
+    scissors: &[u8],
+    ramp: &[u32],
+    buffer: &mut [u8],
+    style: Style,
+    strip: Strip,
+)
+    requires { ⌜ Outlined (now scratch) (style .edges) ⌝ }
+    requires { ⌜ Scissors style (now scissors) × Shaded (style .shade) (now ramp) ⌝ }
+    requires { ⌜ OnSurface strip × (length (now row) ≡ strip .length * 4) × (length (now buffer) ≡ strip .length * 5) ⌝ }
+    ensures { λ _. ⌜ now (scratch .exit) ≡ now (scratch .entry) ⌝ }
+    ensures { λ _. ⌜
+        now (row .exit)
+        ≡ run (strip .length)
+        (λ i. stepWith style (edgesOf (now (scratch .entry)) (style .edges)) (now (scissors .entry)) (now (ramp .entry))
+        (strip .x + i) (strip .y) (pixelIn (now (row .entry)) i))
+        ⌝ }
+{
+    let n = strip.length;
+    cover_row(scratch, scissors, &mut buffer[0..n], style, strip);
+    shade_row(row, ramp, buffer, style, strip);
+}
+
+// k of each pixel.
+fn cover_row(scratch: &mut [i32], scissors: &[u8], cover: &mut [u8], style: Style, strip: Strip)
+    requires { ⌜ Outlined (now scratch) (style .edges) ⌝ }
+    requires { ⌜ Scissors style (now scissors) ⌝ }
+    requires { ⌜ OnSurface strip × (length (now cover) ≡ strip .length) ⌝ }
+    ensures { λ _. ⌜ now (scratch .exit) ≡ now (scratch .entry) ⌝ }
+    ensures { λ _. ⌜
+        now (cover .exit)
+        ≡ tab (strip .length) (λ i. coverageWith style (edgesOf (now (scratch .entry)) (style .edges)) (now (scissors .entry)) (strip .x + i) (strip .y))
+        ⌝ }
+{
+    coverage::cover::coverage_row(scratch, style.edges, strip.x, strip.y, cover, style.nonzero);
+    if !style.scissoring {
+        return;
+    }
+    coverage::scissors::scissor_row(scissors, style.scissors, strip.x, strip.y, cover);
+}
+
+// The paint of each pixel, blended into the row by the k that stands first in the buffer.
+fn shade_row(row: &mut [u8], ramp: &[u32], buffer: &mut [u8], style: Style, strip: Strip)
+    requires { ⌜ Shaded (style .shade) (now ramp) ⌝ }
+    requires { ⌜ OnSurface strip × (length (now row) ≡ strip .length * 4) × (length (now buffer) ≡ strip .length * 5) ⌝ }
+    requires { ⌜ Coverage (take (strip .length) (now buffer)) ⌝ }
+    ensures { λ _. ⌜
+        now (row .exit)
+        ≡ compositeRow (style .mode) (take (strip .length) (now (buffer .entry)))
+        (λ i. shadeAt (style .shade) (now (ramp .entry)) (strip .x + i) (strip .y)) (now (row .entry))
+        ⌝ }
+{
+    let n = strip.length;
+    let m = n * 5;
+    let shade = style.shade;
+    match shade {
+        Shade::Solid(p) => {
+            blend::composite_run(style.mode, &buffer[0..n], p, row);
+        }
+        Shade::Linear(g) => {
+            paint::row::linear_row(g, ramp, strip.x, strip.y, n, &mut buffer[n..m]);
+            blend::composite_row(style.mode, &buffer[0..n], &buffer[n..m], row);
+        }
     }
 }

@@ -3,21 +3,18 @@
 use mathlib.Core.Path.{_≡_, refl, sym, ap, _∙_, subst}
 use mathlib.Core.Bool.{Bool, true, false, not}
 use mathlib.Core.List.{[], _∷_}
-use Prim.Native.Nat.{ℕ, _*_}
+use Prim.Native.Nat.{ℕ}
 use denote.Enum.Declared.{tagOf}
 use types.Run.{OneOf, miss}
-use lib.Dec.{T, leb}
-use lib.IntN.{ℤ, pos, natAbs}
-use lib.Ieee.{Float, nan, inf, fin, up, down, isNan}
-use Rattle.fixed.specs.Floats.{realOf, scaled, atMost, inUnit, fixedIn, pickFixed, offsetIn, pickOffset}
+use lib.Dec.{T}
+use lib.IntN.{natAbs}
+use lib.Ieee.{Float, nan, inf, fin, isNan}
+use Rattle.fixed.specs.Floats.{realOf, scaled, inUnit, offsetIn, pickOffset}
 use Rattle.fixed.specs.declared.Real.{Real}
 use Rattle.fixed.specs.declared.Real.the-variants.{Number, Nan}
-use Rattle.fixed.specs.declared.Fixed.{Fixed}
-use Rattle.fixed.specs.declared.Fixed.the-variants.{Value, TooLarge, Infinite, NotANumber}
 use Rattle.fixed.specs.declared.Offset.{Offset}
 use Rattle.fixed.specs.declared.Offset.the-variants as offset
 use Rattle.fixed.proofs.Real as real-enum
-use Rattle.fixed.proofs.Fixed as fixed-enum
 use Rattle.fixed.proofs.Offset as offset-enum
 
 -- ---- Real: a float, where the bytes are no NaN's
@@ -40,48 +37,6 @@ no-number false v e = absurd (subst T e tt)
 pub no-number-arm : (r : Real) → OneOf (1 ∷ []) (tagOf real-enum.the-type r) → isNumber r ≡ false
 no-number-arm (Number v) h = absurd (miss (1 ∷ []) 0 tt h)
 no-number-arm Nan h = refl
-
--- ---- Fixed: the scaled float, where the limit is kept
-abbrev pub isValue : Fixed → Bool
-isValue (Value z) = true
-isValue TooLarge = false
-isValue Infinite = false
-isValue NotANumber = false
-
-abbrev valueOf : Fixed → ℤ
-valueOf (Value z) = z
-valueOf TooLarge = pos 0
-valueOf Infinite = pos 0
-valueOf NotANumber = pos 0
-
-pub value-within : (scale limit : ℕ) (v : Float) → isValue (fixedIn scale limit v) ≡ atMost limit v
-value-within scale limit nan = refl
-value-within scale limit (inf s) = refl
-value-within scale limit (fin s m e) = by (leb (m * up e) (limit * down e)) (scaled scale (fin s m e))
-  where
-    by : (t : Bool) (z : ℤ) → isValue (pickFixed t (Value z) TooLarge) ≡ t
-    by true z = refl
-    by false z = refl
-
-pub value-told : (scale limit : ℕ) (v : Float) (z : ℤ) → fixedIn scale limit v ≡ Value z → (z ≡ scaled scale v) × (atMost limit v ≡ true)
-value-told scale limit v z e = (sym (ap valueOf e) ∙ is-scaled v kept, kept)
-  where
-    kept : atMost limit v ≡ true
-    kept = sym (value-within scale limit v) ∙ ap isValue e
-
-    is-scaled : (v : Float) → atMost limit v ≡ true → valueOf (fixedIn scale limit v) ≡ scaled scale v
-    is-scaled nan h = refl
-    is-scaled (inf s) h = refl
-    is-scaled (fin s m e) h = ap (λ (t : Bool). valueOf (pickFixed t (Value (scaled scale (fin s m e))) TooLarge)) h
-
-pub no-value : (scale limit : ℕ) (v : Float) → isValue (fixedIn scale limit v) ≡ false → atMost limit v ≡ false
-no-value scale limit v e = sym (value-within scale limit v) ∙ e
-
-pub no-value-arm : (r : Fixed) → OneOf (1 ∷ 2 ∷ 3 ∷ []) (tagOf fixed-enum.the-type r) → isValue r ≡ false
-no-value-arm (Value z) h = absurd (miss (1 ∷ 2 ∷ 3 ∷ []) 0 tt h)
-no-value-arm TooLarge h = refl
-no-value-arm Infinite h = refl
-no-value-arm NotANumber h = refl
 
 -- ---- Offset: 65,536ths, where the float is from 0 to 1
 abbrev pub isOffset : Offset → Bool

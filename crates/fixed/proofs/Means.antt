@@ -39,13 +39,31 @@ abbrev pub lit : ℕ → Num
 lit n = record { bound = n; read = pos n; int = pos n; same = refl; size = within-pos n }
 
 abbrev pub add : Num → Num → Num
-add r s = record { bound = r .bound + s .bound; read = r .read +ℤ s .read; int = r .int +ℤ s .int; same = ap₂ _+ℤ_ (r .same) (s .same); size = within-add (r .size) (s .size) }
+add r s = record {
+  bound = r .bound + s .bound;
+  read = r .read +ℤ s .read;
+  int = r .int +ℤ s .int;
+  same = ap₂ _+ℤ_ (r .same) (s .same);
+  size = within-add (r .size) (s .size);
+}
 
 abbrev pub sub : Num → Num → Num
-sub r s = record { bound = r .bound + s .bound; read = r .read -ℤ s .read; int = r .int -ℤ s .int; same = ap₂ _-ℤ_ (r .same) (s .same); size = within-sub (r .size) (s .size) }
+sub r s = record {
+  bound = r .bound + s .bound;
+  read = r .read -ℤ s .read;
+  int = r .int -ℤ s .int;
+  same = ap₂ _-ℤ_ (r .same) (s .same);
+  size = within-sub (r .size) (s .size);
+}
 
 abbrev pub mul : Num → Num → Num
-mul r s = record { bound = r .bound * s .bound; read = r .read *ℤ s .read; int = r .int *ℤ s .int; same = ap₂ _*ℤ_ (r .same) (s .same); size = within-mul (r .size) (s .size) }
+mul r s = record {
+  bound = r .bound * s .bound;
+  read = r .read *ℤ s .read;
+  int = r .int *ℤ s .int;
+  same = ap₂ _*ℤ_ (r .same) (s .same);
+  size = within-mul (r .size) (s .size);
+}
 
 abbrev pub shr : Num → ℕ → Num
 shr r d = record { bound = r .bound; read = shrZ (r .read) d; int = shrZ (r .int) d; same = ap (λ (x : ℤ). shrZ x d) (r .same); size = within-shr d (r .size) }
@@ -68,15 +86,23 @@ abbrev pub keep-as : (w : Width) (r : Num) → SFits w (r .int) → Num
 keep-as w r f = record { bound = r .bound; read = toZ w (ofZ w (r .read)); int = r .int; same = toZ-ofZ (need-as r f) ∙ r .same; size = r .size }
 
 abbrev pub quot : Num → Num → Num
-quot r s = record { bound = r .bound; read = quotZ (r .read) (s .read); int = quotZ (r .int) (s .int); same = ap₂ quotZ (r .same) (s .same); size = within-quot (s .int) (r .size) }
+quot r s = record {
+  bound = r .bound;
+  read = quotZ (r .read) (s .read);
+  int = quotZ (r .int) (s .int);
+  same = ap₂ quotZ (r .same) (s .same);
+  size = within-quot (s .int) (r .size);
+}
 
 abbrev pub rem : Num → Num → Num
-rem r s = record { bound = r .bound; read = remZ (r .read) (s .read); int = remZ (r .int) (s .int); same = ap₂ remZ (r .same) (s .same); size = within-rem (s .int) (r .size) }
+rem r s = record {
+  bound = r .bound;
+  read = remZ (r .read) (s .read);
+  int = remZ (r .int) (s .int);
+  same = ap₂ remZ (r .same) (s .same);
+  size = within-rem (s .int) (r .size);
+}
 
 -- an unsigned number that was cast to a signed type of w bits, as it stands in a local
 abbrev pub of-nat : (w : Width) (n b : ℕ) → n ≤ b → T (ltb b (2 ^ hbits w)) → Num
 of-nat w n b h t = record { bound = b; read = toZ w n; int = pos n; same = toZ-pos w (lt-of-le-of-lt h (ltb→lt b (2 ^ hbits w) t)); size = record { size = h } }
-
--- a local that a loop changes: its bits are n, and what they are read as is known from the invariant
-abbrev pub held : (w : Width) (n b : ℕ) (z : ℤ) → toZ w n ≡ z → Within b z → Num
-held w n b z e h = record { bound = b; read = toZ w n; int = z; same = e; size = h }

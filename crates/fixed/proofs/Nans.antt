@@ -1,11 +1,12 @@
--- What a comparison of a float with itself tells, and the pattern of a float that is no NaN.
-use mathlib.Core.Path.{_≡_, sym, ap, _∙_, subst}
+-- Which floats are no NaNs, and what the bits of a float are.
+use mathlib.Core.Path.{_≡_, sym, subst}
 use mathlib.Core.Bool.{Bool, true, false, not}
-use Prim.Native.Nat.{_%_, _≤_}
-use lib.Dec.{T, nltb→le}
-use lib.Ieee.{Float, nan, inf, fin, eq, ne, isNan, fits, toBits, binary32}
-use lib.Ieee.Bits.{ofBits-toBits, nanBits-is, nanBits-above}
+use Prim.Native.Nat.{ℕ}
+use lib.Dec.{T}
+use lib.Ieee.{Float, nan, inf, fin, eq, ne, isNan, fits, ofBits, toBits, binary32}
+use lib.Ieee.Bits.{ofBits-toBits}
 use lib.Ieee.Compare.{differs-from-itself}
+use Rattle.fixed.specs.Floats.{atMost}
 
 pub equals-itself : (v : Float) → eq v v ≡ true → T (not (isNan v))
 unfolding eq isNan
@@ -17,7 +18,13 @@ pub is-nan : (v : Float) → eq v v ≡ false → v ≡ nan
 unfolding ne
 is-nan v e = differs-from-itself v (subst (λ (b : Bool). T (not b)) (sym e) tt)
 
-pub pattern-no-nan : (v : Float) → T (fits binary32 v) → T (not (isNan v)) → toBits binary32 v % 2147483648 ≤ 2139095040
-pattern-no-nan v f h =
-    nltb→le 2139095040 (toBits binary32 v % 2147483648)
-    (subst (λ (b : Bool). T (not b)) (ap isNan (sym (ofBits-toBits binary32 v f)) ∙ sym (nanBits-is binary32 (toBits binary32 v)) ∙ nanBits-above binary32 (toBits binary32 v)) h)
+-- a float in a local has the bits that it came from
+pub held-float : (v : Float) → fits binary32 v ≡ true → ofBits binary32 (toBits binary32 v) ≡ v
+held-float v f = ofBits-toBits binary32 v (subst T (sym f) tt)
+
+-- what is limited in size is a number
+pub limited-number : (b : ℕ) (v : Float) → atMost b v ≡ true → T (not (isNan v))
+unfolding isNan
+limited-number b nan e = subst T (sym e) tt
+limited-number b (inf s) e = tt
+limited-number b (fin s m d) e = tt

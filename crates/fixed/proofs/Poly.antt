@@ -31,7 +31,8 @@ pub record Poly : Type 0 where
 sub-law : (a b : ℕ) → up (subℕ a b) + b ≡ dn (subℕ a b) + a
 sub-law a b = by (ltb a b) (ltb→lt a b) (nltb→le a b)
   where
-    by : (t : Bool) → (T t → a < b) → (T (not t) → b ≤ a) → up (cond t (negsuc (b - suc a)) (pos (a - b))) + b ≡ dn (cond t (negsuc (b - suc a)) (pos (a - b))) + a
+    by : (t : Bool) → (T t → a < b) → (T (not t) → b ≤ a)
+        → up (cond t (negsuc (b - suc a)) (pos (a - b))) + b ≡ dn (cond t (negsuc (b - suc a)) (pos (a - b))) + a
     by true f g = let h = f tt in omega arith
     by false f g = let h = g tt in omega arith
 
@@ -82,7 +83,9 @@ abbrev pub _⊖_ : Poly → Poly → Poly
 r ⊖ s = r ⊕ neg s
 
 pub times : (r s : Poly) → up (r .int *ℤ s .int) + (r .p * s .n + r .n * s .p) ≡ dn (r .int *ℤ s .int) + (r .p * s .p + r .n * s .n)
-times r s = core (up (r .int *ℤ s .int)) (dn (r .int *ℤ s .int)) (up (r .int)) (dn (r .int)) (up (s .int)) (dn (s .int)) (r .p) (r .n) (s .p) (s .n) (mul-law (r .int) (s .int)) (r .law) (s .law)
+times r s =
+    core (up (r .int *ℤ s .int)) (dn (r .int *ℤ s .int)) (up (r .int)) (dn (r .int)) (up (s .int)) (dn (s .int)) (r .p) (r .n) (s .p) (s .n)
+    (mul-law (r .int) (s .int)) (r .law) (s .law)
   where
     core : (U D a b c d p n q m : ℕ) → U + (a * d + b * c) ≡ D + (a * c + b * d) → a + n ≡ b + p → c + m ≡ d + q → U + (p * m + n * q) ≡ D + (p * q + n * m)
     core U D a b c d p n q m h e f =
@@ -155,11 +158,6 @@ of-within b (negsuc n) h = omega arith
 
 pub from-within : {b : ℕ} (r : Poly) → Within b (r .int) → (r .p ≤ r .n + b) × (r .n ≤ r .p + b)
 from-within {b} r h = omega (arith, r .law, of-within b (r .int) (h .size))
-
--- one of the two parts of a variable is 0
-pub flat : (z : ℤ) → up z * dn z ≡ 0
-flat (pos n) = omega arith
-flat (negsuc n) = omega arith
 
 -- the range of a type
 fits-of : (w : Width) (z : ℤ) → up z < dn z + 2 ^ hbits w → dn z ≤ up z + 2 ^ hbits w → mag z < 2 ^ hbits w

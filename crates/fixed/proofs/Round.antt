@@ -1,7 +1,8 @@
 -- The laws of `floorDiv`: d q ≤ z < d q + d, as facts that `omega` reads, and what a rounded quotient's size is.
 use mathlib.Core.Path.{_≡_, sym, ap, subst}
 use Prim.Native.Nat.{ℕ, suc, _+_, _*_, _/_, _≤_, _<_}
-use native.Mathlib.Nat.{div-add-mod, mod-lt, mul-lt-mul-of-pos-right, lt-of-le-of-lt, lt-of-mul-lt-mul-right, div-mul-le-self, lt-suc-self, mul-right-comm, le-div-iff-mul-le, le-antisymm, mul-pos, zero-lt-suc}
+use native.Mathlib.Nat.{div-add-mod, mod-lt, mul-lt-mul-of-pos-right, lt-of-le-of-lt, lt-of-mul-lt-mul-right, div-mul-le-self}
+use native.Mathlib.Nat.{lt-suc-self, mul-right-comm, le-div-iff-mul-le, le-antisymm, mul-pos, zero-lt-suc}
 use lib.Ieee.Nearest.{div-same}
 use native.Mathlib.Omega.{arith}
 use lib.Dec.{lit<}
@@ -10,11 +11,14 @@ use Rattle.fixed.specs.Floor.{floorDiv}
 use Rattle.fixed.proofs.Within.{Within}
 use Rattle.fixed.proofs.Poly.{Poly, up, dn, var, num, _⊕_, _⊗_, from-eq, within, from-within}
 
-floor-law : (z : ℤ) (d : ℕ) → 0 < d → (d * up (floorDiv z d) + dn z ≤ up z + d * dn (floorDiv z d)) × (up z + d * dn (floorDiv z d) < d * up (floorDiv z d) + dn z + d)
+floor-law : (z : ℤ) (d : ℕ) → 0 < d
+    → (d * up (floorDiv z d) + dn z ≤ up z + d * dn (floorDiv z d)) × (up z + d * dn (floorDiv z d) < d * up (floorDiv z d) + dn z + d)
 floor-law (pos a) d h = omega (arith, div-add-mod a d, mod-lt a h)
 floor-law (negsuc a) d h = omega (arith, div-add-mod a d, mod-lt a h)
 
-pub from-floor : (r : Poly) (d : ℕ) → 0 < d → (d * up (floorDiv (r .int) d) + r .n ≤ r .p + d * dn (floorDiv (r .int) d)) × (r .p + d * dn (floorDiv (r .int) d) < d * up (floorDiv (r .int) d) + r .n + d)
+pub from-floor : (r : Poly) (d : ℕ) → 0 < d
+    → (d * up (floorDiv (r .int) d) + r .n ≤ r .p + d * dn (floorDiv (r .int) d))
+    × (r .p + d * dn (floorDiv (r .int) d) < d * up (floorDiv (r .int) d) + r .n + d)
 from-floor r d h = let f = floor-law (r .int) d h in (omega (arith, r .law, f .0), omega (arith, r .law, f .1))
 
 -- z / 256 rounded to the nearest is at most b in size, if z is at most 256 b

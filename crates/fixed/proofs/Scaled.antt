@@ -2,10 +2,10 @@
 use mathlib.Core.Path.{_≡_, refl, sym, ap, _∙_, subst}
 use mathlib.Core.Bool.{true, false}
 use Prim.Native.Nat.{ℕ, _*_, _≤_, _<_}
-use native.Mathlib.Nat.{le-of-eq, le-trans, mul-le-mul-left, mul-assoc, one-mul, mul-one}
+use native.Mathlib.Nat.{le-of-eq, le-trans, mul-le-mul-left, mul-le-mul-right, mul-assoc, one-mul, mul-one}
 use native.Mathlib.Omega.{arith}
 use borrow.Author.Tests.{le-leb}
-use lib.Dec.{T, leb, leb→le}
+use lib.Dec.{T, leb, leb→le, lit≤}
 use lib.IntN.{ℤ, pos, natAbs}
 use lib.Ieee.{Float, nan, inf, fin, up, down}
 use lib.Ieee.Fits.{down-pos}
@@ -19,12 +19,22 @@ scaled-size scale limit (fin s m e) h =
     nearest-size s (scale * (m * up e)) (down e) (scale * limit) (down-pos e)
     (le-trans (mul-le-mul-left scale (leb→le (m * up e) (limit * down e) (subst T (sym h) tt))) (le-of-eq (sym (mul-assoc scale limit (down e)))))
 
+-- a limit is kept by what keeps a smaller one
+pub limit-raised : (a b : ℕ) (v : Float) → a ≤ b → atMost a v ≡ true → atMost b v ≡ true
+limit-raised a b nan l h = h
+limit-raised a b (inf s) l h = h
+limit-raised a b (fin s m e) l h =
+    le-leb (m * up e) (b * down e) (le-trans (leb→le (m * up e) (a * down e) (subst T (sym h) tt)) (mul-le-mul-right (down e) l))
+
 -- ---- from 0 to 1, the scaled float is from 0 to the scale
 unit-kept : (v : Float) → inUnit v ≡ true → atMost 1 v ≡ true
 unit-kept nan h = h
 unit-kept (inf s) h = h
 unit-kept (fin false m e) h = ap (leb (m * up e)) (one-mul (down e)) ∙ h
 unit-kept (fin true m e) h = le-leb (m * up e) (1 * down e) (omega (arith, leb→le (m * up e) 0 (subst T (sym h) tt)))
+
+pub unit-limited : (v : Float) → inUnit v ≡ true → atMost 32768 v ≡ true
+unit-limited v h = limit-raised 1 32768 v (lit≤ tt) (unit-kept v h)
 
 pub unit-size : (scale : ℕ) (v : Float) → inUnit v ≡ true → natAbs (scaled scale v) ≤ scale
 unit-size scale v h = le-trans (scaled-size scale 1 v (unit-kept v h)) (le-of-eq (mul-one scale))

@@ -2,19 +2,16 @@
 -- test of the numbers.
 use mathlib.Core.Path.{_≡_, sym, ap, _∙_}
 use mathlib.Core.Bool.{Bool}
-use Prim.Native.Nat.{ℕ, zero, suc, _≤_, _<_, _^_, zero-le}
+use Prim.Native.Nat.{ℕ, _≤_, _<_, _^_, zero-le}
 use native.Mathlib.Nat.{lt-of-le-of-lt}
 use native.Mathlib.Omega.{arith}
 use lib.Dec.{T, ltb}
 use lib.IntN.{ℤ, pos, negsuc, _-ℤ_, negℤ, natAbs, +ℤ-idl}
-use lib.Signed.{mag, ltZ, leZ}
+use lib.Signed.{mag, leZ}
 use mir.Syntax.{Width}
 use mir.Val.{toZ, ofZ, SFits, hbits}
 use mir.Facts.{toZ-ofZ, toZ-pos}
 use Rattle.fixed.proofs.Within.{fits}
-
-pub lt-back : (w : Width) (a b : ℤ) {t : Bool} → SFits w a → SFits w b → ltZ (toZ w (ofZ w a)) (toZ w (ofZ w b)) ≡ t → ltZ a b ≡ t
-lt-back w a b p q e = rw (toZ-ofZ p, toZ-ofZ q) at e
 
 pub le-back : (w : Width) (a b : ℤ) {t : Bool} → SFits w a → SFits w b → leZ (toZ w (ofZ w a)) (toZ w (ofZ w b)) ≡ t → leZ a b ≡ t
 le-back w a b p q e = rw (toZ-ofZ p, toZ-ofZ q) at e
@@ -22,9 +19,6 @@ le-back w a b p q e = rw (toZ-ofZ p, toZ-ofZ q) at e
 -- one of the two an unsigned number that was cast
 pub le-nat : (w : Width) (a : ℤ) (n : ℕ) {t : Bool} → SFits w a → n < 2 ^ hbits w → leZ (toZ w (ofZ w a)) (toZ w n) ≡ t → leZ a (pos n) ≡ t
 le-nat w a n p q e = rw (toZ-ofZ p, toZ-pos w q) at e
-
-pub nat-le : (w : Width) (n : ℕ) (a : ℤ) {t : Bool} → SFits w a → n < 2 ^ hbits w → leZ (toZ w n) (toZ w (ofZ w a)) ≡ t → leZ (pos n) a ≡ t
-nat-le w n a p q e = rw (toZ-ofZ p, toZ-pos w q) at e
 
 -- of a call's signed result: `back w32 (c .f .result) (c .f .ok)`
 pub back : (w : Width) (z : ℤ) → mag z < 2 ^ hbits w → toZ w (ofZ w z) ≡ z
@@ -53,7 +47,3 @@ zero-no w (negsuc n) h e = omega (arith, e)
 -- 0 - x, of a natural x
 pub neg-is : (x : ℕ) → pos 0 -ℤ pos x ≡ negℤ (pos x)
 neg-is x = +ℤ-idl (negℤ (pos x))
-
-pub neg-fits : (w : Width) (x : ℕ) → x < 2 ^ hbits w → SFits w (negℤ (pos x))
-neg-fits w zero h = record { sfits = h }
-neg-fits w (suc n) h = record { sfits = omega (arith, h) }

@@ -9,8 +9,6 @@ use Rattle.fixed.specs.Floor.{floorDiv}
 use Rattle.fixed.specs.Little.{u32At}
 use Rattle.fixed.specs.declared.Real.{Real}
 use Rattle.fixed.specs.declared.Real.the-variants.{Number, Nan}
-use Rattle.fixed.specs.declared.Fixed.{Fixed}
-use Rattle.fixed.specs.declared.Fixed.the-variants.{Value, TooLarge, Infinite, NotANumber}
 use Rattle.fixed.specs.declared.Offset.{Offset}
 use Rattle.fixed.specs.declared.Offset.the-variants as offset
 
@@ -53,16 +51,6 @@ inUnit nan = false
 inUnit (inf s) = false
 inUnit (fin false m e) = leb (m * up e) (down e)
 inUnit (fin true m e) = leb (m * up e) 0
-
-abbrev pub pickFixed : Bool → Fixed → Fixed → Fixed
-pickFixed true a b = a
-pickFixed false a b = b
-
--- what a float becomes under a limit: its whole number, or why it has none
-abbrev pub fixedIn : ℕ → ℕ → Float → Fixed
-fixedIn scale limit nan = NotANumber
-fixedIn scale limit (inf s) = Infinite
-fixedIn scale limit (fin s m e) = pickFixed (leb (m * up e) (limit * down e)) (Value (nearestOf s (scale * (m * up e)) (down e))) TooLarge
 
 abbrev pub pickOffset : Bool → Offset → Offset → Offset
 pickOffset true a b = a

@@ -2,3 +2,4 @@
 pub mod Floor
 pub mod Little
 pub mod Floats
+pub mod Patterns

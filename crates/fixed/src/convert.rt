@@ -1,39 +1,37 @@
 // Floats to whole numbers, exactly: floor(scale v + 1/2), by whole numbers on the bit pattern of v.
 //
-// A pattern has a sign, an exponent field x and 23 bits t. Its value is t / 2^149 where x is 0, and else (2^23 + t) / 2^(150 - x). Without
-// the sign, patterns are in the order of the sizes: at most 2^log is at most the pattern (127 + log) 2^23.
-use crate::Fixed;
+// A pattern has a sign, an exponent field x and 23 bits t. Its value is t / 2^149 where x is 0, and else (2^23 + t) / 2^(150 - x).
 use crate::Offset;
 use crate::floats::EXPONENT;
-use crate::floats::INFINITY;
 use crate::floats::SIGN;
+use crate::floats::power_pattern;
 ghost use mathlib.Core.Path.{_≡_};
-ghost use Prim.Native.Nat.{_+_, _*_, _≤_, _<_, _^_, _%_};
+ghost use mathlib.Core.Bool.{true};
+ghost use Prim.Native.Nat.{_*_, _≤_, _<_, _^_};
 ghost use lib.IntN.{pos, natAbs, _+ℤ_};
 ghost use lib.Ieee as Ieee;
 ghost use lib.Ieee.{binary32};
 ghost use Rattle.fixed.specs.Floor.{floorDiv};
-ghost use Rattle.fixed.specs.Floats.{nearestOf, scaled, fixedIn, offsetIn};
+ghost use Rattle.fixed.specs.Floats.{nearestOf, scaled, atMost, offsetIn};
+ghost use Rattle.fixed.specs.Patterns.{sizeBits, powerPattern};
 
-// One of sx, shy, shx, sy of a matrix, at most 2^8 in size, in 65,536ths.
-pub fn linear_entry(v: f32) -> Fixed
-    ensures { λ r. ⌜ r ≡ fixedIn 65536 256 v ⌝ }
+// Whether v is a number, and at most 2^log in size.
+pub fn at_most(v: f32, log: u32) -> bool
+    requires { ⌜ log ≤ 15 ⌝ }
+    ensures { λ r. ⌜ r ≡ atMost (2 ^ log) v ⌝ }
 {
-    convert(v, 65536, 8)
+    if v == v {
+        return f32::to_bits(v) % SIGN <= power_pattern(log);
+    }
+    false
 }
 
-// One of tx, ty of a matrix, at most 2^15 in size, in 65,536ths.
-pub fn translation(v: f32) -> Fixed
-    ensures { λ r. ⌜ r ≡ fixedIn 65536 32768 v ⌝ }
+// scale v to the nearest, of a v that is at most 2^15 in size.
+pub fn to_whole(v: f32, scale: u32) -> i64
+    requires { ⌜ (scale ≤ 65536) × (atMost 32768 v ≡ true) ⌝ }
+    ensures { λ r. ⌜ r ≡ scaled scale v ⌝ }
 {
-    convert(v, 65536, 15)
-}
-
-// A coordinate of a linear gradient's points, at most 2^12 in size, in 256ths.
-pub fn gradient_point(v: f32) -> Fixed
-    ensures { λ r. ⌜ r ≡ fixedIn 256 4096 v ⌝ }
-{
-    convert(v, 256, 12)
+    scale_pattern(f32::to_bits(v), scale)
 }
 
 // The offset of a stop, from 0 to 1, in 65,536ths.
@@ -41,9 +39,8 @@ pub fn stop_offset(v: f32) -> Offset
     ensures { λ r. ⌜ r ≡ offsetIn v ⌝ }
 {
     if 0.0 <= v {
-        let f = convert(v, 65536, 0);
-        if let Fixed::Value(z) = f {
-            Offset::At(z as u32)
+        if at_most(v, 0) {
+            Offset::At(to_whole(v, 65536) as u32)
         } else {
             Offset::Outside
         }
@@ -54,37 +51,9 @@ pub fn stop_offset(v: f32) -> Offset
     }
 }
 
-// scale v to the nearest, if v is at most 2^log in size.
-fn convert(v: f32, scale: u32, log: u32) -> Fixed
-    requires { ⌜ (scale ≤ 65536) × (log ≤ 15) ⌝ }
-    ensures { λ r. ⌜ r ≡ fixedIn scale (2 ^ log) v ⌝ }
-{
-    if v == v {
-        convert_pattern(f32::to_bits(v), scale, log)
-    } else {
-        Fixed::NotANumber
-    }
-}
-
-// The same of the float with the bit pattern n, which is no NaN.
-fn convert_pattern(n: u32, scale: u32, log: u32) -> Fixed
-    requires { ⌜ n % 2147483648 ≤ 2139095040 ⌝ }
-    requires { ⌜ (scale ≤ 65536) × (log ≤ 15) ⌝ }
-    ensures { λ r. ⌜ r ≡ fixedIn scale (2 ^ log) (Ieee.ofBits binary32 n) ⌝ }
-{
-    let size = n % SIGN;
-    if size <= (127 + log) * EXPONENT {
-        Fixed::Value(scale_pattern(n, scale))
-    } else if size < INFINITY {
-        Fixed::TooLarge
-    } else {
-        Fixed::Infinite
-    }
-}
-
 // scale v to the nearest, where n is the bit pattern of v, which is at most 32,768 in size.
 fn scale_pattern(n: u32, scale: u32) -> i64
-    requires { ⌜ n % 2147483648 ≤ 1191182336 ⌝ }
+    requires { ⌜ sizeBits n ≤ powerPattern 15 ⌝ }
     requires { ⌜ scale ≤ 65536 ⌝ }
     ensures { λ r. ⌜ r ≡ scaled scale (Ieee.ofBits binary32 n) ⌝ }
 {

@@ -7,6 +7,7 @@ ghost use lib.ListN.{length};
 ghost use lib.Ieee as Ieee;
 ghost use lib.Ieee.{binary32};
 ghost use Rattle.fixed.specs.Floats.{realOf, realAt};
+ghost use Rattle.fixed.specs.Patterns.{powerPattern};
 
 // The bit of the sign in a bit pattern.
 pub const SIGN: u32 = 0x80000000;
@@ -14,8 +15,16 @@ pub const SIGN: u32 = 0x80000000;
 // The lowest bit of the exponent's field.
 pub const EXPONENT: u32 = 0x00800000;
 
-// The pattern of infinity.
+// The pattern of infinity. Without their signs, patterns are in the order of the sizes, and every NaN's is above this one.
 pub const INFINITY: u32 = 0x7f800000;
+
+// The pattern of 2^log.
+pub fn power_pattern(log: u32) -> u32
+    requires { ⌜ log ≤ 15 ⌝ }
+    ensures { λ r. ⌜ r ≡ powerPattern log ⌝ }
+{
+    (127 + log) * EXPONENT
+}
 
 // The float of the four bytes from a place on.
 pub fn f32_at(s: &[u8], at: usize) -> Real

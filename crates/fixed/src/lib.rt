@@ -4,10 +4,9 @@ pub mod floats;
 pub mod floor;
 pub mod little;
 
-pub use crate::convert::gradient_point;
-pub use crate::convert::linear_entry;
+pub use crate::convert::at_most;
 pub use crate::convert::stop_offset;
-pub use crate::convert::translation;
+pub use crate::convert::to_whole;
 pub use crate::floats::f32_at;
 pub use crate::floor::floor_div;
 pub use crate::floor::floor_mod;
@@ -20,14 +19,6 @@ pub use crate::little::u32_at;
 pub enum Real {
     Number(f32),
     Nan,
-}
-
-// What a float becomes under a limit on its size.
-pub enum Fixed {
-    Value(i64),
-    TooLarge,
-    Infinite,
-    NotANumber,
 }
 
 // What the offset of a stop becomes, in 65,536ths.

@@ -6,13 +6,18 @@ use crate::patterns::is_pattern;
 use crate::patterns::is_zero;
 use crate::patterns::same_bytes;
 use crate::words::print_words;
+use codes::ACCEPTED;
 use console::Line;
 use render::Answer;
-ghost use Prim.Native.Nat.{_≤_, _<_};
-ghost use lib.ListN.{length};
-ghost use Rattle.limits.specs.Calls.{Ready};
+ghost use mathlib.Core.Path.{_≡_};
+ghost use Prim.Native.Nat.{_-_, _≤_, _<_};
+ghost use lib.Dec.{eqb};
+ghost use lib.ListN.{length, take};
+ghost use Rattle.lists.specs.Lists.{over};
+ghost use Rattle.render.specs.Answers.{drawSurface, drawScratch};
+ghost use Rattle.limits.specs.Calls.{Sized, bytes, numbers, callAnswer, callSurface, callOther, callScratch, surfaceLeft, otherLeft, scratchLeft};
 
-// Runs the call that starts at argument i, and prints its line.
+// Runs the call that starts at argument i, and prints its line. What it is not lent stays as it is.
 pub fn run(
     i: usize,
     c: Call,
@@ -22,8 +27,17 @@ pub fn run(
     other: &mut [u8],
     scratch: &mut [i32],
 )
-    requires { ⌜ (i < c .end) × Ready c (length (now old)) (length (now new)) ⌝ }
+    requires { ⌜ (i < c .end) × Sized c (length (now old)) (length (now new)) ⌝ }
     requires { ⌜ (1048576 ≤ length (now surface)) × (1048576 ≤ length (now other)) × (16384 ≤ length (now scratch)) ⌝ }
+    ensures { λ _. ⌜ now (surface .exit)
+        ≡ over (surfaceLeft (eqb (c .end - i) 4) (take (c .old) (now (old .entry))) (take (c .new) (now (new .entry))) (c .surface) (c .scratch))
+        (now (surface .entry)) ⌝ }
+    ensures { λ _. ⌜ now (other .exit)
+        ≡ over (otherLeft (eqb (c .end - i) 4) (take (c .old) (now (old .entry))) (take (c .new) (now (new .entry))) (c .surface) (c .scratch))
+        (now (other .entry)) ⌝ }
+    ensures { λ _. ⌜ now (scratch .exit)
+        ≡ over (scratchLeft (eqb (c .end - i) 4) (take (c .old) (now (old .entry))) (take (c .new) (now (new .entry))) (c .surface) (c .scratch))
+        (now (scratch .entry)) ⌝ }
 {
     let m = c.old;
     let n = c.new;
@@ -41,17 +55,25 @@ pub fn run(
 }
 
 fn run_lent(
-    is_draw: bool,
+    full: bool,
     old: &[u8],
     new: &[u8],
     surface: &mut [u8],
     other: &mut [u8],
     scratch: &mut [i32],
-) {
+)
+    requires { ⌜ length (now other) ≡ length (now surface) ⌝ }
+    ensures { λ _. ⌜ now (surface .exit)
+        ≡ surfaceLeft full (now (old .entry)) (now (new .entry)) (length (now (surface .entry))) (length (now (scratch .entry))) ⌝ }
+    ensures { λ _. ⌜ now (other .exit)
+        ≡ otherLeft full (now (old .entry)) (now (new .entry)) (length (now (surface .entry))) (length (now (scratch .entry))) ⌝ }
+    ensures { λ _. ⌜ now (scratch .exit)
+        ≡ scratchLeft full (now (old .entry)) (now (new .entry)) (length (now (surface .entry))) (length (now (scratch .entry))) ⌝ }
+{
     fill_bytes(surface, 0);
     fill_bytes(other, 0);
-    let answer = call(is_draw, old, new, surface, other, scratch);
-    if answer.code == 0 {
+    let answer = call(full, old, new, surface, other, scratch);
+    if answer.code == ACCEPTED {
         report_accepted(answer, new, surface, other, scratch);
     } else {
         report_refused(answer, surface, other, scratch);
@@ -60,14 +82,20 @@ fn run_lent(
 
 // Leaves on the other surface what this one held before the call: a pattern, or the old scene's picture where it can be drawn.
 fn call(
-    is_draw: bool,
+    full: bool,
     old: &[u8],
     new: &[u8],
     surface: &mut [u8],
     other: &mut [u8],
     scratch: &mut [i32],
-) -> Answer {
-    if is_draw {
+) -> Answer
+    ensures { λ r. ⌜ r ≡ callAnswer full (now (old .entry)) (now (new .entry)) (length (now (surface .entry))) (length (now (scratch .entry))) ⌝ }
+    ensures { λ _. ⌜ now (surface .exit) ≡ callSurface full (now (old .entry)) (now (new .entry)) (now (surface .entry)) (length (now (scratch .entry))) ⌝ }
+    ensures { λ _. ⌜ now (other .exit) ≡ callOther full (now (old .entry)) (now (other .entry)) (length (now (scratch .entry))) ⌝ }
+    ensures { λ _. ⌜ now (scratch .exit)
+        ≡ callScratch full (now (old .entry)) (now (new .entry)) (length (now (surface .entry))) (length (now (scratch .entry))) ⌝ }
+{
+    if full {
         fill_numbers(scratch);
         return render::draw(new, surface, scratch);
     }
@@ -88,7 +116,10 @@ fn report_refused(a: Answer, surface: &[u8], other: &[u8], scratch: &[i32]) {
 }
 
 // Draws the scene on the other surface, from another pattern, to compare.
-fn report_accepted(a: Answer, scene: &[u8], surface: &[u8], other: &mut [u8], scratch: &mut [i32]) {
+fn report_accepted(a: Answer, scene: &[u8], surface: &[u8], other: &mut [u8], scratch: &mut [i32])
+    ensures { λ _. ⌜ now (other .exit) ≡ drawSurface (now (scene .entry)) (bytes 85 (length (now (other .entry)))) (length (now (scratch .entry))) ⌝ }
+    ensures { λ _. ⌜ now (scratch .exit) ≡ drawScratch (now (scene .entry)) (length (now (other .entry))) (numbers (length (now (scratch .entry)))) ⌝ }
+{
     let is_clear = is_zero(scratch);
     fill_bytes(other, 85);
     fill_numbers(scratch);

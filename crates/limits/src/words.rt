@@ -1,7 +1,9 @@
 // The program's arguments.
 use libc::STDERR_FILENO;
 use libc::STDOUT_FILENO;
+ghost use mathlib.Core.Path.{_≡_};
 ghost use Prim.Native.Nat.{_<_};
+ghost use Rattle.limits.specs.Digits.{digitOf, numberOf, OfSomeText};
 
 // Whether argument i is that word.
 pub fn is_word(i: usize, word: &[u8]) -> bool {
@@ -11,7 +13,9 @@ pub fn is_word(i: usize, word: &[u8]) -> bool {
 }
 
 // The number that argument i is, or one that no buffer has where it is none.
-pub fn number(i: usize) -> usize {
+pub fn number(i: usize) -> usize
+    ensures { λ r. ⌜ OfSomeText r ⌝ }
+{
     let mut text = io::buffer();
     let n = os::arg(i, &mut text);
     value(&text[..n])
@@ -19,7 +23,9 @@ pub fn number(i: usize) -> usize {
 
 const NO_NUMBER: usize = 1000000000;
 
-fn value(text: &[u8]) -> usize {
+fn value(text: &[u8]) -> usize
+    ensures { λ r. ⌜ r ≡ numberOf (now (text .entry)) ⌝ }
+{
     if text.len() == 0 {
         return NO_NUMBER;
     }
@@ -40,7 +46,9 @@ fn value(text: &[u8]) -> usize {
 }
 
 // What a digit stands for, or 10.
-fn digit(b: u8) -> usize {
+fn digit(b: u8) -> usize
+    ensures { λ r. ⌜ r ≡ digitOf b ⌝ }
+{
     if b < b'0' {
         return 10;
     }

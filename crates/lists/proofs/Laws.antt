@@ -1,4 +1,4 @@
--- The laws of `upto`, `tab` and `over`.
+-- The laws of `upto`, `tab`, `over` and `total`.
 use mathlib.Core.Path.{_≡_, refl, sym, ap, _∙_}
 use mathlib.Core.List.{List, [], _∷_, _++_, append-assoc, append-nil}
 use Prim.Native.Nat.{ℕ, zero, suc, _+_, _-_, _*_, _≤_, _<_}
@@ -6,10 +6,10 @@ use mathlib.Core.Logic.{⊎-elim}
 use native.Mathlib.Nat.{suc-mul, mul-le-mul-right, eq-or-lt-of-le, le-of-suc-le-suc, not-suc-le-zero, add-zero}
 use native.Mathlib.Numerals.{add-one}
 use native.Mathlib.Omega.{arith}
-use lib.ListN.{length, getD, set, take, drop, replicate, length-append, length-drop, length-take, length-replicate, length-set, replicate-append-replicate, List·getD-append}
-use borrow.Author.Count.{below-more}
-use lib.Seq.{ext-getD, getD-append-add, getD-drop, take-suc-set, take-length, getD-set-same, getD-set-other, set-append-seam, drop-cons, getD-at, drop-length, take-at, drop-at, drop-drop}
-use Rattle.lists.specs.Lists.{upto, tab, over}
+use lib.ListN.{length, getD, set, take, drop, length-append, length-drop, length-take, length-set, List·getD-append}
+use lib.Seq.{ext-getD, getD-append-add, getD-drop, take-suc-set, take-length, getD-set-same, getD-set-other}
+use lib.Seq.{set-append-seam, drop-cons, getD-at, drop-length, take-at, drop-at, drop-drop}
+use Rattle.lists.specs.Lists.{upto, tab, over, total}
 
 module _ {A : Type 0} where
   pub upto-more : (n : ℕ) (f : ℕ → List A) → upto (n + 1) f ≡ upto n f ++ f n
@@ -77,23 +77,9 @@ module _ {A : Type 0} where
   pub part-length : (s : List A) (i e : ℕ) → i ≤ e → e ≤ length s → length (take (e - i) (drop i s)) ≡ e - i
   part-length s i e a b = simp (length-take, length-drop) (omega arith)
 
-  -- a turn of a loop that stores a in every place, and its end
-  pub fill-turn : (s d : List A) (i : ℕ) (a : A) → s ≡ over (replicate i a) d → i < length d → set s i a ≡ over (replicate (i + 1) a) d
-  fill-turn s d i a o l = rw (o, over-put (replicate i a) d i a (length-replicate i a) l, replicate-append-replicate i 1 a)
-
-  pub fill-all : (s d : List A) (i : ℕ) (a : A) → s ≡ over (replicate i a) d → i ≡ length d → s ≡ replicate (length d) a
-  fill-all s d i a o e = o ∙ rw e (over-all (replicate (length d) a) d (length-replicate (length d) a))
-
 -- the kth run of m stands within n such runs
 pub run-fits : (m k n : ℕ) → k < n → k * m + m ≤ n * m
 run-fits m k n h = rw (← suc-mul) (mul-le-mul-right m h)
-
--- the pointwise form: what is stored below i is f, and f i is stored at i
-module _ {A : Type 0} (f : ℕ → A) where
-  pub set-below : (s : List A) (i : ℕ) (a d : A) → i < length s → ((k : ℕ) → k < i → getD s k d ≡ f k) → a ≡ f i
-      → (k : ℕ) → k < i + 1 → getD (set s i a) k d ≡ f k
-  set-below s i a d l h e =
-      below-more (λ k. getD (set s i a) k d ≡ f k) i (λ k m. getD-set-other s i k a d (λ q. omega (arith, q)) ∙ h k m) (getD-set-same s i a d l ∙ e)
 
 -- a read before a store
 pub getD-set-before : {A : Type 0} (s : List A) (i j : ℕ) (a z : A) → j < i → getD (set s i a) j z ≡ getD s j z
@@ -122,12 +108,21 @@ module _ {A : Type 0} (l : List A) (i : ℕ) (a b c e z : A) where
       let h3 : i < i + 3 = omega arith in
       let h4 : i + 1 < i + 2 = omega arith in
       let h5 : i + 1 < i + 3 = omega arith in
-      let h6 : i + 2 < i + 3 = omega arith in
-      (simp (getD-set-before, getD-set-same), simp (getD-set-before, getD-set-same), simp (getD-set-before, getD-set-same), simp (getD-set-before, getD-set-same))
+      let h6 : i + 2 < i + 3 = omega arith in (
+        simp (getD-set-before, getD-set-same),
+        simp (getD-set-before, getD-set-same),
+        simp (getD-set-before, getD-set-same),
+        simp
+            (getD-set-before, getD-set-same),
+      )
 
 pub upto-same : {A : Type 0} (n : ℕ) (f g : ℕ → List A) → ((k : ℕ) → k < n → f k ≡ g k) → upto n f ≡ upto n g
 upto-same zero f g h = refl
 upto-same (suc n) f g h = rw (upto-same n f g (λ k m. h k (omega arith)), h n (omega arith))
+
+pub total-same : (n : ℕ) (f g : ℕ → ℕ) → ((k : ℕ) → k < n → f k ≡ g k) → total n f ≡ total n g
+total-same zero f g h = refl
+total-same (suc n) f g h = rw (total-same n f g (λ k m. h k (omega arith)), h n (omega arith))
 
 -- the element law of tab
 pub tab-length : {A : Type 0} (n : ℕ) (f : ℕ → A) → length (tab n f) ≡ n
@@ -158,28 +153,10 @@ module _ {A : Type 0} where
   pub take-put : (s : List A) (i j : ℕ) (a : A) → i + 1 ≡ j → i < length s → take j (set s i a) ≡ take i s ++ (a ∷ [])
   take-put s i j a e h = rw (← e, add-one, take-suc-set s i a h)
 
-  pub take-four : (s : List A) (i : ℕ) (a b c e : A) → i + 3 < length s
-      → take (i + 4) (set (set (set (set s i a) (i + 1) b) (i + 2) c) (i + 3) e) ≡ take i s ++ (a ∷ b ∷ c ∷ e ∷ [])
-  take-four s i a b c e h =
-      rw (
-        take-put (set (set (set s i a) (i + 1) b) (i + 2) c) (i + 3) (i + 4) e (omega arith) (simp length-set (omega arith)),
-        take-put (set (set s i a) (i + 1) b) (i + 2) (i + 3) c (omega arith) (simp length-set (omega arith)),
-        take-put (set s i a) (i + 1) (i + 2) b (omega arith) (simp length-set (omega arith)),
-        take-put s i (i + 1) a refl (omega arith),
-        append-assoc,
-        append-assoc,
-        append-assoc,
-      )
-
   pub take-all-of : (s : List A) (i : ℕ) → i ≡ length s → take i s ≡ s
   take-all-of s i e = rw (e, take-length)
 
-  -- a turn of an inner loop: p is what the outer turns have stored
-  pub take-emit : (p : List A) (f : ℕ → List A) (k : ℕ) (s : List A) (i : ℕ) (a b c e : A) → take i s ≡ p ++ upto k f → f k ≡ a ∷ b ∷ c ∷ e ∷ []
-      → i + 3 < length s → take (i + 4) (set (set (set (set s i a) (i + 1) b) (i + 2) c) (i + 3) e) ≡ p ++ upto (k + 1) f
-  take-emit p f k s i a b c e o q h = rw (take-four s i a b c e h, o, ← q, upto-more, append-assoc)
-
-  -- the end of such a loop, and of the outer one
+  -- the end of a loop that stores so
   pub take-end : (f : ℕ → List A) (s : List A) (i k n : ℕ) → take i s ≡ upto k f → i ≡ length s → k ≡ n → s ≡ upto n f
   take-end f s i k n o e q = sym (take-all-of s i e) ∙ o ∙ rw q
 

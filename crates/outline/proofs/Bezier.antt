@@ -1,12 +1,12 @@
 -- Curves cut at k / 16, over the degree: the weights add up to 16 ^ degree, so a cut point is no larger than the control points; at 0 it is
 -- the first of them and at 16 the last.
-use mathlib.Core.Path.{_≡_, sym, ap, subst, _∙_}
+use mathlib.Core.Path.{_≡_, refl, sym, ap, subst, _∙_}
 use mathlib.Core.Bool.{Bool, _&&_}
 use Prim.Native.Nat.{ℕ, _+_, _-_, _*_, _/_, _^_, _≤_, _<_}
 use native.Mathlib.Nat.{le-trans, le-refl, lt-of-mul-lt-mul-right, mul-le-mul, pow-le-pow-right}
 use native.Mathlib.Omega.{arith}
 use lib.Dec.{T, eqb, eqb→eq}
-use lib.IntN.{ℤ, pos, _+ℤ_, _*ℤ_}
+use lib.IntN.{ℤ, pos, _+ℤ_, _*ℤ_, +ℤ-idl, +ℤ-idr}
 use borrow.Author.Tests.{eqb-true, eqb-false}
 use Rattle.rect.proofs.Laws.{either}
 use Rattle.fixed.specs.Floor.{floorDiv}
@@ -119,7 +119,8 @@ module _ {b : ℕ} {p q r s : ℤ} (hp : Within b p) (hq : Within b q) (hr : Wit
 
   pub summed-most : {degree : ℕ} {w : Weights} → Full degree w → Within (4096 * b) (summed w p q r s)
   summed-most {degree} {w} f =
-      record { size = le-trans (summed-size w (16 ^ degree) (f .total) .size) (mul-le-mul (pow-le-pow-right {n = 16} (omega arith) {i = degree} {j = 3} (f .most)) (le-refl b)) }
+      let most : 16 ^ degree ≤ 4096 = pow-le-pow-right {n = 16} (omega arith) {i = degree} {j = 3} (f .most) in
+      record { size = le-trans (summed-size w (16 ^ degree) (f .total) .size) (mul-le-mul most (le-refl b)) }
 
   -- a cut point is no larger than the control points
   pub blended-size : {degree : ℕ} {w : Weights} → Full degree w → Within b (blended degree w p q r s)
@@ -131,35 +132,17 @@ module _ {b : ℕ} {p q r s : ℤ} (hp : Within b p) (hq : Within b q) (hr : Wit
   unfolding cut
   cut-size c k h = blended-size (weights-full c k h)
 
--- ---- the first and the last cut point
--- one control point has all the weight
-first-only : (p q r s : ℤ) (d m : ℕ) → m < d → floorDiv (p *ℤ pos d +ℤ q *ℤ pos 0 +ℤ r *ℤ pos 0 +ℤ s *ℤ pos 0 +ℤ pos m) d ≡ p
-first-only p q r s d m l =
-    ap (λ (z : ℤ). floorDiv z d)
-    (eq (var p ⊗ num d ⊕ var q ⊗ num 0 ⊕ var r ⊗ num 0 ⊕ var s ⊗ num 0 ⊕ num m) (var p ⊗ num d ⊕ num m) (omega arith))
-    ∙ exact d m p l
-
-third-only : (p q r s : ℤ) (d m : ℕ) → m < d → floorDiv (p *ℤ pos 0 +ℤ q *ℤ pos 0 +ℤ r *ℤ pos d +ℤ s *ℤ pos 0 +ℤ pos m) d ≡ r
-third-only p q r s d m l =
-    ap (λ (z : ℤ). floorDiv z d)
-    (eq (var p ⊗ num 0 ⊕ var q ⊗ num 0 ⊕ var r ⊗ num d ⊕ var s ⊗ num 0 ⊕ num m) (var r ⊗ num d ⊕ num m) (omega arith))
-    ∙ exact d m r l
-
-fourth-only : (p q r s : ℤ) (d m : ℕ) → m < d → floorDiv (p *ℤ pos 0 +ℤ q *ℤ pos 0 +ℤ r *ℤ pos 0 +ℤ s *ℤ pos d +ℤ pos m) d ≡ s
-fourth-only p q r s d m l =
-    ap (λ (z : ℤ). floorDiv z d)
-    (eq (var p ⊗ num 0 ⊕ var q ⊗ num 0 ⊕ var r ⊗ num 0 ⊕ var s ⊗ num d ⊕ num m) (var s ⊗ num d ⊕ num m) (omega arith))
-    ∙ exact d m s l
+-- ---- the first and the last cut point: one control point has all the weight
+none : (z : ℤ) → z *ℤ pos 0 ≡ pos 0
+none z = eq (var z ⊗ num 0) (num 0) (omega arith)
 
 pub cut-first : {degree : ℕ} → Curved degree → (p q r s : ℤ) → cut degree 0 p q r s ≡ p
 unfolding cut
-cut-first quad p q r s = first-only p q r s 256 128 (omega arith)
-cut-first cubic p q r s = first-only p q r s 4096 2048 (omega arith)
+cut-first quad p q r s = simp (none, +ℤ-idr) (exact 256 128 p (omega arith))
+cut-first cubic p q r s = simp (none, +ℤ-idr) (exact 4096 2048 p (omega arith))
 
-pub quad-last : (p q r s : ℤ) → cut 2 16 p q r s ≡ r
+-- a quad's end stands in the last place too
+pub cut-last : {degree : ℕ} → Curved degree → (p q r s : ℤ) → (degree ≡ 2 → r ≡ s) → cut degree 16 p q r s ≡ s
 unfolding cut
-quad-last p q r s = third-only p q r s 256 128 (omega arith)
-
-pub cubic-last : (p q r s : ℤ) → cut 3 16 p q r s ≡ s
-unfolding cut
-cubic-last p q r s = fourth-only p q r s 4096 2048 (omega arith)
+cut-last quad p q r s h = simp (none, +ℤ-idl, +ℤ-idr) (exact 256 128 r (omega arith)) ∙ h refl
+cut-last cubic p q r s h = simp (none, +ℤ-idl) (exact 4096 2048 s (omega arith))

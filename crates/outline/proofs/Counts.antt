@@ -35,9 +35,11 @@ abbrev pub pieces : Point → Curve → ℕ → List Edge
 pieces o c k = upto k (λ j. edgeBetween (cutPoint o c j) (cutPoint o c (suc j)))
 
 pub pieces-count : (o : Point) (c : Curve) (k : ℕ) → length (pieces o c k) ≤ k
-pieces-count o c k = omega (arith, upto-count 1 k (λ j. edgeBetween (cutPoint o c j) (cutPoint o c (suc j))) (λ j. edge-count (cutPoint o c j) (cutPoint o c (suc j))))
+pieces-count o c k =
+    omega (arith, upto-count 1 k (λ j. edgeBetween (cutPoint o c j) (cutPoint o c (suc j))) (λ j. edge-count (cutPoint o c j) (cutPoint o c (suc j))))
 
-pub pieces-more : (o : Point) (c : Curve) (k : ℕ) (p q : Point) → p ≡ cutPoint o c k → q ≡ cutPoint o c (k + 1) → pieces o c k ++ edgeBetween p q ≡ pieces o c (k + 1)
+pub pieces-more : (o : Point) (c : Curve) (k : ℕ) (p q : Point) → p ≡ cutPoint o c k → q ≡ cutPoint o c (k + 1)
+    → pieces o c k ++ edgeBetween p q ≡ pieces o c (k + 1)
 pieces-more o c k p q e f = ap₂ (λ (a b : Point). pieces o c k ++ edgeBetween a b) e (f ∙ ap (cutPoint o c) (add-one k)) ∙ sym (upto-more k _)
 
 pub curve-line : (o : Point) (c : Curve) → c .degree ≡ 1 → curveEdges o c ≡ edgeBetween o (c .p3)

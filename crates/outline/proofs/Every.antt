@@ -33,4 +33,5 @@ module _ {A : Type 0} {P : A → Type 0} where
   pub every-at : (n : ℕ) (f : ℕ → A) → Every P (tab n f) → (k : ℕ) → k < n → P (f k)
   every-at zero f h k l = absurd (not-suc-le-zero l)
   every-at (suc n) f h k l =
-      ⊎-elim (λ e. rw e (head-of (every-right (tab n f) (f n ∷ []) h))) (λ m. every-at n f (every-left (tab n f) (f n ∷ []) h) k m) (eq-or-lt-of-le (le-of-suc-le-suc l))
+      ⊎-elim (λ e. rw e (head-of (every-right (tab n f) (f n ∷ []) h))) (λ m. every-at n f (every-left (tab n f) (f n ∷ []) h) k m)
+      (eq-or-lt-of-le (le-of-suc-le-suc l))

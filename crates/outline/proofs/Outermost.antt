@@ -25,7 +25,8 @@ use Rattle.path.specs.Boxes.{outer, endOf, outerOf, within, boxOf}
 use Rattle.path.specs.Stored.{edgeAt, edgesOf}
 
 -- one edge more
-outer-more : (greater axis : Bool) (es : List Edge) (e : Edge) → 0 < length es → outerOf greater axis (es ++ (e ∷ [])) ≡ outer greater (outerOf greater axis es) (endOf greater axis e)
+outer-more : (greater axis : Bool) (es : List Edge) (e : Edge) → 0 < length es
+    → outerOf greater axis (es ++ (e ∷ [])) ≡ outer greater (outerOf greater axis es) (endOf greater axis e)
 unfolding outerOf
 outer-more greater axis [] e h = absurd (not-suc-le-zero h)
 outer-more greater axis (d ∷ es) e h = foldl-append (λ n c. outer greater n (endOf greater axis c)) (endOf greater axis d) es (e ∷ [])

@@ -22,7 +22,7 @@ use Rattle.path.specs.Matrices.{transform}
 use Rattle.path.specs.Segments.{number, lineTo, quadTo, cubicTo, pointsOf, drawnBy, penAfter, walkTo, walkOn, curveAt}
 use Rattle.path.specs.Curves.{cutPoint, equal, edge, edgeBetween, curveEdges, transformCurve, drawnEdges, segmentEdges, edgesTo, pathEdges}
 use Rattle.path.specs.Closed.{fall, Closed}
-use Rattle.outline.proofs.Bezier.{quad, cubic, cut-first, quad-last, cubic-last}
+use Rattle.outline.proofs.Bezier.{Curved, quad, cubic, cut-first, cut-last}
 
 -- ---- a segment's curve is a line, a quad or a cubic
 pub data Shaped : Curve → Type 0 where
@@ -31,7 +31,8 @@ pub data Shaped : Curve → Type 0 where
   twisted : (c d e : Point) → Shaped (cubicTo c d e)
 
 shape : (a b c d e f g : Bool) (p q r s : Point) (h i j k l : Point) (u v w x y : Point)
-    → Shaped (cond a (lineTo p) (cond b (lineTo q) (cond c (lineTo r) (cond d (quadTo h i) (cond e (cubicTo j k l) (cond f (quadTo u v) (cond g (cubicTo w x y) (lineTo s))))))))
+    → Shaped (cond a (lineTo p) (cond b (lineTo q)
+    (cond c (lineTo r) (cond d (quadTo h i) (cond e (cubicTo j k l) (cond f (quadTo u v) (cond g (cubicTo w x y) (lineTo s))))))))
 shape true b c d e f g p q r s h i j k l u v w x y = straight p
 shape false true c d e f g p q r s h i j k l u v w x y = straight q
 shape false false true d e f g p q r s h i j k l u v w x y = straight r
@@ -102,15 +103,18 @@ module _ (g : ℤ → ℤ → ℤ) where
       ∙ chain (on (v 0)) (on (v n)) (on (v (suc n)))
 
   -- a curve goes from its first point to its end
+  fall-cut : (o : Point) (c : Curve) → Curved (c .degree) → (c .degree ≡ 2 → c .p2 ≡ c .p3)
+      → fall g (upto 16 (λ k. edgeBetween (cutPoint o c k) (cutPoint o c (suc k)))) ≡ on o -ℤ on (c .p3)
+  fall-cut o c k h =
+      fall-along 16 (cutPoint o c)
+      ∙ ap₂ _-ℤ_ (ap₂ g (cut-first k _ _ _ _) (cut-first k _ _ _ _))
+      (ap₂ g (cut-last k _ _ _ _ (λ e. ap (λ (p : Point). p .x) (h e))) (cut-last k _ _ _ _ (λ e. ap (λ (p : Point). p .y) (h e))))
+
   fall-curve : (m : FixedMatrix) (o : Point) (c : Curve) → Shaped c → fall g (curveEdges o (transformCurve m c)) ≡ on o -ℤ on (transform m (c .p3))
   unfolding curveEdges
   fall-curve m o c (straight e) = fall-edge o (transform m e)
-  fall-curve m o c (bent b e) =
-      fall-along 16 (cutPoint o (transformCurve m (quadTo b e)))
-      ∙ ap₂ _-ℤ_ (ap₂ g (cut-first quad _ _ _ _) (cut-first quad _ _ _ _)) (ap₂ g (quad-last _ _ _ _) (quad-last _ _ _ _))
-  fall-curve m o c (twisted b d e) =
-      fall-along 16 (cutPoint o (transformCurve m (cubicTo b d e)))
-      ∙ ap₂ _-ℤ_ (ap₂ g (cut-first cubic _ _ _ _) (cut-first cubic _ _ _ _)) (ap₂ g (cubic-last _ _ _ _) (cubic-last _ _ _ _))
+  fall-curve m o c (bent b e) = fall-cut o (transformCurve m (quadTo b e)) quad (λ _. refl)
+  fall-curve m o c (twisted b d e) = fall-cut o (transformCurve m (cubicTo b d e)) cubic (λ e. absurd (omega (arith, e)))
 
   -- ---- the walk: the edges so far go from the current subpath's start to the current point
   module _ (m : FixedMatrix) where
@@ -118,7 +122,8 @@ module _ (g : ℤ → ℤ → ℤ) where
     owed pen = on (transform m (pen .start)) -ℤ on (transform m (pen .current))
 
     -- what is owed after a segment that draws to e
-    after-segment : (pen : Pen) (e : Point) → owed pen +ℤ (on (transform m (pen .current)) -ℤ on (transform m e)) ≡ on (transform m (pen .start)) -ℤ on (transform m e)
+    after-segment : (pen : Pen) (e : Point)
+        → owed pen +ℤ (on (transform m (pen .current)) -ℤ on (transform m e)) ≡ on (transform m (pen .start)) -ℤ on (transform m e)
     after-segment pen e = chain (on (transform m (pen .start))) (on (transform m (pen .current))) (on (transform m e))
 
     fall-segment : (coordinates : List ℕ) (w : Walk) (byte : ℕ)
@@ -145,7 +150,8 @@ module _ (g : ℤ → ℤ → ℤ) where
         over l n = omega arith
 
         by : (t u : Bool) → leb (number byte) 2 ≡ t → eqb (number byte) 2 ≡ u
-            → on (transform m (p .start)) -ℤ on (transform m (cond t (lineTo (p .start)) (curveAt coordinates w byte) .p3)) ≡ on (transform m (cond u e (p .start))) -ℤ on (transform m e)
+            → on (transform m (p .start)) -ℤ on (transform m (cond t (lineTo (p .start)) (curveAt coordinates w byte) .p3))
+            ≡ on (transform m (cond u e (p .start))) -ℤ on (transform m e)
         by false false f h = refl
         by true true f h = sym (level (on (transform m (p .start)))) ∙ level (on (transform m e))
         by true false f h =

@@ -129,7 +129,8 @@ module _ (m : FixedMatrix) (ss cs : List ℕ) (limited : Limited m) where
 
   pub segment-supplied : (i n : ℕ) → i < n → faultTo m ss cs n .code ≡ 0 → Supplied cs (walkTo ss cs i) (getD ss i 0)
   segment-supplied i n l e =
-      supplied m cs (walkTo ss cs i) (getD ss i 0) (accepted-ready m ss cs i (accepted-to i n (omega arith) e)) (accepted-before m ss cs i (accepted-to (suc i) n l e) .1)
+      supplied m cs (walkTo ss cs i) (getD ss i 0) (accepted-ready m ss cs i (accepted-to i n (omega arith) e))
+      (accepted-before m ss cs i (accepted-to (suc i) n l e) .1)
 
   -- the pen before it
   pub pen-placed : (i n : ℕ) → i ≤ n → faultTo m ss cs n .code ≡ 0 → PenPlaced m (walkTo ss cs i .pen)

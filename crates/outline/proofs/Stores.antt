@@ -47,7 +47,9 @@ puts-length (e ∷ es) l i = puts-length es (putEdge l i e) (suc i) ∙ put-leng
 
 puts-append : (es fs : List Edge) (l : List ℤ) (i : ℕ) → putEdges l i (es ++ fs) ≡ putEdges (putEdges l i es) (i + length es) fs
 puts-append [] fs l i = rw (add-zero i)
-puts-append (e ∷ es) fs l i = puts-append es fs (putEdge l i e) (suc i) ∙ ap (λ (n : ℕ). putEdges (putEdges (putEdge l i e) (suc i) es) n fs) (suc-add i (length es) ∙ sym (add-suc i (length es)))
+puts-append (e ∷ es) fs l i =
+    puts-append es fs (putEdge l i e) (suc i)
+    ∙ ap (λ (n : ℕ). putEdges (putEdges (putEdge l i e) (suc i) es) n fs) (suc-add i (length es) ∙ sym (add-suc i (length es)))
 
 -- said in another way
 pub puts-same : {es fs : List Edge} {q : List ℤ} {r : ℕ} (l : List ℤ) (n : ℕ) → es ≡ fs → (q ≡ putEdges l n es) × (r ≡ n + length es)

@@ -1,11 +1,11 @@
 -- One segment more: what it draws, the walk after it and the edges so far.
 use mathlib.Core.Path.{_≡_, refl, sym, ap, ap₂, _∙_}
 use mathlib.Core.List.{List, _++_}
-use Prim.Native.Nat.{ℕ, _+_, _≤_, _<_}
+use Prim.Native.Nat.{ℕ, _+_}
 use native.Mathlib.Numerals.{add-one}
-use native.Mathlib.Omega.{arith}
+use lib.Dec.{leb}
 use lib.ListN.{getD}
-use borrow.Author.Tests.{le-leb, lt-leb}
+use mathlib.Core.Bool.{true, false}
 use Rattle.lists.proofs.Laws.{upto-more}
 use Rattle.path.specs.declared.FixedMatrix.{FixedMatrix}
 use Rattle.path.specs.declared.Point.{Point}
@@ -14,7 +14,7 @@ use Rattle.path.specs.declared.Curve.{Curve}
 use Rattle.path.specs.declared.Walk.{Walk}
 use Rattle.path.specs.declared.Traced.{Traced}
 use Rattle.path.specs.Matrices.{transform}
-use Rattle.path.specs.Segments.{lineTo, number, drawnBy, walkOn, walkTo, curveAt}
+use Rattle.path.specs.Segments.{lineTo, number, numberMove, drawnBy, walkOn, walkTo, curveAt}
 use Rattle.path.specs.Curves.{edgeBetween, curveEdges, transformCurve, drawnEdges, edgesTo, pathEdges}
 use Rattle.path.specs.Answers.{tracedBy}
 use Rattle.outline.proofs.Counts.{curve-line}
@@ -24,13 +24,14 @@ module _ (m : FixedMatrix) (pen : Pen) where
   pub closing-edge : (p q : Point) → p ≡ transform m (pen .current) → q ≡ transform m (pen .start) → edgeBetween p q ≡ drawnEdges m pen (lineTo (pen .start))
   closing-edge p q e f = ap₂ edgeBetween e f ∙ sym (curve-line (transform m (pen .current)) (transformCurve m (lineTo (pen .start))) refl)
 
-  -- bytes 0 to 3 are close and move
-  pub drawn-closing : (byte : ℕ) (c : Curve) → byte < 4 → drawnEdges m pen (lineTo (pen .start)) ≡ drawnEdges m pen (drawnBy pen byte c)
-  drawn-closing byte c h = rw (le-leb (number byte) 2 (omega arith))
+  pub drawn-closing : (byte : ℕ) (c : Curve) → leb (number byte) numberMove ≡ true
+      → drawnEdges m pen (lineTo (pen .start)) ≡ drawnEdges m pen (drawnBy pen byte c)
+  drawn-closing byte c h = rw h
 
-  pub drawn-curve : (byte : ℕ) (c : Curve) (p : Point) (d : Curve) → 4 ≤ byte → p ≡ transform m (pen .current) → d ≡ transformCurve m c
+  pub drawn-curve : (byte : ℕ) (c : Curve) (p : Point) (d : Curve) → leb (number byte) numberMove ≡ false → p ≡ transform m (pen .current)
+      → d ≡ transformCurve m c
       → curveEdges p d ≡ drawnEdges m pen (drawnBy pen byte c)
-  drawn-curve byte c p d h e f = ap₂ curveEdges e f ∙ rw (lt-leb (number byte) 2 (omega arith))
+  drawn-curve byte c p d h e f = ap₂ curveEdges e f ∙ rw h
 
 -- ---- the walk, and the edges so far
 module _ (m : FixedMatrix) (ss cs : List ℕ) (i : ℕ) (w : Walk) (at : w ≡ walkTo ss cs i) where

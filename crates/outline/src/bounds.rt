@@ -1,6 +1,6 @@
 // The box of a path's edges, cut to the surface.
-use crate::store::load;
 use path::Edge;
+use path::edges::load;
 use rect::Rect;
 ghost use mathlib.Core.Path.{_≡_};
 ghost use Prim.Native.Nat.{_*_, _<_, _≤_};

@@ -5,6 +5,7 @@ use path::Curve;
 use path::FixedMatrix;
 use path::Pen;
 use path::Walk;
+use path::commands::returns;
 use path::tracing::trace;
 ghost use mathlib.Core.Path.{_≡_};
 ghost use Prim.Native.Nat.{_+_, _*_, _≤_, _<_};
@@ -53,7 +54,7 @@ fn store_segment(m: FixedMatrix, edges: &mut [i32], n: usize, pen: Pen, byte: u8
     ensures { λ r. ⌜ now (edges .exit) ≡ putEdges (now (edges .entry)) n (drawnEdges m pen (drawnBy pen byte c)) ⌝ }
     ensures { λ r. ⌜ r ≡ n + length (drawnEdges m pen (drawnBy pen byte c)) ⌝ }
 {
-    if byte < 4 {
+    if returns(byte) {
         return store_closing(m, edges, n, pen);
     }
     let from = m.apply(pen.current);

@@ -1,29 +1,14 @@
 // Edges in a lent run of numbers, four for each.
 use crate::curve::cut_point;
 use path::Curve;
-use path::Edge;
 use path::Point;
 ghost use mathlib.Core.Path.{_≡_};
 ghost use mathlib.Core.Bool.{_&&_};
 ghost use Prim.Native.Nat.{_+_, _*_, _≤_, _<_};
 ghost use lib.ListN.{length};
 ghost use Rattle.path.specs.Curves.{equal, edgeBetween, curveEdges};
-ghost use Rattle.path.specs.Stored.{edgeAt, putEdges};
+ghost use Rattle.path.specs.Stored.{putEdges};
 ghost use Rattle.outline.specs.Asked.{OnGrid, Drawable};
-
-// The edge at place i.
-pub fn load(edges: &[i32], i: usize) -> Edge
-    requires { ⌜ i * 4 + 3 < length (now edges) ⌝ }
-    ensures { λ r. ⌜ r ≡ edgeAt (now (edges .entry)) i ⌝ }
-{
-    let at = i * 4;
-    Edge {
-        x0: edges[at],
-        y0: edges[at + 1],
-        x1: edges[at + 2],
-        y1: edges[at + 3],
-    }
-}
 
 fn same(a: i32, b: i32) -> bool
     ensures { λ r. ⌜ r ≡ equal a b ⌝ }

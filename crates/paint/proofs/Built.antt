@@ -1,67 +1,94 @@
--- Stops stored in buffers, one after the other.
-use mathlib.Core.Path.{_≡_, refl, ap, ap₂, _∙_}
+-- Stops written to a run of numbers, one after the other.
+use mathlib.Core.Path.{_≡_, refl, sym, ap, ap₂, _∙_}
 use mathlib.Core.List.{List, [], _∷_, _++_}
-use Prim.Native.Nat.{ℕ, zero, suc, _+_, _*_, _<_}
+use Prim.Native.Nat.{ℕ, zero, suc, _+_, _-_, _*_, _/_, _%_, _≤_, _<_}
 use native.Mathlib.Numerals.{add-one}
 use native.Mathlib.Omega.{arith}
-use lib.ListN.{length, set}
-use lib.Seq.{getD-set-same}
-use Rattle.lists.proofs.Laws.{getD-set-before, four-before, four-each}
+use lib.ListN.{length, set, drop, getD, length-set}
+use lib.Seq.{drop-drop, drop-set-lt, getD-set-same}
+use Rattle.lists.proofs.Laws.{getD-set-before}
 use Rattle.color.specs.declared.Pixel.{Pixel}
-use Rattle.raster.specs.Surface.{pixelIn}
 use Rattle.paint.specs.Ramps.{stop}
-use Rattle.paint.specs.Buffers.{Room, stopAt, stopsFrom, stopsIn}
+use Rattle.paint.specs.Buffers.{packed, unpacked, stopAt, stopsFrom, stopsIn, Written}
 use Rattle.paint.specs.declared.Stop.{Stop}
 
+-- ---- a colour as one number, and back
+pub packed-back : (c : Pixel) → c .r < 256 → c .g < 256 → c .b < 256 → c .a < 256 → unpacked (packed c) ≡ c
+unfolding packed unpacked
+packed-back c r g b a = rw (low, second, third, high)
+  where
+    low : (c .r + c .g * 256 + c .b * 65536 + c .a * 16777216) % 256 ≡ c .r
+    low = omega arith
+
+    second : (c .r + c .g * 256 + c .b * 65536 + c .a * 16777216) / 256 % 256 ≡ c .g
+    second = omega arith
+
+    third : (c .r + c .g * 256 + c .b * 65536 + c .a * 16777216) / 65536 % 256 ≡ c .b
+    third = omega arith
+
+    high : (c .r + c .g * 256 + c .b * 65536 + c .a * 16777216) / 16777216 % 256 ≡ c .a
+    high = omega arith
+
+-- ---- stops in order
 shift : (i n : ℕ) → suc i + n ≡ i + suc n
 shift i n = omega arith
 
 -- one more stop is the last
-pub stops-more : (offsets colors : List ℕ) (i n : ℕ) → stopsFrom offsets colors i (suc n) ≡ stopsFrom offsets colors i n ++ (stopAt offsets colors (i + n) ∷ [])
-stops-more offsets colors i zero =
+pub stops-more : (ramp : List ℕ) (i n : ℕ) → stopsFrom ramp i (suc n) ≡ stopsFrom ramp i n ++ (stopAt ramp (i + n) ∷ [])
+stops-more ramp i zero =
     let e : i + 0 ≡ i = omega arith in
     rw e
-stops-more offsets colors i (suc n) =
-    ap (λ (l : List Stop). stopAt offsets colors i ∷ l)
-    (stops-more offsets colors (suc i) n ∙ ap (λ (k : ℕ). stopsFrom offsets colors (suc i) n ++ (stopAt offsets colors k ∷ [])) (shift i n))
+stops-more ramp i (suc n) =
+    ap (λ (l : List Stop). stopAt ramp i ∷ l)
+    (stops-more ramp (suc i) n ∙ ap (λ (k : ℕ). stopsFrom ramp (suc i) n ++ (stopAt ramp k ∷ [])) (shift i n))
 
-module _ (o c p d : List ℕ) where
-  pub stops-same : (i n : ℕ) → ((k : ℕ) → k < i + n → stopAt o c k ≡ stopAt p d k) → stopsFrom o c i n ≡ stopsFrom p d i n
-  stops-same i zero h = refl
-  stops-same i (suc n) h = ap₂ _∷_ (h i (omega arith)) (stops-same (suc i) n (λ k l. h k (omega arith)))
+pub stops-same : (a b : List ℕ) (i n : ℕ) → ((k : ℕ) → k < i + n → stopAt a k ≡ stopAt b k) → stopsFrom a i n ≡ stopsFrom b i n
+stops-same a b i zero h = refl
+stops-same a b i (suc n) h = ap₂ _∷_ (h i (omega arith)) (stops-same a b (suc i) n (λ k l. h k (omega arith)))
 
--- the bytes of a colour stored at a stop's place
-abbrev pub putColor : List ℕ → ℕ → Pixel → List ℕ
-putColor l i q = set (set (set (set l (i * 4) (q .r)) (i * 4 + 1) (q .g)) (i * 4 + 2) (q .b)) (i * 4 + 3) (q .a)
+-- ---- what is written
+-- a stop after the first at
+module _ (s : List ℕ) (at x n : ℕ) (q : Pixel) (h : at * 2 + 1 < length s) (e : unpacked n ≡ q) where
+  kept : (k : ℕ) → k < at → stopAt (set (set s (at * 2) x) (at * 2 + 1) n) k ≡ stopAt s k
+  kept k l =
+      let a : k * 2 < at * 2 + 1 = omega arith in
+      let b : k * 2 < at * 2 = omega arith in
+      let c : k * 2 + 1 < at * 2 + 1 = omega arith in
+      let d : k * 2 + 1 < at * 2 = omega arith in
+      simp getD-set-before
 
-color-kept : (l : List ℕ) (i : ℕ) (q : Pixel) (k : ℕ) → k < i → pixelIn (putColor l i q) k ≡ pixelIn l k
-color-kept l i q k h =
-    let h0 : k * 4 < i * 4 = omega arith in
-    let h1 : k * 4 + 1 < i * 4 = omega arith in
-    let h2 : k * 4 + 2 < i * 4 = omega arith in
-    let h3 : k * 4 + 3 < i * 4 = omega arith in
-    simp four-before
+  here : stopAt (set (set s (at * 2) x) (at * 2 + 1) n) at ≡ stop x q
+  here =
+      let a : at * 2 < at * 2 + 1 = omega arith in
+      let b : at * 2 < length s = omega arith in
+      let c : at * 2 + 1 < length (set s (at * 2) x) = simp length-set h in
+      ap₂ stop (getD-set-before (set s (at * 2) x) (at * 2 + 1) (at * 2) n 0 a ∙ getD-set-same s (at * 2) x 0 b)
+      (ap unpacked (getD-set-same (set s (at * 2) x) (at * 2 + 1) n 0 c) ∙ e)
 
-color-put : (l : List ℕ) (i : ℕ) (q : Pixel) → i * 4 + 3 < length l → pixelIn (putColor l i q) i ≡ q
-color-put l i q h =
-    let f = four-each l (i * 4) (q .r) (q .g) (q .b) (q .a) 0 h in
-    rw (f .0, f .1, f .2, f .3)
-
--- a stop stored after the first at
-module _ (o c : List ℕ) (at x : ℕ) (q : Pixel) (h : at < length o) (k : at * 4 + 3 < length c) where
-  pub stop-pushed : stopsIn (set o at x) (putColor c at q) (at + 1) ≡ stopsIn o c at ++ (stop x q ∷ [])
+  pub stop-pushed : Written s (set (set s (at * 2) x) (at * 2 + 1) n) (at + 1) (stopsIn s at ++ (stop x q ∷ []))
   stop-pushed =
-      ap (stopsFrom (set o at x) (putColor c at q) 0) (add-one at)
-      ∙ stops-more (set o at x) (putColor c at q) 0 at
-      ∙ ap₂ (λ (l r : List Stop). l ++ r)
-      (stops-same (set o at x) (putColor c at q) o c 0 at (λ n l. kept n (omega arith)))
-      (ap (λ (n : ℕ). stopAt (set o at x) (putColor c at q) n ∷ []) (omega arith) ∙ ap (λ (s : Stop). s ∷ []) here)
-    where
-      kept : (n : ℕ) → n < at → stopAt (set o at x) (putColor c at q) n ≡ stopAt o c n
-      kept n l = ap₂ stop (getD-set-before o at n x 0 l) (color-kept c at q n l)
+      let t = set (set s (at * 2) x) (at * 2 + 1) n in
+      record {
+        stops =
+            ap (stopsFrom t 0) (add-one at) ∙ stops-more t 0 at
+            ∙ ap₂ (λ (l r : List Stop). l ++ r) (stops-same t s 0 at (λ k l. kept k (omega arith))) (ap (λ (k : ℕ). stopAt t k ∷ []) (omega arith)
+            ∙ ap (λ (z : Stop). z ∷ []) here);
+        rest = drop-set-lt ((at + 1) * 2) (set s (at * 2) x) (at * 2 + 1) n (omega arith) ∙ drop-set-lt ((at + 1) * 2) s (at * 2) x (omega arith);
+      }
 
-      here : stopAt (set o at x) (putColor c at q) at ≡ stop x q
-      here = ap₂ stop (getD-set-same o at x 0 h) (color-put c at q k)
+-- nothing
+pub none-written : (s : List ℕ) (count : ℕ) → Written s s count (stopsIn s count)
+none-written s count = record { stops = refl; rest = refl }
 
-pub room-kept : (o c p d : List ℕ) → length p ≡ length o → length d ≡ length c → Room o c → Room p d
-room-kept o c p d e f r = record { places = omega (arith, r .places); bytes = omega (arith, r .bytes) }
+-- more, after what was written before
+drop-later : (a b : List ℕ) (m n : ℕ) → m ≤ n → drop m b ≡ drop m a → drop n b ≡ drop n a
+drop-later a b m n h e =
+    let k : m + (n - m) ≡ n = omega arith in
+    ap (λ (z : ℕ). drop z b) (sym k) ∙ sym (drop-drop (n - m) m b) ∙ ap (drop (n - m)) e ∙ drop-drop (n - m) m a ∙ ap (λ (z : ℕ). drop z a) k
+
+pub then-written : {a b c : List ℕ} {m n : ℕ} {k l r : List Stop} → Written a b m k → m ≤ n → Written b c n l → l ≡ r → Written a c n r
+then-written {a} {b} {c} {m} {n} u h w e = record { stops = w .stops ∙ e; rest = w .rest ∙ drop-later a b (m * 2) (n * 2) (omega arith) (u .rest) }
+
+-- the same in other words
+pub so-written : {a b : List ℕ} {n : ℕ} {l r : List Stop} → Written a b n l → l ≡ r → Written a b n r
+so-written w e = record { stops = w .stops ∙ e; rest = w .rest }

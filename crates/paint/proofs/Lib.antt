@@ -16,7 +16,6 @@
 --
 -- For callers:
 --     Sound       what buffers that hold a ramp keep to, and that paint is made of bytes
---     Painted     what the code paints is the paint of the definitions
 pub mod Sizes
 pub mod Slope
 pub mod Folded
@@ -28,4 +27,3 @@ pub mod Lookup
 pub mod Built
 pub mod Ends
 pub mod Sound
-pub mod Painted

@@ -9,7 +9,7 @@ use lib.Signed.{_<ℤ_}
 use Rattle.fixed.specs.Floor.{floorDiv}
 use Rattle.fixed.proofs.Poly as P
 use Rattle.fixed.proofs.Poly.{_⊕_, _⊖_, _⊗_}
-use Rattle.paint.specs.Gradient.{one, centre, squaredLength, linearT}
+use Rattle.paint.specs.Gradient.{rampUnit, centre, squaredLength, linearT}
 use Rattle.paint.specs.declared.FixedPoints.{FixedPoints}
 
 square-is : (z : ℤ) → z *ℤ z ≡ pos (natAbs z * natAbs z)
@@ -55,5 +55,5 @@ pub one-t : (p : FixedPoints) → p .x0 ≡ p .x1 → (x u y : ℕ) → linearT 
 unfolding linearT
 one-t p e x u y =
     let z : p .x1 -ℤ p .x0 ≡ pos 0 = P.eq (P.var (p .x1) ⊖ P.var (p .x0)) (P.num 0) (omega (arith, P.from-eq (P.var (p .x0)) (P.var (p .x1)) e)) in
-    ap (λ (n : ℤ). cond (eqb (natAbs (squaredLength p)) 0) (pos one) (floorDiv (pos one *ℤ n) (natAbs (squaredLength p))))
+    ap (λ (n : ℤ). cond (eqb (natAbs (squaredLength p)) 0) (pos rampUnit) (floorDiv (pos rampUnit *ℤ n) (natAbs (squaredLength p))))
     (same-projection (p .x1 -ℤ p .x0) (centre x -ℤ p .x0) (centre u -ℤ p .x0) ((p .y1 -ℤ p .y0) *ℤ (centre y -ℤ p .y0)) z)

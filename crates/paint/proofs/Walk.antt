@@ -13,9 +13,9 @@ use Rattle.fixed.proofs.Sign.{is-positive, above-zero}
 use Rattle.lists.proofs.Laws.{upto-same}
 use Rattle.color.specs.declared.Pixel.{Pixel}
 use Rattle.raster.specs.Surface.{bytesOf, run}
-use Rattle.paint.specs.Gradient.{one, centre, squaredLength, projection, linearT}
+use Rattle.paint.specs.Gradient.{rampUnit, centre, squaredLength, projection, linearT}
 use Rattle.paint.specs.Paints.{gradientColor}
-use Rattle.paint.specs.Buffers.{Near, Moderate, quotientOf, addQuotients, quotientAt, rowStep, linearAt}
+use Rattle.paint.specs.Buffers.{LimitedPoints, Moderate, quotientOf, addQuotients, quotientAt, rowStep, gradientAt}
 use Rattle.paint.specs.declared.FixedPoints.{FixedPoints}
 use Rattle.paint.specs.declared.LinearGradient.{LinearGradient}
 use Rattle.paint.specs.declared.Stop.{Stop}
@@ -46,14 +46,15 @@ module _ (p : FixedPoints) (apart : natAbs (squaredLength p) ≡ 0 → ⊥) wher
   pub next-pixel : (x y : ℕ) → addQuotients (quotientAt p x y) (rowStep p) (squaredLength p) ≡ quotientAt p (x + 1) y
   unfolding quotientAt rowStep
   next-pixel x y =
-      ap (addQuotients (quotientOf (pos one *ℤ projection p x y) (natAbs (squaredLength p))) (quotientOf (pos 16777216 *ℤ (p .x1 -ℤ p .x0)) (natAbs (squaredLength p))))
+      ap (addQuotients (quotientOf (pos rampUnit *ℤ projection p x y) (natAbs (squaredLength p)))
+      (quotientOf (pos 16777216 *ℤ (p .x1 -ℤ p .x0)) (natAbs (squaredLength p))))
       (is-positive (above (squared-is p) apart))
-      ∙ quotients-add (pos one *ℤ projection p x y) (pos 16777216 *ℤ (p .x1 -ℤ p .x0)) (natAbs (squaredLength p)) positive
+      ∙ quotients-add (pos rampUnit *ℤ projection p x y) (pos 16777216 *ℤ (p .x1 -ℤ p .x0)) (natAbs (squaredLength p)) positive
       ∙ ap (λ (z : ℤ). quotientOf z (natAbs (squaredLength p)))
       (sym (shifted (p .x1 -ℤ p .x0) (p .x0) ((p .y1 -ℤ p .y0) *ℤ (centre y -ℤ p .y0)) x))
 
   -- ---- sizes
-  module _ (near : Near p) where
+  module _ (near : LimitedPoints p) where
     x-apart : Within 2097152 (p .x1 -ℤ p .x0)
     x-apart = within-sub (small (p .x1) (near .x1)) (small (p .x0) (near .x0))
 
@@ -88,8 +89,8 @@ module _ (p : FixedPoints) (apart : natAbs (squaredLength p) ≡ 0 → ⊥) wher
         (within-mul y-apart (within-sub (centred y k) (small (p .y0) (near .y0))))))
 
 -- ---- points with one x: a row has one colour
-pub flat-run : (g : LinearGradient) (ramp : List Stop) (x y n : ℕ) (c : Pixel) → g .points .x0 ≡ g .points .x1 → c ≡ linearAt g ramp x y
-    → run n (λ i. c) ≡ run n (λ i. linearAt g ramp (x + i) y)
+pub flat-run : (g : LinearGradient) (ramp : List Stop) (x y n : ℕ) (c : Pixel) → g .points .x0 ≡ g .points .x1 → c ≡ gradientAt g ramp x y
+    → run n (λ i. c) ≡ run n (λ i. gradientAt g ramp (x + i) y)
 flat-run g ramp x y n c e h =
-    upto-same n (λ i. bytesOf c) (λ i. bytesOf (linearAt g ramp (x + i) y))
+    upto-same n (λ i. bytesOf c) (λ i. bytesOf (gradientAt g ramp (x + i) y))
     (λ k l. ap bytesOf (h ∙ ap (gradientColor (g .spread) (g .premultiply) ramp) (one-t (g .points) e x (x + k) y)))

@@ -1,11 +1,11 @@
--- How the code holds a gradient: what a draw is known to keep to, the ramp in lent buffers, t along a row. Only the proofs need it: a
+-- How the code holds a gradient: what a draw is known to keep to, the ramp in a lent run of numbers, t along a row. Only the proofs need it: a
 -- reviewer of the paper need not read it.
-use Prim.Native.Nat.{ℕ, zero, suc, _*_, _≤_, _<_}
+use Prim.Native.Nat.{ℕ, zero, suc, _+_, _*_, _/_, _%_, _≤_, _<_}
 use mathlib.Core.Path.{_≡_}
 use mathlib.Core.List.{List, [], _∷_, _++_}
 use mathlib.Core.Bool.{Bool, false, cond}
 use lib.Dec.{eqb}
-use lib.ListN.{length, getD}
+use lib.ListN.{length, getD, drop}
 use lib.IntN.{ℤ, pos, natAbs, _+ℤ_, _-ℤ_, _*ℤ_}
 use lib.Signed.{ltZ}
 use lib.Ieee.{lt}
@@ -13,8 +13,7 @@ use Rattle.fixed.specs.declared.Real.{Real}
 use Rattle.fixed.specs.declared.Real.the-variants.{Number, Nan}
 use Rattle.fixed.specs.Floor.{floorDiv, floorMod}
 use Rattle.color.specs.declared.Pixel.{Pixel}
-use Rattle.raster.specs.Surface.{pixelIn}
-use Rattle.paint.specs.Gradient.{one, projection, squaredLength, linearT}
+use Rattle.paint.specs.Gradient.{rampUnit, projection, squaredLength, linearT}
 use Rattle.paint.specs.Ramps.{stop, black, white, withEnd}
 use Rattle.paint.specs.Paints.{gradientColor}
 use Rattle.paint.specs.declared.FixedPoints.{FixedPoints}
@@ -23,18 +22,11 @@ use Rattle.paint.specs.declared.Quotient.{Quotient}
 use Rattle.paint.specs.declared.Stop.{Stop}
 
 -- points of at most 4,096 pixels in size
-pub record Near (p : FixedPoints) : Type 0 where
+pub record LimitedPoints (p : FixedPoints) : Type 0 where
   pub x0 : natAbs (p .x0) ≤ 1048576
   pub y0 : natAbs (p .y0) ≤ 1048576
   pub x1 : natAbs (p .x1) ≤ 1048576
   pub y1 : natAbs (p .y1) ≤ 1048576
-
--- four bytes
-pub record Bytes (p : Pixel) : Type 0 where
-  pub r : p .r < 256
-  pub g : p .g < 256
-  pub b : p .b < 256
-  pub a : p .a < 256
 
 -- ---- floats as they are read: a NaN is less than none
 abbrev pub lessReal : Real → Real → Bool
@@ -42,31 +34,40 @@ lessReal (Number x) (Number y) = lt x y
 lessReal (Number x) Nan = false
 lessReal Nan b = false
 
--- ---- stops in buffers: offsets, and colours of four bytes
-abbrev pub stopAt : List ℕ → List ℕ → ℕ → Stop
-stopAt offsets colors i = record { offset = getD offsets i 0; color = pixelIn colors i }
+-- ---- stops in a run of numbers, two to a stop: its offset, and its colour's four bytes as one number, R lowest
+unfoldable pub packed : Pixel → ℕ
+packed c = c .r + c .g * 256 + c .b * 65536 + c .a * 16777216
+
+unfoldable pub unpacked : ℕ → Pixel
+unpacked n = record { r = n % 256; g = n / 256 % 256; b = n / 65536 % 256; a = n / 16777216 % 256 }
+
+abbrev pub stopAt : List ℕ → ℕ → Stop
+stopAt ramp i = record { offset = getD ramp (i * 2) 0; color = unpacked (getD ramp (i * 2 + 1) 0) }
 
 -- n stops from the ith on
-abbrev pub stopsFrom : List ℕ → List ℕ → ℕ → ℕ → List Stop
-stopsFrom offsets colors i zero = []
-stopsFrom offsets colors i (suc n) = stopAt offsets colors i ∷ stopsFrom offsets colors (suc i) n
+abbrev pub stopsFrom : List ℕ → ℕ → ℕ → List Stop
+stopsFrom ramp i zero = []
+stopsFrom ramp i (suc n) = stopAt ramp i ∷ stopsFrom ramp (suc i) n
 
-abbrev pub stopsIn : List ℕ → List ℕ → ℕ → List Stop
-stopsIn offsets colors count = stopsFrom offsets colors 0 count
+abbrev pub stopsIn : List ℕ → ℕ → List Stop
+stopsIn ramp count = stopsFrom ramp 0 count
 
--- the buffers hold so many stops; the first lies at 0, and none above 65,536
-pub record Held (offsets colors : List ℕ) (count : ℕ) : Type 0 where
+-- the run holds so many stops; the first lies at 0, and none above 65,536
+pub record HeldRamp (ramp : List ℕ) (count : ℕ) : Type 0 where
   pub some : 0 < count
-  pub places : count ≤ length offsets
-  pub bytes : count * 4 ≤ length colors
-  pub first : getD offsets 0 0 ≡ 0
-  pub below : (i : ℕ) → i < count → getD offsets i 0 ≤ one
+  pub places : count * 2 ≤ length ramp
+  pub first : getD ramp 0 0 ≡ 0
+  pub below : (i : ℕ) → i < count → getD ramp (i * 2) 0 ≤ rampUnit
 
 -- ---- the ramp as it is built, stop after stop
--- room for 32 stops and two ends
-pub record Room (offsets colors : List ℕ) : Type 0 where
-  pub places : 34 ≤ length offsets
-  pub bytes : 136 ≤ length colors
+-- numbers for 32 stops and two ends
+abbrev pub rampNumbers : ℕ
+rampNumbers = 68
+
+-- of the run before, the first places are written with the stops l, and the others are as they were
+pub record Written (before after : List ℕ) (count : ℕ) (l : List Stop) : Type 0 where
+  pub stops : stopsIn after count ≡ l
+  pub rest : drop (count * 2) after ≡ drop (count * 2) before
 
 -- an end at 0 before the first
 abbrev pub withFirst : List Stop → List Stop
@@ -81,7 +82,7 @@ grown (a ∷ l) (s ∷ more) = (a ∷ l) ++ (s ∷ [])
 
 -- an end at 65,536 after the last; without any, black and white
 abbrev pub closed : List Stop → List Stop
-closed [] = stop 0 black ∷ stop one white ∷ []
+closed [] = stop 0 black ∷ stop rampUnit white ∷ []
 closed (a ∷ rest) = withEnd a rest
 
 -- ---- t along a row: the numerator over the squared length, from pixel to pixel
@@ -89,7 +90,7 @@ abbrev pub quotientOf : ℤ → ℕ → Quotient
 quotientOf n d = record { whole = floorDiv n d; rest = pos (floorMod n d) }
 
 unfoldable pub quotientAt : FixedPoints → ℕ → ℕ → Quotient
-quotientAt p x y = quotientOf (pos one *ℤ projection p x y) (natAbs (squaredLength p))
+quotientAt p x y = quotientOf (pos rampUnit *ℤ projection p x y) (natAbs (squaredLength p))
 
 -- 65,536 times 256 dx
 unfoldable pub rowStep : FixedPoints → Quotient
@@ -108,5 +109,5 @@ pub record Moderate (q : Quotient) : Type 0 where
   pub rest : natAbs (q .rest) ≤ 1152921504606846976
 
 -- ---- a gradient as it is drawn
-abbrev pub linearAt : LinearGradient → List Stop → ℕ → ℕ → Pixel
-linearAt g ramp x y = gradientColor (g .spread) (g .premultiply) ramp (linearT (g .points) x y)
+abbrev pub gradientAt : LinearGradient → List Stop → ℕ → ℕ → Pixel
+gradientAt g ramp x y = gradientColor (g .spread) (g .premultiply) ramp (linearT (g .points) x y)

@@ -12,9 +12,9 @@ use Rattle.paint.specs.declared.FixedPoints.{FixedPoints}
 abbrev pub fixedPoints : LinearPoints → FixedPoints
 fixedPoints p = record { x0 = scaled 256 (p .x0); y0 = scaled 256 (p .y0); x1 = scaled 256 (p .x1); y1 = scaled 256 (p .y1) }
 
--- t runs from 0 at the first point to 65,536 at the second
-abbrev pub one : ℕ
-one = 65536
+-- a ramp's 1: t runs from 0 at the first point to 65,536 at the second, and so do the stops' offsets
+abbrev pub rampUnit : ℕ
+rampUnit = 65536
 
 -- the pixel's centre, in 1/256
 abbrev pub centre : ℕ → ℤ
@@ -30,7 +30,7 @@ projection p x y = (p .x1 -ℤ p .x0) *ℤ (centre x -ℤ p .x0) +ℤ (p .y1 -�
 
 -- t at the pixel (x, y); 65,536 where the points coincide
 unfoldable pub linearT : FixedPoints → ℕ → ℕ → ℤ
-linearT p x y = cond (eqb (natAbs (squaredLength p)) 0) (pos one) (floorDiv (pos one *ℤ projection p x y) (natAbs (squaredLength p)))
+linearT p x y = cond (eqb (natAbs (squaredLength p)) 0) (pos rampUnit) (floorDiv (pos rampUnit *ℤ projection p x y) (natAbs (squaredLength p)))
 
 -- the spread modes, by their numbers in the scene file
 abbrev pub spreadPad : ℕ
@@ -45,7 +45,7 @@ spreadReflect = 0x1C02
 -- repeat takes t modulo 65,536; reflect 65,536 minus that where floor(t / 65,536) is odd
 unfoldable pub mapped : ℕ → ℤ → ℤ
 mapped spread t =
-    cond (eqb spread spreadRepeat) (pos (floorMod t one))
+    cond (eqb spread spreadRepeat) (pos (floorMod t rampUnit))
     (cond (eqb spread spreadReflect)
-    (cond (eqb (natAbs (floorDiv t one) % 2) 1) (pos (one - floorMod t one)) (pos (floorMod t one)))
+    (cond (eqb (natAbs (floorDiv t rampUnit) % 2) 1) (pos (rampUnit - floorMod t rampUnit)) (pos (floorMod t rampUnit)))
     t)

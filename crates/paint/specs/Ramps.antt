@@ -10,7 +10,7 @@ use Rattle.lists.specs.Lists.{upto}
 use Rattle.fixed.specs.Floats.{f32At, inUnit, scaled}
 use Rattle.color.specs.declared.Pixel.{Pixel}
 use Rattle.color.specs.Channels.{channelByte, premultiplied}
-use Rattle.paint.specs.Gradient.{one}
+use Rattle.paint.specs.Gradient.{rampUnit}
 use Rattle.paint.specs.declared.Stop.{Stop}
 
 -- ---- the stops as given
@@ -32,7 +32,7 @@ fallsIn stops (suc n) = fallsIn stops n || lt (offsetAt stops (suc n)) (offsetAt
 
 -- those outside 0..1 are dropped; an offset in 0..1 becomes floor(65,536v + 1/2)
 abbrev pub keptAt : List ℕ → ℕ → List Stop
-keptAt stops i = cond (inUnit (offsetAt stops i)) (record { offset = natAbs (scaled one (offsetAt stops i)); color = colorAt stops i } ∷ []) []
+keptAt stops i = cond (inUnit (offsetAt stops i)) (record { offset = natAbs (scaled rampUnit (offsetAt stops i)); color = colorAt stops i } ∷ []) []
 
 -- stops whose offsets ever fall are ignored all together
 unfoldable pub keptStops : List ℕ → ℕ → List Stop
@@ -50,11 +50,11 @@ stop offset color = record { offset = offset; color = color }
 
 -- a missing end copies the first or last colour
 abbrev pub withEnd : Stop → List Stop → List Stop
-withEnd a [] = a ∷ cond (eqb (a .offset) one) [] (stop one (a .color) ∷ [])
+withEnd a [] = a ∷ cond (eqb (a .offset) rampUnit) [] (stop rampUnit (a .color) ∷ [])
 withEnd a (b ∷ rest) = a ∷ withEnd b rest
 
 unfoldable pub withEnds : List Stop → List Stop
-withEnds [] = stop 0 black ∷ stop one white ∷ []
+withEnds [] = stop 0 black ∷ stop rampUnit white ∷ []
 withEnds (a ∷ rest) = cond (eqb (a .offset) 0) (withEnd a rest) (stop 0 (a .color) ∷ withEnd a rest)
 
 -- with bit 2 the stops are premultiplied first
@@ -92,4 +92,4 @@ between i (j ∷ rest) t = cond (ltb t (j .offset)) (mix i j t) (between j rest 
 -- t below 0 gives the first stop, t from 65,536 the last
 unfoldable pub rampAt : List Stop → ℤ → Pixel
 rampAt [] t = black
-rampAt (i ∷ rest) t = cond (ltZ t (pos 0)) (i .color) (cond (ltZ t (pos one)) (between i rest (natAbs t)) (lastColor i rest))
+rampAt (i ∷ rest) t = cond (ltZ t (pos 0)) (i .color) (cond (ltZ t (pos rampUnit)) (between i rest (natAbs t)) (lastColor i rest))

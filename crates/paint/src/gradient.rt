@@ -2,20 +2,19 @@
 use crate::FixedPoints;
 use crate::LinearPoints;
 use crate::Quotient;
-use fixed::Fixed;
 ghost use mathlib.Core.Path.{_≡_};
 ghost use Prim.Native.Nat.{_+_, _*_, _≤_};
 ghost use lib.IntN.{pos, natAbs, _-ℤ_, _*ℤ_};
 ghost use mathlib.Core.Bool.{true};
 ghost use Rattle.fixed.specs.Floats.{atMost, scaled};
-ghost use Rattle.paint.specs.Gradient.{fixedPoints, one, centre, squaredLength, projection, linearT, mapped};
+ghost use Rattle.paint.specs.Gradient.{fixedPoints, rampUnit, centre, squaredLength, projection, linearT, mapped};
 ghost use lib.Signed.{_<ℤ_};
-ghost use Rattle.paint.specs.Buffers.{Near, Moderate, quotientOf, addQuotients, quotientAt, rowStep};
+ghost use Rattle.paint.specs.Buffers.{LimitedPoints, Moderate, quotientOf, addQuotients, quotientAt, rowStep};
 
 // t at the second point, where a ramp ends.
-pub const ONE: i64 = 65536;
+pub const RAMP_UNIT: i64 = 65536;
 
-// What the numerator of t grows by from one pixel of a row to the next, for each 1/256 that the points lie apart: ONE times a pixel's 256.
+// What the numerator of t grows by from one pixel of a row to the next, for each 1/256 that the points lie apart: RAMP_UNIT times a pixel's 256.
 const ONE_PIXEL: i64 = 16777216;
 
 // Spread modes, by their numbers in the scene file. Any other pads.
@@ -26,7 +25,7 @@ const REFLECT: u32 = 0x1C02;
 // The points of a draw in 1/256 pixel.
 pub fn fixed_points(p: LinearPoints) -> FixedPoints
     requires { ⌜ (atMost 4096 (p .x0) ≡ true) × (atMost 4096 (p .y0) ≡ true) × (atMost 4096 (p .x1) ≡ true) × (atMost 4096 (p .y1) ≡ true) ⌝ }
-    ensures { λ r. ⌜ (r ≡ fixedPoints p) × Near r ⌝ }
+    ensures { λ r. ⌜ (r ≡ fixedPoints p) × LimitedPoints r ⌝ }
 {
     FixedPoints {
         x0: coordinate(p.x0),
@@ -38,13 +37,13 @@ pub fn fixed_points(p: LinearPoints) -> FixedPoints
 
 // t at the pixel (x, y).
 pub fn linear_t(p: FixedPoints, x: usize, y: usize) -> i64
-    requires { ⌜ Near p ⌝ }
+    requires { ⌜ LimitedPoints p ⌝ }
     requires { ⌜ (x ≤ 1024) × (y ≤ 1024) ⌝ }
     ensures { λ r. ⌜ r ≡ linearT p x y ⌝ }
 {
     let d = squared_length(p);
     if d == 0 {
-        return ONE;
+        return RAMP_UNIT;
     }
     fixed::floor_div(numerator(p, x, y), d)
 }
@@ -54,12 +53,12 @@ pub fn spread(mode: u32, t: i64) -> i64
     ensures { λ r. ⌜ r ≡ mapped mode t ⌝ }
 {
     if mode == REPEAT {
-        return fixed::floor_mod(t, ONE);
+        return fixed::floor_mod(t, RAMP_UNIT);
     }
     if mode == REFLECT {
-        let rest = fixed::floor_mod(t, ONE);
-        if fixed::floor_mod(fixed::floor_div(t, ONE), 2) == 1 {
-            return ONE - rest;
+        let rest = fixed::floor_mod(t, RAMP_UNIT);
+        if fixed::floor_mod(fixed::floor_div(t, RAMP_UNIT), 2) == 1 {
+            return RAMP_UNIT - rest;
         }
         return rest;
     }
@@ -70,21 +69,20 @@ fn coordinate(v: f32) -> i64
     requires { ⌜ atMost 4096 v ≡ true ⌝ }
     ensures { λ r. ⌜ (r ≡ scaled 256 v) × (natAbs r ≤ 1048576) ⌝ }
 {
-    let f = fixed::gradient_point(v);
-    if let Fixed::Value(z) = f { z } else { 0 }
+    fixed::to_whole(v, 256)
 }
 
 // What t is 65,536ths of: the projection of the pixel's centre, 65,536 times.
 fn numerator(p: FixedPoints, x: usize, y: usize) -> i64
-    requires { ⌜ Near p ⌝ }
+    requires { ⌜ LimitedPoints p ⌝ }
     requires { ⌜ (x ≤ 1024) × (y ≤ 1024) ⌝ }
-    ensures { λ r. ⌜ r ≡ pos one *ℤ projection p x y ⌝ }
+    ensures { λ r. ⌜ r ≡ pos rampUnit *ℤ projection p x y ⌝ }
 {
-    ONE * (along(p.x0, p.x1, x) + along(p.y0, p.y1, y))
+    RAMP_UNIT * (along(p.x0, p.x1, x) + along(p.y0, p.y1, y))
 }
 
 pub fn squared_length(p: FixedPoints) -> i64
-    requires { ⌜ Near p ⌝ }
+    requires { ⌜ LimitedPoints p ⌝ }
     ensures { λ r. ⌜ r ≡ squaredLength p ⌝ }
 {
     square(p.x1, p.x0) + square(p.y1, p.y0)
@@ -107,7 +105,7 @@ fn square(a: i64, b: i64) -> i64
 
 // t at the pixel (x, y) of two points that do not coincide, with the rest of its division.
 pub fn quotient_at(p: FixedPoints, x: usize, y: usize) -> Quotient
-    requires { ⌜ Near p × (natAbs (squaredLength p) ≡ 0 → ⊥) ⌝ }
+    requires { ⌜ LimitedPoints p × (natAbs (squaredLength p) ≡ 0 → ⊥) ⌝ }
     requires { ⌜ (x ≤ 1024) × (y ≤ 1024) ⌝ }
     ensures { λ r. ⌜ r ≡ quotientAt p x y ⌝ }
 {
@@ -116,7 +114,7 @@ pub fn quotient_at(p: FixedPoints, x: usize, y: usize) -> Quotient
 
 // What t grows by from one pixel of a row to the next.
 pub fn row_step(p: FixedPoints) -> Quotient
-    requires { ⌜ Near p × (natAbs (squaredLength p) ≡ 0 → ⊥) ⌝ }
+    requires { ⌜ LimitedPoints p × (natAbs (squaredLength p) ≡ 0 → ⊥) ⌝ }
     ensures { λ r. ⌜ r ≡ rowStep p ⌝ }
 {
     quotient(ONE_PIXEL * (p.x1 - p.x0), squared_length(p))

@@ -1,46 +1,67 @@
-// The ramp's colour at t. The stops lie in two lent buffers: the offset of stop i at i, and its colour's four bytes from 4 i on.
-use crate::gradient::ONE;
+// The ramp's colour at t. The stops lie in a lent run of numbers, two to a stop: its offset, and its colour's four bytes as one number.
+use crate::gradient::RAMP_UNIT;
 use color::Pixel;
 ghost use mathlib.Core.Path.{_≡_};
-ghost use Prim.Native.Nat.{_-_, _≤_, _<_};
+ghost use Prim.Native.Nat.{_+_, _-_, _*_, _≤_, _<_};
+ghost use lib.ListN.{length};
 ghost use Rattle.paint.specs.Ramps.{mixByte, mixPixel, between, rampAt};
-ghost use Rattle.paint.specs.Buffers.{Held, stopAt, stopsFrom, stopsIn};
+ghost use Rattle.paint.specs.Buffers.{HeldRamp, packed, unpacked, stopAt, stopsFrom, stopsIn};
 
 // The colour at t.
-pub fn ramp_color(offsets: &[u32], colors: &[u8], count: usize, t: i64) -> Pixel
-    requires { ⌜ Held (now offsets) (now colors) count ⌝ }
-    ensures { λ r. ⌜ r ≡ rampAt (stopsIn (now (offsets .entry)) (now (colors .entry)) count) t ⌝ }
+pub fn ramp_color(ramp: &[u32], count: usize, t: i64) -> Pixel
+    requires { ⌜ HeldRamp (now ramp) count ⌝ }
+    ensures { λ r. ⌜ r ≡ rampAt (stopsIn (now (ramp .entry)) count) t ⌝ }
 {
     if t < 0 {
-        return raster::pixel(colors, 0);
+        return stop_color(ramp, 0);
     }
-    if t < ONE {
-        return color_between(offsets, colors, count, t as u32);
+    if t < RAMP_UNIT {
+        return color_between(ramp, count, t as u32);
     }
-    raster::pixel(colors, count - 1)
+    stop_color(ramp, count - 1)
 }
 
 // The colour at t, from 0 to 65,535: between the first stop whose offset is above t, and the stop before it.
-fn color_between(offsets: &[u32], colors: &[u8], count: usize, t: u32) -> Pixel
-    requires { ⌜ Held (now offsets) (now colors) count ⌝ }
-    ensures { λ r. ⌜ r ≡ between (stopAt (now (offsets .entry)) (now (colors .entry)) 0) (stopsFrom (now (offsets .entry)) (now (colors .entry)) 1 (count - 1)) t ⌝ }
+fn color_between(ramp: &[u32], count: usize, t: u32) -> Pixel
+    requires { ⌜ HeldRamp (now ramp) count ⌝ }
+    ensures { λ r. ⌜ r ≡ between (stopAt (now (ramp .entry)) 0) (stopsFrom (now (ramp .entry)) 1 (count - 1)) t ⌝ }
 {
     let mut j = 1;
     while j < count {
-        let x = offsets[j];
+        let x = ramp[j * 2];
         if t < x {
             let i = j - 1;
-            return mix_pixel(
-                offsets[i],
-                x,
-                t,
-                raster::pixel(colors, i),
-                raster::pixel(colors, j),
-            );
+            return mix_pixel(ramp[i * 2], x, t, stop_color(ramp, i), stop_color(ramp, j));
         }
         j += 1;
     }
-    raster::pixel(colors, count - 1)
+    stop_color(ramp, count - 1)
+}
+
+// The colour of stop i.
+pub fn stop_color(ramp: &[u32], i: usize) -> Pixel
+    requires { ⌜ i * 2 + 1 < length (now ramp) ⌝ }
+    ensures { λ r. ⌜ r ≡ stopAt (now (ramp .entry)) i .color ⌝ }
+{
+    unpack(ramp[i * 2 + 1])
+}
+
+// A colour's four bytes as one number, and back.
+pub fn pack(c: Pixel) -> u32
+    ensures { λ r. ⌜ r ≡ packed c ⌝ }
+{
+    (c.r as u32) + (c.g as u32) * 256 + (c.b as u32) * 65536 + (c.a as u32) * 16777216
+}
+
+fn unpack(n: u32) -> Pixel
+    ensures { λ r. ⌜ r ≡ unpacked n ⌝ }
+{
+    Pixel {
+        r: (n % 256) as u8,
+        g: (n / 256 % 256) as u8,
+        b: (n / 65536 % 256) as u8,
+        a: (n / 16777216 % 256) as u8,
+    }
 }
 
 fn mix_pixel(xi: u32, xj: u32, t: u32, ci: Pixel, cj: Pixel) -> Pixel

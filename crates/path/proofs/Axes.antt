@@ -1,8 +1,8 @@
--- One axis of a transformed point, of numbers that locals hold: what is asked of them, and what comes back.
+-- One axis of a point, of numbers that locals hold: what is asked of them, and what comes back.
 use mathlib.Core.Path.{_≡_, _∙_, sym, subst}
 use Prim.Native.Nat.{_≤_, _<_, _^_}
 use lib.Dec.{T, leb, leb→le, lit<}
-use lib.IntN.{ℤ, natAbs}
+use lib.IntN.{ℤ, pos, natAbs, _+ℤ_, _-ℤ_, _*ℤ_}
 use lib.Signed.{mag}
 use mir.Syntax.{w32, w64}
 use mir.Val.{SFits, toZ, ofZ}
@@ -13,11 +13,34 @@ use Rattle.path.specs.Matrices.{transformAxis}
 use Rattle.path.specs.Segments.{point}
 use Rattle.path.specs.Limits.{Near}
 
+-- ---- the mirrored point
+module _ (o p : ℤ) (ho : natAbs o ≤ 32768) (hp : natAbs p ≤ 32768) where
+  pub mirror-asked : (natAbs (toZ w32 (ofZ w32 o)) ≤ 32768) × (natAbs (toZ w32 (ofZ w32 p)) ≤ 32768)
+  mirror-asked = rw (clean w32 32768 o tt ho, clean w32 32768 p tt hp) (ho, hp)
+
+  pub mirror-told : (r : ℤ) → mag r < 2 ^ 31 → r ≡ pos 2 *ℤ toZ w32 (ofZ w32 o) -ℤ toZ w32 (ofZ w32 p) → toZ w32 (ofZ w32 r) ≡ pos 2 *ℤ o -ℤ p
+  mirror-told r h e = back w32 r h ∙ rw (clean w32 32768 o tt ho, clean w32 32768 p tt hp) at e
+
+-- ---- a coordinate added to that of a point
+module _ (o : ℤ) (ho : natAbs o ≤ 32768) where
+  pub offset-asked : natAbs (toZ w32 (ofZ w32 o)) ≤ 32768
+  offset-asked = rw (clean w32 32768 o tt ho) ho
+
+  pub offset-told : (r z : ℤ) → mag r < 2 ^ 31 → r ≡ toZ w32 (ofZ w32 o) +ℤ z → toZ w32 (ofZ w32 r) ≡ o +ℤ z
+  offset-told r z h e = back w32 r h ∙ rw (clean w32 32768 o tt ho) at e
+
+-- ---- a transformed point
 module _ (a b t : ℤ) (p : Point) (ha : natAbs a ≤ 16777216) (hb : natAbs b ≤ 16777216) (ht : natAbs t ≤ 2147483648) (n : Near p) where
   pub axis-asked : ((natAbs (toZ w64 (ofZ w64 a)) ≤ 16777216) × (natAbs (toZ w64 (ofZ w64 b)) ≤ 16777216) × (natAbs (toZ w64 (ofZ w64 t)) ≤ 2147483648))
       × ((natAbs (toZ w32 (ofZ w32 (p .x))) ≤ 32768) × (natAbs (toZ w32 (ofZ w32 (p .y))) ≤ 32768))
   axis-asked =
-      rw (clean w64 16777216 a tt ha, clean w64 16777216 b tt hb, clean w64 2147483648 t tt ht, clean w32 32768 (p .x) tt (n .x), clean w32 32768 (p .y) tt (n .y))
+      rw (
+        clean w64 16777216 a tt ha,
+        clean w64 16777216 b tt hb,
+        clean w64 2147483648 t tt ht,
+        clean w32 32768 (p .x) tt (n .x),
+        clean w32 32768 (p .y) tt (n .y),
+      )
       ((ha, hb, ht), (n .x, n .y))
 
   pub axis-told : (r : ℤ) → mag r < 2 ^ 63
@@ -25,7 +48,13 @@ module _ (a b t : ℤ) (p : Point) (ha : natAbs a ≤ 16777216) (hb : natAbs b �
       → toZ w64 (ofZ w64 r) ≡ transformAxis a b t p
   axis-told r h e =
       back w64 r h
-      ∙ rw (clean w64 16777216 a tt ha, clean w64 16777216 b tt hb, clean w64 2147483648 t tt ht, clean w32 32768 (p .x) tt (n .x), clean w32 32768 (p .y) tt (n .y)) at e
+      ∙ rw (
+        clean w64 16777216 a tt ha,
+        clean w64 16777216 b tt hb,
+        clean w64 2147483648 t tt ht,
+        clean w32 32768 (p .x) tt (n .x),
+        clean w32 32768 (p .y) tt (n .y),
+      ) at e
 
 -- a result that is small enough, cast to 32 bits
 pub landed : (z r : ℤ) → T (leb (natAbs z) 8388608) → mag r < 2 ^ 63 → r ≡ z → SFits w32 (toZ w64 (ofZ w64 r))

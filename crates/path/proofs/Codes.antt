@@ -2,12 +2,14 @@
 use mathlib.Core.Path.{_≡_, refl, sym, subst, _∙_}
 use mathlib.Core.List.{List}
 use mathlib.Core.Bool.{Bool, true, false, cond, _&&_}
-use Prim.Native.Nat.{ℕ, _+_, _*_, _≤_, _<_}
+use Prim.Native.Nat.{ℕ, _+_, _*_, _/_, _≤_, _<_}
 use native.Mathlib.Omega.{arith}
 use lib.Dec.{T, leb, ltb, eqb, leb→le}
 use lib.ListN.{length}
 use lib.IntN.{ℤ, pos, negsuc, natAbs}
 use borrow.Author.Tests.{le-leb, lt-leb, lt-ltb, le-ltb, ne-eqb, leb-true, leb-false, ltb-false, eqb-true, eqb-false}
+use Rattle.codes.specs.Codes.{acceptedCode, illegalArgument, unsupportedPathFormat}
+use Rattle.codes.proofs.Refusals.{refuses}
 use Rattle.fixed.proofs.Tests.{both-left, both-right}
 use Rattle.path.specs.declared.FixedMatrix.{FixedMatrix}
 use Rattle.path.specs.declared.Point.{Point}
@@ -16,7 +18,8 @@ use Rattle.path.specs.declared.Curve.{Curve}
 use Rattle.path.specs.declared.Walk.{Walk}
 use Rattle.path.specs.declared.Traced.{Traced}
 use Rattle.path.specs.declared.Step.the-variants.{Drawn, Refused}
-use Rattle.path.specs.Segments.{coordinatesTaken, number, numberMove, inSixteenBits, inRange, curveAt, penAfter, walkOn, curveInRange, curveOnGrid, segmentCode}
+use Rattle.path.specs.Segments.{coordinatesTaken, number, numberMove, inSixteenBits, inRange}
+use Rattle.path.specs.Segments.{curveAt, penAfter, walkOn, curveInRange, curveOnGrid, segmentCode}
 use Rattle.path.specs.Answers.{pickStep, tracedBy, stepOf}
 use Rattle.path.specs.Limits.{Near, Held, NearCurve, Ready, Supplied}
 
@@ -60,48 +63,56 @@ module _ (m : FixedMatrix) (cs : List ℕ) (walk : Walk) (byte : ℕ) where
     pub inRange : T (curveInRange (curveAt cs walk byte))
     pub onGrid : T (curveOnGrid m (curveAt cs walk byte))
 
-  pub code-arc : 18 ≤ byte → byte ≤ 25 → segmentCode m cs walk byte ≡ 0x1005
+  pub code-arc : 9 ≤ byte / 2 → byte / 2 ≤ 12 → segmentCode m cs walk byte ≡ unsupportedPathFormat
   unfolding segmentCode
-  code-arc h k = rw (le-leb 18 byte h, le-leb byte 25 k)
+  code-arc h k =
+      let a : 18 ≤ number byte = omega arith in
+      let b : number byte ≤ 24 = omega arith in
+      rw (le-leb 18 (number byte) a, le-leb (number byte) 24 b)
 
-  pub code-number : 25 < byte → segmentCode m cs walk byte ≡ 0x1001
+  pub code-number : 12 < byte / 2 → segmentCode m cs walk byte ≡ illegalArgument
   unfolding segmentCode
   code-number h =
-      let a : 18 ≤ byte = omega arith in
-      let b : 26 ≤ byte = omega arith in
-      rw (le-leb 18 byte a, lt-leb byte 25 h, le-leb 26 byte b)
+      let a : 18 ≤ number byte = omega arith in
+      let b : 24 < number byte = omega arith in
+      let c : 26 ≤ number byte = omega arith in
+      rw (le-leb 18 (number byte) a, lt-leb (number byte) 24 b, le-leb 26 (number byte) c)
 
-  pub code-short : byte < 18 → length cs < 2 * (walk .used + coordinatesTaken byte) → segmentCode m cs walk byte ≡ 0x1001
+  pub code-short : byte < 18 → length cs < 2 * (walk .used + coordinatesTaken byte) → segmentCode m cs walk byte ≡ illegalArgument
   unfolding segmentCode
   code-short h k =
-      let b : byte < 26 = omega arith in
-      rw (lt-leb 18 byte h, lt-leb 26 byte b, lt-ltb (length cs) (2 * (walk .used + coordinatesTaken byte)) k)
+      let a : number byte < 18 = omega arith in
+      let b : number byte < 26 = omega arith in
+      rw (lt-leb 18 (number byte) a, lt-leb 26 (number byte) b, lt-ltb (length cs) (2 * (walk .used + coordinatesTaken byte)) k)
 
   pub code-judged : byte < 18 → 2 * (walk .used + coordinatesTaken byte) ≤ length cs → (t : Bool)
-      → (curveInRange (curveAt cs walk byte) && curveOnGrid m (curveAt cs walk byte)) ≡ t → segmentCode m cs walk byte ≡ cond t 0 0x1001
+      → (curveInRange (curveAt cs walk byte) && curveOnGrid m (curveAt cs walk byte)) ≡ t → segmentCode m cs walk byte ≡ cond t acceptedCode illegalArgument
   unfolding segmentCode
   code-judged h k t e =
-      let b : byte < 26 = omega arith in
-      rw (lt-leb 18 byte h, lt-leb 26 byte b, le-ltb (length cs) (2 * (walk .used + coordinatesTaken byte)) k, e)
+      let a : number byte < 18 = omega arith in
+      let b : number byte < 26 = omega arith in
+      rw (lt-leb 18 (number byte) a, lt-leb 26 (number byte) b, le-ltb (length cs) (2 * (walk .used + coordinatesTaken byte)) k, e)
 
   pub accepted : segmentCode m cs walk byte ≡ 0 → Accepted
   unfolding segmentCode
   accepted z =
-      by (leb 18 byte) (leb byte 25) (leb 26 byte) (ltb (length cs) (2 * (walk .used + coordinatesTaken byte)))
+      by (leb 18 (number byte)) (leb (number byte) 24) (leb 26 (number byte)) (ltb (length cs) (2 * (walk .used + coordinatesTaken byte)))
       (curveInRange (curveAt cs walk byte) && curveOnGrid m (curveAt cs walk byte))
       refl refl refl refl refl z
     where
-      by : (a b c d e : Bool) → leb 18 byte ≡ a → leb byte 25 ≡ b → leb 26 byte ≡ c → ltb (length cs) (2 * (walk .used + coordinatesTaken byte)) ≡ d
+      by : (a b c d e : Bool) → leb 18 (number byte) ≡ a → leb (number byte) 24 ≡ b → leb 26 (number byte) ≡ c
+          → ltb (length cs) (2 * (walk .used + coordinatesTaken byte)) ≡ d
           → (curveInRange (curveAt cs walk byte) && curveOnGrid m (curveAt cs walk byte)) ≡ e
-          → _≡_ {A = ℕ} (cond (a && b) 0x1005 (cond c 0x1001 (cond d 0x1001 (cond e 0 0x1001)))) 0 → Accepted
-      by true true c d e p q r s t z = absurd (eqb-false 0x1005 0 refl z)
-      by true false true d e p q r s t z = absurd (eqb-false 0x1001 0 refl z)
-      by true false false d e p q r s t z = absurd (omega (arith, leb-true 18 byte p, leb-false byte 25 q, leb-false 26 byte r))
-      by false b true d e p q r s t z = absurd (eqb-false 0x1001 0 refl z)
-      by false b false true e p q r s t z = absurd (eqb-false 0x1001 0 refl z)
-      by false b false false false p q r s t z = absurd (eqb-false 0x1001 0 refl z)
+          → _≡_ {A = ℕ} (cond (a && b) unsupportedPathFormat (cond c illegalArgument (cond d illegalArgument (cond e acceptedCode illegalArgument)))) 0
+          → Accepted
+      by true true c d e p q r s t z = absurd (refuses unsupportedPathFormat refl z)
+      by true false true d e p q r s t z = absurd (refuses illegalArgument refl z)
+      by true false false d e p q r s t z = absurd (omega (arith, leb-true 18 (number byte) p, leb-false (number byte) 24 q, leb-false 26 (number byte) r))
+      by false b true d e p q r s t z = absurd (refuses illegalArgument refl z)
+      by false b false true e p q r s t z = absurd (refuses illegalArgument refl z)
+      by false b false false false p q r s t z = absurd (refuses illegalArgument refl z)
       by false b false false true p q r s t z = record {
-        segment = leb-false 18 byte p;
+        segment = omega (arith, leb-false 18 (number byte) p);
         enough = ltb-false (length cs) (2 * (walk .used + coordinatesTaken byte)) s;
         inRange = both-left (curveInRange (curveAt cs walk byte)) (curveOnGrid m (curveAt cs walk byte)) (subst T (sym t) tt);
         onGrid = both-right (curveInRange (curveAt cs walk byte)) (curveOnGrid m (curveAt cs walk byte)) (subst T (sym t) tt);

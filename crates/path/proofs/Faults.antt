@@ -1,17 +1,17 @@
 -- The first fault of a path, segment by segment, and what a path without one has.
-use mathlib.Core.Path.{_≡_, refl, ap, _∙_}
+use mathlib.Core.Path.{_≡_, refl, _∙_}
 use mathlib.Core.List.{List}
-use mathlib.Core.Bool.{Bool, true, false, cond}
-use Prim.Native.Nat.{ℕ, zero, suc, _+_, _-_, _<_}
-use native.Mathlib.Nat.{add-suc, add-zero}
+use Prim.Native.Nat.{ℕ, zero, suc, _+_, _<_}
 use native.Mathlib.Omega.{arith}
-use lib.Dec.{eqb, lit≤}
+use lib.Dec.{lit≤}
 use lib.ListN.{getD}
-use borrow.Author.Tests.{ne-eqb, eqb-true, eqb-false}
+use borrow.Author.Tests.{ne-eqb}
+use Rattle.codes.specs.Codes.{acceptedCode}
+use Rattle.codes.proofs.First.{sooner-none, soonest-before, first-hit}
 use Rattle.path.specs.declared.FixedMatrix.{FixedMatrix}
 use Rattle.path.specs.declared.PathFault.{PathFault}
 use Rattle.path.specs.declared.Walk.{Walk}
-use Rattle.path.specs.Segments.{walkTo, faultAt, faultTo, segmentCode}
+use Rattle.path.specs.Segments.{walkTo, noFault, faultAt, faultTo, segmentCode}
 use Rattle.path.specs.Answers.{checkedTo}
 use Rattle.path.specs.Limits.{Ready}
 use Rattle.path.proofs.Codes.{ready-next}
@@ -21,19 +21,17 @@ module _ (m : FixedMatrix) (ss cs : List ℕ) where
   abbrev pub codeAt : ℕ → ℕ
   codeAt n = segmentCode m cs (walkTo ss cs n) (getD ss n 0)
 
+  abbrev fault : ℕ → PathFault
+  fault n = faultAt (codeAt n) n
+
   -- ---- accepted so far
   pub accepted-before : (n : ℕ) → faultTo m ss cs (suc n) .code ≡ 0 → (faultTo m ss cs n .code ≡ 0) × (codeAt n ≡ 0)
-  accepted-before n e = by (eqb (faultTo m ss cs n .code) 0) refl e
-    where
-      by : (t : Bool) → eqb (faultTo m ss cs n .code) 0 ≡ t → cond t (faultAt (codeAt n) n) (faultTo m ss cs n) .code ≡ 0
-          → (faultTo m ss cs n .code ≡ 0) × (codeAt n ≡ 0)
-      by true q e = (eqb-true (faultTo m ss cs n .code) 0 q, e)
-      by false q e = absurd (eqb-false (faultTo m ss cs n .code) 0 q e)
+  accepted-before n = sooner-none (λ f. f .code) (faultTo m ss cs n) (fault n)
 
   pub accepted-next : (n : ℕ) → faultTo m ss cs n .code ≡ 0 → codeAt n ≡ 0 → faultTo m ss cs (suc n) .code ≡ 0
   accepted-next n a b = rw (a, b)
 
-  pub accepted-fault : (n : ℕ) → faultTo m ss cs n .code ≡ 0 → faultTo m ss cs n ≡ record { code = 0; segment = n }
+  pub accepted-fault : (n : ℕ) → faultTo m ss cs n .code ≡ 0 → faultTo m ss cs n ≡ record { code = acceptedCode; segment = n }
   accepted-fault zero e = refl
   accepted-fault (suc n) e =
       let b = accepted-before n e in
@@ -50,30 +48,18 @@ module _ (m : FixedMatrix) (ss cs : List ℕ) where
 
   -- and so are the segments before any
   pub accepted-below : (i d : ℕ) → faultTo m ss cs (i + d) .code ≡ 0 → faultTo m ss cs i .code ≡ 0
-  accepted-below i zero e = rw add-zero at e
-  accepted-below i (suc d) e = accepted-below i d (accepted-before (i + d) (rw add-suc at e) .0)
-
-  -- ---- refused
-  pub refused-at : (n k : ℕ) → faultTo m ss cs n .code ≡ 0 → codeAt n ≡ k → (k ≡ 0 → ⊥) → faultTo m ss cs (suc n) ≡ record { code = k; segment = n }
-  refused-at n k a b h = rw (a, b, ne-eqb k 0 h)
-
-  pub refused-stays : (i : ℕ) (f : PathFault) → faultTo m ss cs i ≡ f → (f .code ≡ 0 → ⊥) → (d : ℕ) → faultTo m ss cs (i + d) ≡ f
-  refused-stays i f e h zero = rw (add-zero, e)
-  refused-stays i f e h (suc d) = rw (add-suc, refused-stays i f e h d, ne-eqb (f .code) 0 h)
+  accepted-below = soonest-before (λ f. f .code) noFault fault
 
   -- ---- as an answer
   pub checked-refused : (i k n : ℕ) → i < n → faultTo m ss cs i .code ≡ 0 → codeAt i ≡ k → (k ≡ 0 → ⊥)
       → record { fault = record { code = k; segment = i }; used = 0 } ≡ checkedTo m ss cs n
   unfolding checkedTo
   checked-refused i k n l a b h =
-      let f : faultTo m ss cs n ≡ record { code = k; segment = i } =
-      ap (faultTo m ss cs) (split n i l) ∙ refused-stays (suc i) (record { code = k; segment = i }) (refused-at i k a b h) h (n - suc i) in
-      rw (f, ne-eqb k 0 h)
-    where
-      split : (n i : ℕ) → i < n → n ≡ suc i + (n - suc i)
-      split n i l = omega arith
+      let f : faultTo m ss cs n ≡ fault i = first-hit (λ f. f .code) noFault fault i n l a (rw b h) in
+      let e : fault i ≡ record { code = k; segment = i } = rw (b, ne-eqb k 0 h) in
+      rw (f ∙ e, ne-eqb k 0 h)
 
   pub checked-accepted : (n : ℕ) (w : Walk) → faultTo m ss cs n .code ≡ 0 → w ≡ walkTo ss cs n
-      → record { fault = record { code = 0; segment = n }; used = w .used } ≡ checkedTo m ss cs n
+      → record { fault = record { code = acceptedCode; segment = n }; used = w .used } ≡ checkedTo m ss cs n
   unfolding checkedTo
   checked-accepted n w e q = rw (q, accepted-fault n e)

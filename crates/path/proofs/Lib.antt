@@ -5,8 +5,7 @@
 -- For this crate alone:
 --     Ands      two tests in a row
 --     Sizes     a size judged by two tests
---     Axes      one axis of a transformed point
---     Mirrors   one axis of a mirrored point
+--     Axes      one axis of a point: mirrored, with a coordinate added, transformed
 --     Traces    the points of a segment and the pen after it, by its kind
 pub mod Entries
 pub mod Codes
@@ -14,5 +13,4 @@ pub mod Faults
 mod Ands
 mod Sizes
 mod Axes
-mod Mirrors
 mod Traces

@@ -1,6 +1,6 @@
--- The points of a segment and the pen after it, by the kind of the segment: half its byte, rounded down.
+-- The points of a segment and the pen after it, by its command: half its byte, rounded down.
 use mathlib.Core.Path.{_≡_, refl, subst}
-use mathlib.Core.List.{List, [], _∷_}
+use mathlib.Core.List.{List}
 use mathlib.Core.Bool.{Bool, true, false, cond, _||_}
 use Prim.Native.Nat.{ℕ, zero, suc, _+_, _*_, _/_, _≤_, _<_}
 use native.Mathlib.Omega.{arith}
@@ -12,7 +12,7 @@ use Rattle.fixed.proofs.Upto.{upto}
 use Rattle.path.specs.declared.Point.{Point}
 use Rattle.path.specs.declared.Pen.{Pen}
 use Rattle.path.specs.declared.Walk.{Walk}
-use Rattle.path.specs.Segments.{coordinatesTaken, relative, point, penAt, reflected, base, lineTo, quadTo, cubicTo, pairAt, pointsOf, penAfter}
+use Rattle.path.specs.Segments.{taking, coordinatesTaken, relative, point, penAt, reflected, base, lineTo, quadTo, cubicTo, pairAt, pointsOf, penAfter}
 use Rattle.path.specs.Answers.{tracedAs}
 use Rattle.path.specs.Limits.{Near, Held, Supplied}
 
@@ -36,9 +36,12 @@ curve-takes byte h k = leb→le 2 (coordinatesTaken byte) (second (ltb byte 10) 
     second true e s = absurd (omega (arith, ltb-true byte 10 e))
     second false e s = s
 
-pub enough-at : (cs : List ℕ) (walk : Walk) (byte k : ℕ) → Supplied cs walk byte → byte / 2 ≡ k
-    → 2 * (walk .used + getD (0 ∷ 2 ∷ 2 ∷ 1 ∷ 1 ∷ 4 ∷ 6 ∷ 2 ∷ 4 ∷ []) k 0) ≤ length cs
-enough-at cs walk byte k s h = subst (λ (n : ℕ). 2 * (walk .used + getD (0 ∷ 2 ∷ 2 ∷ 1 ∷ 1 ∷ 4 ∷ 6 ∷ 2 ∷ 4 ∷ []) n 0) ≤ length cs) h (s .enough)
+-- by the command
+abbrev pub takenBy : ℕ → ℕ
+takenBy command = getD taking command 0
+
+pub enough-at : (cs : List ℕ) (walk : Walk) (byte k : ℕ) → Supplied cs walk byte → byte / 2 ≡ k → 2 * (walk .used + takenBy k) ≤ length cs
+enough-at cs walk byte k s h = subst (λ (n : ℕ). 2 * (walk .used + takenBy n) ≤ length cs) h (s .enough)
 
 -- ---- what coordinates are added to
 pub near-base : (byte : ℕ) (pen : Pen) → Held pen → Near (base byte pen)
@@ -97,7 +100,8 @@ module _ (pen : Pen) (byte : ℕ) (c : ℕ → ℤ) where
   traced-cubic h u p q r e f g = rw (h, e, f, g)
 
   pub traced-smooth-quad : byte / 2 ≡ 7 → (u : ℕ) (p : Point) → p ≡ pairAt (base byte pen) c 0
-      → tracedAs u (penAt (pen .start) p (reflected pen)) (quadTo (reflected pen) p) ≡ tracedAs u (penAfter pen byte (pointsOf pen byte c)) (pointsOf pen byte c)
+      → tracedAs u (penAt (pen .start) p (reflected pen)) (quadTo (reflected pen) p)
+      ≡ tracedAs u (penAfter pen byte (pointsOf pen byte c)) (pointsOf pen byte c)
   unfolding penAfter pointsOf
   traced-smooth-quad h u p e = rw (h, e)
 

@@ -1,5 +1,5 @@
 -- What the functions of this crate answer, by the definitions of Matrices and Segments. A reviewer of the paper need not read it.
-use Prim.Native.Nat.{ℕ}
+use Prim.Native.Nat.{ℕ, _/_}
 use mathlib.Core.List.{List}
 use mathlib.Core.Bool.{Bool, true, false, cond}
 use lib.Dec.{eqb}
@@ -9,13 +9,14 @@ use Rattle.path.specs.declared.Converted.{Converted}
 use Rattle.path.specs.declared.Converted.the-variants.{Within, OutOfLimits}
 use Rattle.path.specs.declared.Pen.{Pen}
 use Rattle.path.specs.declared.Curve.{Curve}
+use Rattle.path.specs.declared.Segment.{Segment}
 use Rattle.path.specs.declared.Walk.{Walk}
 use Rattle.path.specs.declared.Traced.{Traced}
 use Rattle.path.specs.declared.Step.{Step}
 use Rattle.path.specs.declared.Step.the-variants.{Drawn, Refused}
 use Rattle.path.specs.declared.Checked.{Checked}
 use Rattle.path.specs.Matrices.{matrixInLimits, fixedMatrix}
-use Rattle.path.specs.Segments.{walkOn, curveAt, segmentCode, walkTo, faultTo}
+use Rattle.path.specs.Segments.{relative, walkOn, curveAt, segmentCode, walkTo, faultTo}
 
 -- a matrix in whole numbers, if it is within its limits
 abbrev pub pickConverted : Bool → Converted → Converted → Converted
@@ -24,6 +25,10 @@ pickConverted false a b = b
 
 unfoldable pub converted : Matrix → Converted
 converted m = pickConverted (matrixInLimits m) (Within (fixedMatrix m)) OutOfLimits
+
+-- a segment byte, split
+abbrev pub splitAs : ℕ → Segment
+splitAs byte = record { command = byte / 2; relative = relative byte }
 
 -- the walk after a segment, and the segment's points
 abbrev pub tracedAs : ℕ → Pen → Curve → Traced

@@ -2,6 +2,7 @@
 use Prim.Native.Nat.{ℕ}
 use mathlib.Core.Bool.{Bool, _&&_}
 use lib.Dec.{leb}
+use lib.Ieee.{Float}
 use lib.IntN.{ℤ, pos, natAbs, _+ℤ_, _*ℤ_}
 use Rattle.fixed.specs.Floor.{floorDiv}
 use Rattle.fixed.specs.Floats.{scaled, atMost}
@@ -16,10 +17,12 @@ linearLimit = 256
 abbrev pub translationLimit : ℕ
 translationLimit = 32768
 
+abbrev pub entriesIn : ℕ → Float → Float → Bool
+entriesIn limit v w = atMost limit v && atMost limit w
+
 abbrev pub matrixInLimits : Matrix → Bool
 matrixInLimits m =
-    atMost linearLimit (m .sx) && (atMost linearLimit (m .shy) && (atMost linearLimit (m .shx) && (atMost linearLimit (m .sy)
-    && (atMost translationLimit (m .tx) && atMost translationLimit (m .ty)))))
+    entriesIn linearLimit (m .sx) (m .shy) && (entriesIn linearLimit (m .shx) (m .sy) && entriesIn translationLimit (m .tx) (m .ty))
 
 -- each entry v becomes floor(65,536v + 1/2)
 abbrev pub fixedMatrix : Matrix → FixedMatrix

@@ -7,6 +7,8 @@ use lib.ListN.{getD, length}
 use lib.Dec.{leb, ltb, eqb}
 use lib.IntN.{ℤ, pos, negsuc, _+ℤ_, _-ℤ_, _*ℤ_}
 use lib.Signed.{leZ}
+use Rattle.codes.specs.Codes.{acceptedCode, illegalArgument, unsupportedPathFormat}
+use Rattle.codes.specs.First.{soonest}
 use Rattle.fixed.specs.Little.{i16At}
 use Rattle.path.specs.Matrices.{transform, onSurfaceGrid}
 use Rattle.path.specs.declared.FixedMatrix.{FixedMatrix}
@@ -48,12 +50,18 @@ numberSmoothQuad = 14
 abbrev pub numberSmoothCubic : ℕ
 numberSmoothCubic = 16
 
+abbrev pub taking : List ℕ
+taking = 0 ∷ 2 ∷ 2 ∷ 1 ∷ 1 ∷ 4 ∷ 6 ∷ 2 ∷ 4 ∷ []
+
 abbrev pub coordinatesTaken : ℕ → ℕ
-coordinatesTaken byte = getD (0 ∷ 2 ∷ 2 ∷ 1 ∷ 1 ∷ 4 ∷ 6 ∷ 2 ∷ 4 ∷ []) (byte / 2) 0
+coordinatesTaken byte = getD taking (byte / 2) 0
 
 -- numbers 18 to 24 are arcs; 26, 28, 30 and bytes above 31 are no segments
 abbrev pub isArc : ℕ → Bool
-isArc byte = leb 18 byte && leb byte 25
+isArc byte = leb 18 (number byte) && leb (number byte) 24
+
+abbrev pub isNone : ℕ → Bool
+isNone byte = leb 26 (number byte)
 
 -- ---- points
 abbrev pub point : ℤ → ℤ → Point
@@ -149,20 +157,19 @@ curveOnGrid m c = onSurfaceGrid (transform m (c .p1)) && (onSurfaceGrid (transfo
 
 unfoldable pub segmentCode : FixedMatrix → List ℕ → Walk → ℕ → ℕ
 segmentCode m coordinates walk byte =
-    cond (isArc byte) 0x1005
-    (cond (leb 26 byte) 0x1001
-    (cond (ltb (length coordinates) (2 * (walk .used + coordinatesTaken byte))) 0x1001
-    (cond (curveInRange (curveAt coordinates walk byte) && curveOnGrid m (curveAt coordinates walk byte)) 0 0x1001)))
-
--- the first fault among the first n segments: its code and the segment's number; code 0 and n where there is none
-abbrev pub orFault : PathFault → PathFault → PathFault
-orFault f g = cond (eqb (f .code) 0) g f
+    cond (isArc byte) unsupportedPathFormat
+    (cond (isNone byte) illegalArgument
+    (cond (ltb (length coordinates) (2 * (walk .used + coordinatesTaken byte))) illegalArgument
+    (cond (curveInRange (curveAt coordinates walk byte) && curveOnGrid m (curveAt coordinates walk byte)) acceptedCode illegalArgument)))
 
 -- a segment with that code: where it is 0, the walk goes on
 abbrev pub faultAt : ℕ → ℕ → PathFault
-faultAt code n = record { code = code; segment = cond (eqb code 0) (suc n) n }
+faultAt code n = record { code = code; segment = cond (eqb code acceptedCode) (suc n) n }
+
+-- the first fault among the first n segments: its code and the segment's number; code 0 and n where there is none
+abbrev pub noFault : PathFault
+noFault = record { code = acceptedCode; segment = 0 }
 
 abbrev pub faultTo : FixedMatrix → List ℕ → List ℕ → ℕ → PathFault
-faultTo m segments coordinates zero = record { code = 0; segment = 0 }
-faultTo m segments coordinates (suc n) =
-    orFault (faultTo m segments coordinates n) (faultAt (segmentCode m coordinates (walkTo segments coordinates n) (getD segments n 0)) n)
+faultTo m segments coordinates n =
+    soonest (λ f. f .code) noFault n (λ i. faultAt (segmentCode m coordinates (walkTo segments coordinates i) (getD segments i 0)) i)

@@ -1,5 +1,7 @@
 // Paths: the matrix, the pen's walk over segments, and their rules.
+pub mod commands;
 pub mod curves;
+pub mod edges;
 pub mod moves;
 pub mod rules;
 pub mod tracing;
@@ -60,6 +62,12 @@ pub struct Edge {
     pub y1: i32,
 }
 
+// A segment byte, split: the command, and whether the coordinates are relative.
+pub struct Segment {
+    pub command: u8,
+    pub relative: bool,
+}
+
 // How far a walk over segments has come: the pen, and the number of coordinates used.
 pub struct Walk {
     pub pen: Pen,
@@ -75,12 +83,12 @@ pub struct Traced {
 // The same, or the code of the segment's refusal.
 pub enum Step {
     Drawn(Traced),
-    Refused(u16),
+    Refused(u32),
 }
 
 // A path's first refused segment and its code; code 0 where every segment is accepted.
 pub struct PathFault {
-    pub code: u16,
+    pub code: u32,
     pub segment: usize,
 }
 

@@ -1,6 +1,7 @@
 // The pen's moves, one for each segment: document 003, Table 6. Points are absolute.
 use crate::Pen;
 use crate::Point;
+use crate::commands::split;
 ghost use mathlib.Core.Path.{_≡_};
 ghost use Prim.Native.Nat.{_≤_};
 ghost use lib.IntN.{pos, natAbs, _-ℤ_, _*ℤ_};
@@ -23,7 +24,8 @@ impl Pen {
     pub fn base(self, byte: u8) -> Point
         ensures { λ r. ⌜ r ≡ base byte self ⌝ }
     {
-        if byte & 1 == 1 {
+        let s = split(byte);
+        if s.relative {
             self.current
         } else {
             Point { x: 0, y: 0 }

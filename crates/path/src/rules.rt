@@ -6,8 +6,14 @@ use crate::PathFault;
 use crate::Point;
 use crate::Step;
 use crate::Walk;
-use crate::tracing::taken;
+use crate::commands::FIRST_ARC;
+use crate::commands::LAST_ARC;
+use crate::commands::split;
+use crate::commands::taken;
 use crate::tracing::trace;
+use codes::ACCEPTED;
+use codes::ILLEGAL_ARGUMENT;
+use codes::UNSUPPORTED_PATH_FORMAT;
 ghost use mathlib.Core.Path.{_≡_};
 ghost use mathlib.Core.Bool.{_&&_};
 ghost use Prim.Native.Nat.{_≤_};
@@ -15,11 +21,6 @@ ghost use lib.ListN.{length};
 ghost use Rattle.path.specs.Segments.{inSixteenBits, inRange, curveInRange, curveOnGrid};
 ghost use Rattle.path.specs.Answers.{stepOf, checkedTo};
 ghost use Rattle.path.specs.Limits.{Limited, NearCurve, Ready};
-
-// OpenVG's codes: a segment that breaks a rule, and an arc.
-pub const ILLEGAL_ARGUMENT: u16 = 0x1001;
-
-pub const UNSUPPORTED_PATH_FORMAT: u16 = 0x1005;
 
 // The first fault among the first n segments.
 pub fn check(m: FixedMatrix, segments: &[u8], coordinates: &[u8], n: usize) -> Checked
@@ -46,7 +47,7 @@ pub fn check(m: FixedMatrix, segments: &[u8], coordinates: &[u8], n: usize) -> C
     }
     Checked {
         fault: PathFault {
-            code: 0,
+            code: ACCEPTED,
             segment: n,
         },
         used: walk.used,
@@ -58,8 +59,10 @@ pub fn step(m: FixedMatrix, coordinates: &[u8], walk: Walk, byte: u8) -> Step
     requires { ⌜ Limited m × Ready (now coordinates) walk ⌝ }
     ensures { λ r. ⌜ r ≡ stepOf m (now (coordinates .entry)) walk byte ⌝ }
 {
-    if 18 <= byte {
-        if byte <= 25 {
+    let s = split(byte);
+    let command = s.command;
+    if FIRST_ARC <= command {
+        if command <= LAST_ARC {
             return Step::Refused(UNSUPPORTED_PATH_FORMAT);
         }
         return Step::Refused(ILLEGAL_ARGUMENT);

@@ -4,11 +4,20 @@ use crate::Pen;
 use crate::Point;
 use crate::Traced;
 use crate::Walk;
+use crate::commands::CLOSE;
+use crate::commands::CUBIC;
+use crate::commands::HORIZONTAL;
+use crate::commands::LINE;
+use crate::commands::MOVE;
+use crate::commands::QUAD;
+use crate::commands::SMOOTH_QUAD;
+use crate::commands::split;
+use crate::commands::taken;
 ghost use mathlib.Core.Path.{_≡_};
 ghost use Prim.Native.Nat.{_+_, _*_, _<_, _≤_};
 ghost use lib.ListN.{length};
 ghost use lib.IntN.{natAbs, _+ℤ_};
-ghost use Rattle.path.specs.Segments.{coordinatesTaken, coordinateFrom, pairAt, penAfter, curveAt, firstWalk};
+ghost use Rattle.path.specs.Segments.{coordinateFrom, pairAt, penAfter, curveAt, firstWalk};
 ghost use Rattle.path.specs.Answers.{tracedAs, tracedBy};
 ghost use Rattle.path.specs.Limits.{Near, Supplied};
 
@@ -24,24 +33,13 @@ impl Walk {
     }
 }
 
-// By the kind of the segment: half its number.
-const TAKEN: [usize; 9] = [0, 2, 2, 1, 1, 4, 6, 2, 4];
-
-// How many coordinates a segment takes.
-pub fn taken(byte: u8) -> usize
-    requires { ⌜ byte < 18 ⌝ }
-    ensures { λ r. ⌜ (r ≡ coordinatesTaken byte) × (r ≤ 6) ⌝ }
-{
-    let kind = (byte >> 1) as usize;
-    TAKEN[kind]
-}
-
 // The segment's points, and the walk after it.
 pub fn trace(coordinates: &[u8], walk: Walk, byte: u8) -> Traced
     requires { ⌜ Supplied (now coordinates) walk byte ⌝ }
     ensures { λ r. ⌜ r ≡ tracedBy (now (coordinates .entry)) walk byte ⌝ }
 {
-    if byte < 10 {
+    let s = split(byte);
+    if s.command < QUAD {
         trace_line(coordinates, walk, byte)
     } else {
         trace_curve(coordinates, walk, byte)
@@ -67,11 +65,13 @@ fn line_pen(coordinates: &[u8], walk: Walk, byte: u8) -> Pen
     let pen = walk.pen;
     let used = walk.used;
     let base = pen.base(byte);
-    match byte >> 1 {
-        0 => pen.close(),
-        1 => pen.move_to(pair_at(coordinates, base, used, 0)),
-        2 => pen.line_to(pair_at(coordinates, base, used, 0)),
-        3 => pen.horizontal_to(offset(coordinates, base.x, used, 0)),
+    let s = split(byte);
+    let command = s.command;
+    match command {
+        CLOSE => pen.close(),
+        MOVE => pen.move_to(pair_at(coordinates, base, used, 0)),
+        LINE => pen.line_to(pair_at(coordinates, base, used, 0)),
+        HORIZONTAL => pen.horizontal_to(offset(coordinates, base.x, used, 0)),
         _ => pen.vertical_to(offset(coordinates, base.y, used, 0)),
     }
 }
@@ -86,17 +86,19 @@ fn trace_curve(coordinates: &[u8], walk: Walk, byte: u8) -> Traced
     let next = used + taken(byte);
     let base = pen.base(byte);
     let p = pair_at(coordinates, base, used, 0);
-    match byte >> 1 {
-        5 => {
+    let s = split(byte);
+    let command = s.command;
+    match command {
+        QUAD => {
             let q = pair_at(coordinates, base, used, 2);
             traced(next, pen.quad_to(p, q), Curve::quad(p, q))
         }
-        6 => {
+        CUBIC => {
             let q = pair_at(coordinates, base, used, 2);
             let r = pair_at(coordinates, base, used, 4);
             traced(next, pen.cubic_to(p, q, r), Curve::cubic(p, q, r))
         }
-        7 => {
+        SMOOTH_QUAD => {
             let c = pen.reflected();
             traced(next, pen.smooth_quad_to(p), Curve::quad(c, p))
         }

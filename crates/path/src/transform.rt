@@ -3,18 +3,35 @@ use crate::Converted;
 use crate::FixedMatrix;
 use crate::Matrix;
 use crate::Point;
-use fixed::Fixed;
-use fixed::linear_entry;
-use fixed::translation;
+use fixed::at_most;
+use fixed::to_whole;
 ghost use mathlib.Core.Path.{_≡_};
 ghost use mathlib.Core.Bool.{true};
-ghost use Prim.Native.Nat.{_≤_};
+ghost use Prim.Native.Nat.{_^_, _≤_};
 ghost use lib.IntN.{natAbs};
 ghost use lib.Dec.{leb};
-ghost use Rattle.path.specs.Matrices.{transformAxis, transform, surfaceLimit, onSurfaceGrid};
+ghost use Rattle.path.specs.Matrices.{entriesIn, matrixInLimits, transformAxis, transform, surfaceLimit, onSurfaceGrid};
 ghost use Rattle.path.specs.Segments.{point};
 ghost use Rattle.path.specs.Answers.{converted};
 ghost use Rattle.path.specs.Limits.{Limited, Near};
+
+impl Matrix {
+    // Whether every entry is within its limit.
+    fn in_limits(self) -> bool
+        ensures { λ r. ⌜ r ≡ matrixInLimits self ⌝ }
+    {
+        in_limit(self.sx, self.shy, FixedMatrix::LINEAR_LIMIT_LOG)
+            && (in_limit(self.shx, self.sy, FixedMatrix::LINEAR_LIMIT_LOG)
+                && in_limit(self.tx, self.ty, FixedMatrix::TRANSLATION_LIMIT_LOG))
+    }
+}
+
+fn in_limit(v: f32, w: f32, log: u32) -> bool
+    requires { ⌜ log ≤ 15 ⌝ }
+    ensures { λ r. ⌜ r ≡ entriesIn (2 ^ log) v w ⌝ }
+{
+    at_most(v, log) && at_most(w, log)
+}
 
 impl FixedMatrix {
     // The largest size of sx, shy, shx, sy and of tx, ty, judged on the floats as given: 256 and 32,768, as powers of 2.
@@ -25,36 +42,25 @@ impl FixedMatrix {
     // The largest size of a point on the surface, in 1/256 pixel.
     pub const SURFACE_LIMIT: i64 = 8388608;
 
+    // What an entry of 1 becomes.
+    pub const ONE: u32 = 65536;
+
     // The floats in 1/65,536, if they are within their limits.
     pub fn from_floats(m: Matrix) -> Converted
         ensures { λ r. ⌜ r ≡ converted m ⌝ }
     {
-        let Fixed::Value(sx) = linear_entry(m.sx) else {
-            return Converted::OutOfLimits;
-        };
-        let Fixed::Value(shy) = linear_entry(m.shy) else {
-            return Converted::OutOfLimits;
-        };
-        let Fixed::Value(shx) = linear_entry(m.shx) else {
-            return Converted::OutOfLimits;
-        };
-        let Fixed::Value(sy) = linear_entry(m.sy) else {
-            return Converted::OutOfLimits;
-        };
-        let Fixed::Value(tx) = translation(m.tx) else {
-            return Converted::OutOfLimits;
-        };
-        let Fixed::Value(ty) = translation(m.ty) else {
-            return Converted::OutOfLimits;
-        };
-        Converted::Within(FixedMatrix {
-            sx,
-            shy,
-            shx,
-            sy,
-            tx,
-            ty,
-        })
+        if m.in_limits() {
+            Converted::Within(FixedMatrix {
+                sx: to_whole(m.sx, FixedMatrix::ONE),
+                shy: to_whole(m.shy, FixedMatrix::ONE),
+                shx: to_whole(m.shx, FixedMatrix::ONE),
+                sy: to_whole(m.sy, FixedMatrix::ONE),
+                tx: to_whole(m.tx, FixedMatrix::ONE),
+                ty: to_whole(m.ty, FixedMatrix::ONE),
+            })
+        } else {
+            Converted::OutOfLimits
+        }
     }
 
     // Whether a point is taken to one that is not too far out.

@@ -7,7 +7,6 @@ use native.Mathlib.Nat.{eq-or-lt-of-le, le-of-suc-le-suc, not-suc-le-zero, add-z
 use native.Mathlib.Omega.{arith}
 use lib.ListN.{length, getD, take, drop, List·getD-append}
 use lib.Seq.{ext-getD, getD-append-add, getD-drop, getD-take}
-use Rattle.lists.specs.Lists.{over}
 use Rattle.lists.proofs.Laws.{upto-length, run-fits}
 use Rattle.color.specs.declared.Pixel.{Pixel}
 use Rattle.raster.specs.Surface.{bytesOf, run, raster, pixelIn, pixelOf}
@@ -75,7 +74,8 @@ raster-at w zero f x y l m = absurd (not-suc-le-zero m)
 raster-at w (suc h) f x y l m =
     ⊎-elim
     (λ e. rw e (pixel-after (raster w h f) (run w (λ x. f x h)) (h * w) x (h * w + x) (raster-length w h f ∙ omega arith) refl ∙ run-at w (λ x. f x h) x l))
-    (λ k. pixel-before (raster w h f) (run w (λ x. f x h)) (h * w) (y * w + x) (raster-length w h f ∙ omega arith) (omega (arith, run-fits w y h k)) ∙ raster-at w h f x y l k)
+    (λ k. pixel-before (raster w h f) (run w (λ x. f x h)) (h * w) (y * w + x) (raster-length w h f ∙ omega arith) (omega (arith, run-fits w y h k))
+    ∙ raster-at w h f x y l k)
     (eq-or-lt-of-le (le-of-suc-le-suc m))
 
 -- ---- lists with the same pixels are the same
@@ -102,13 +102,3 @@ surface-same w h s t a b k =
     let z : 0 < w = positive w h i l in
     let e : i / w * w + i % w ≡ i = div-add-mod' i w in
     rw e at (k (i % w) (i / w) (mod-lt i z) (div-lt-iff-lt-mul z .1 l)))
-
--- a row lies on the surface
-pub row-fits : (w h y n : ℕ) → n ≡ h * (w * 4) → y < h → (y * w + w) * 4 ≤ n
-row-fits w h y n e l = omega (arith, run-fits w y h l)
-
--- the pixel after a run that is stored is as it was
-pub run-read : (f : ℕ → Pixel) (s d : List ℕ) (i : ℕ) → s ≡ over (run i f) d → pixelIn s i ≡ pixelIn d i
-run-read f s d i o =
-    rw (o, run-length i f)
-    (pixel-after (run i f) (drop (i * 4) d) i 0 i (run-length i f) (omega arith) ∙ pixel-drop d i 0 i (omega arith))

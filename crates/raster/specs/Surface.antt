@@ -30,7 +30,3 @@ pixelOf w s x y = pixelIn s (y * w + x)
 
 unfoldable pub overlay : ℕ → ℕ → Rect → (ℕ → ℕ → Pixel) → List ℕ → List ℕ
 overlay w h a f s = raster w h (λ x y. cond (inside a x y) (f x y) (pixelOf w s x y))
-
--- the rows of a below y: how far a loop over rows has come. A reviewer of the paper need not read it
-abbrev pub rowsTo : Rect → ℕ → Rect
-rowsTo a y = record { x0 = a .x0; y0 = a .y0; x1 = a .x1; y1 = y }

@@ -1,11 +1,24 @@
-// Pixels, and filling a rectangle of a surface.
+// Pixels in bytes, rows of pixels, and rectangles of a surface.
 use color::Pixel;
 use rect::Rect;
 ghost use mathlib.Core.Path.{_≡_};
 ghost use Prim.Native.Nat.{_+_, _*_, _<_};
 ghost use lib.ListN.{length};
-ghost use Rattle.rect.specs.Rects.{On};
 ghost use Rattle.raster.specs.Surface.{run, pixelIn, overlay};
+ghost use Rattle.raster.specs.Rows.{putPixel, Placed, Part};
+
+// Where is drawn: the surface's width and height, and the rectangle of it.
+pub struct Target {
+    pub width: usize,
+    pub height: usize,
+    pub area: Rect,
+}
+
+// Bytes from one place to before another.
+pub struct Range {
+    pub from: usize,
+    pub to: usize,
+}
 
 // The ith pixel.
 pub fn pixel(s: &[u8], i: usize) -> Pixel
@@ -21,6 +34,18 @@ pub fn pixel(s: &[u8], i: usize) -> Pixel
     }
 }
 
+// The ith pixel is p.
+pub fn put_pixel(s: &mut [u8], i: usize, p: Pixel)
+    requires { ⌜ i * 4 + 3 < length (now s) ⌝ }
+    ensures { λ _. ⌜ now (s .exit) ≡ putPixel (now (s .entry)) i p ⌝ }
+{
+    let at = i * 4;
+    s[at] = p.r;
+    s[at + 1] = p.g;
+    s[at + 2] = p.b;
+    s[at + 3] = p.a;
+}
+
 // n pixels, all p.
 pub fn fill_row(s: &mut [u8], n: usize, p: Pixel)
     requires { ⌜ length (now s) ≡ n * 4 ⌝ }
@@ -28,28 +53,36 @@ pub fn fill_row(s: &mut [u8], n: usize, p: Pixel)
 {
     let mut i = 0;
     while i < n {
-        let at = i * 4;
-        s[at] = p.r;
-        s[at + 1] = p.g;
-        s[at + 2] = p.b;
-        s[at + 3] = p.a;
+        put_pixel(s, i, p);
         i += 1;
     }
 }
 
-// Every pixel of a.
-pub fn fill_rect(s: &mut [u8], w: usize, h: usize, a: Rect, p: Pixel)
-    requires { ⌜ (length (now s) ≡ h * (w * 4)) × On w h a ⌝ }
-    ensures { λ _. ⌜ now (s .exit) ≡ overlay w h a (λ x y. p) (now (s .entry)) ⌝ }
+// Where row y of the rectangle lies among the surface's bytes.
+pub fn row_bytes(t: Target, y: usize) -> Range
+    requires { ⌜ Placed t × (y < t .area .y1) ⌝ }
+    ensures { λ r. ⌜ r .from ≡ (y * t .width + t .area .x0) * 4 ⌝ }
+    ensures { λ r. ⌜ r .to ≡ (y * t .width + t .area .x1) * 4 ⌝ }
 {
-    let x0 = a.x0;
-    let x1 = a.x1;
-    let y1 = a.y1;
-    let mut y = a.y0;
+    Range {
+        from: (y * t.width + t.area.x0) * 4,
+        to: (y * t.width + t.area.x1) * 4,
+    }
+}
+
+// Every pixel of the rectangle is p.
+pub fn fill_rect(s: &mut [u8], t: Target, p: Pixel)
+    requires { ⌜ Part t (now s) ⌝ }
+    ensures { λ _. ⌜ now (s .exit) ≡ overlay (t .width) (t .height) (t .area) (λ x y. p) (now (s .entry)) ⌝ }
+{
+    let n = t.area.x1 - t.area.x0;
+    let y1 = t.area.y1;
+    let mut y = t.area.y0;
     while y < y1 {
-        let at = (y * w + x0) * 4;
-        let e = (y * w + x1) * 4;
-        fill_row(&mut s[at..e], x1 - x0, p);
+        let r = row_bytes(t, y);
+        let from = r.from;
+        let to = r.to;
+        fill_row(&mut s[from..to], n, p);
         y += 1;
     }
 }

@@ -1,6 +1,6 @@
 // Draws the first scene file in full, redraws to the second, and prints the redrawn area and the picture.
+use codes::ACCEPTED;
 use console::Line;
-use console::Loaded;
 use console::Size;
 use console::files::FILE_BUFFER;
 use console::files::load;
@@ -29,33 +29,25 @@ fn main() {
 
 // A large array is made a slice in a function of its own, since the checker would write out an array that is lent directly.
 fn lend_files(old: &mut [u8; FILE_BUFFER], new: &mut [u8; FILE_BUFFER]) {
-    load_old(old, new);
+    load_scenes(old, new);
 }
 
-fn load_old(old: &mut [u8], new: &mut [u8]) {
-    let loaded = load(1, old);
-    match loaded {
-        Loaded::Bytes(n) => load_new(&old[0..n], new),
-        Loaded::TooLong => load_beside_long(new),
-        Loaded::Unreadable => {}
+// Where a file cannot be read it does not matter how long the other is.
+fn load_scenes(old: &mut [u8], new: &mut [u8]) {
+    let first = load(1, old);
+    if !first.readable {
+        return;
     }
-}
-
-fn load_new(old: &[u8], new: &mut [u8]) {
-    let loaded = load(2, new);
-    match loaded {
-        Loaded::Bytes(n) => redraw_scenes(old, &new[0..n]),
-        Loaded::TooLong => print_limit(),
-        Loaded::Unreadable => {}
+    let second = load(2, new);
+    if !second.readable {
+        return;
     }
-}
-
-// The old file is too long: of the new one it matters only whether it can be read.
-fn load_beside_long(new: &mut [u8]) {
-    let loaded = load(2, new);
-    match loaded {
-        Loaded::Unreadable => {}
-        _ => print_limit(),
+    let m = first.length;
+    let n = second.length;
+    if m == old.len() || n == new.len() {
+        print_limit();
+    } else {
+        redraw_scenes(&old[0..m], &new[0..n]);
     }
 }
 
@@ -82,7 +74,7 @@ fn redraw_picture(old: &[u8], new: &[u8], surface: &mut [u8], size: Size)
     requires { ⌜ Surface size (now surface) ⌝ }
 {
     let refusal = judge_redraw(old, new, surface.len(), SCRATCH_NUMBERS);
-    if refusal.code != 0 {
+    if refusal.code != ACCEPTED {
         print_refusal(refusal);
         return;
     }

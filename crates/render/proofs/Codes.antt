@@ -1,11 +1,14 @@
 -- Every code is one of the table's: a scene's, judged by whatever rule, and that of a call.
 use mathlib.Core.Path.{_≡_, refl}
 use mathlib.Core.List.{List}
-use mathlib.Core.Bool.{Bool, true, false, cond, not, _&&_, _||_}
-use Prim.Native.Nat.{ℕ, zero, suc, _+_, _*_, _-_, _%_}
+use mathlib.Core.Bool.{Bool, true, cond, not, _&&_, _||_}
+use Prim.Native.Nat.{ℕ, _+_, _*_, _-_, _%_}
 use lib.ListN.{length, getD}
 use lib.Dec.{eqb, leb, ltb}
 use lib.Ieee.{isNan}
+use Rattle.codes.specs.Codes.{acceptedCode, badLength, badChecksum, illegalArgument, unsupportedPathFormat, unsupportedImageFormat, outOfMemory}
+use Rattle.codes.specs.Codes.{sceneCodes, isOneOf, inTable}
+use Rattle.codes.proofs.Coded.{Coded, choice, then, first}
 use Rattle.fixed.specs.Little.{u16At}
 use Rattle.fixed.specs.Floats.{f32At, atMost}
 use Rattle.rect.specs.declared.Rect.{Rect}
@@ -16,48 +19,33 @@ use Rattle.paint.specs.Paints.{paintColor, paintLinear}
 use Rattle.path.specs.declared.FixedMatrix.{FixedMatrix}
 use Rattle.path.specs.declared.Walk.{Walk}
 use Rattle.path.specs.Matrices.{linearLimit, translationLimit, fixedMatrix}
-use Rattle.path.specs.Segments.{coordinatesTaken, isArc, curveAt, walkTo, curveInRange, curveOnGrid, segmentCode, faultTo}
+use Rattle.path.specs.Segments.{coordinatesTaken, isArc, isNone, curveAt, walkTo, curveInRange, curveOnGrid, segmentCode, noFault, faultTo}
 use Rattle.scene.specs.declared.Fault.{Fault}
 use Rattle.scene.specs.declared.FieldFault.{FieldFault}
 use Rattle.scene.specs.Layout.{blockBytes, payloadBytes, drawBlocks, widthAt, heightAt, countAt, reservedAt, headerEnd, sideLimit, drawLimit, noDraw}
-use Rattle.scene.specs.Layout.{flagsAt, blendAt, paintTypeAt, spreadAt, segmentCountAt, scissorCountAt, stopCountAt, paddingAt, matrixAt, translationAt, colorAt, linearAt}
-use Rattle.scene.specs.Layout.{scissorsAt, stopsAt, segmentsAt, coordinatesAt, drawBytes, flagsLimit, segmentLimit, scissorLimit, stopLimit, scissorBytes, stopBytes, stopFloats}
-use Rattle.scene.specs.Layout.{badLength, badChecksum, illegalArgument}
+use Rattle.scene.specs.Layout.{flagsAt, blendAt, paintTypeAt, spreadAt, segmentCountAt, scissorCountAt, stopCountAt, paddingAt}
+use Rattle.scene.specs.Layout.{matrixAt, translationAt, colorAt, linearPointsAt}
+use Rattle.scene.specs.Layout.{scissorsAt, stopsAt, segmentsAt, coordinatesAt, drawBytes}
+use Rattle.scene.specs.Layout.{flagsLimit, segmentLimit, scissorLimit, stopLimit, scissorBytes, stopBytes, stopFloats}
 use Rattle.scene.specs.Blocks.{blockRight, blockOf, drawOf, fileOffset}
 use Rattle.scene.specs.Header.{widthOf, heightOf, countOf}
 use Rattle.scene.specs.Fields.{flagsOf, blendOf, paintTypeOf, spreadOf, segmentCount, scissorCount, stopCount, matrixOf, segmentsOf, coordinatesOf}
-use Rattle.scene.specs.Faults.{sooner, soonest, fine, firstOf, must, unused, limited, numbers, accepted, fault, demand}
-use Rattle.scene.specs.Rules.{linearPointLimit, countRules, headRules, floatRules, listRules, pathRules, restRules, drawRules, headerRules, inHeader, inDraw, checkFaults, drawFault, sceneFault}
+use Rattle.scene.specs.Faults.{fine, firstOf, must, unused, limited, numbers, accepted, fault, demand}
+use Rattle.scene.specs.Rules.{linearPointLimit, countRules, headRules, floatRules, listRules, pathRules, restRules, drawRules, headerRules}
+use Rattle.scene.specs.Rules.{inHeader, inDraw, checkFaults, drawFault, sceneFault}
 use Rattle.damage.specs.Damage.{damage}
 use Rattle.render.specs.declared.Refusal.{Refusal}
 use Rattle.render.specs.declared.Answer.{Answer}
-use Rattle.render.specs.Answers.{unsupportedPathFormat, unsupportedImageFormat, outOfMemory, sceneCodes, isOneOf, inTable, scratchNumbers}
-use Rattle.render.specs.Answers.{nothing, refuse, sceneRefusal, lentRefusal, drawRefusal, sizeRefusal, redrawRefusal, choose, acceptedAnswer, refusedAnswer, drawAnswer, redrawAnswer}
+use Rattle.render.specs.Answers.{scratchNumbers, nothing, refuse, sceneRefusal, lentRefusal, drawRefusal, sizeRefusal, redrawRefusal}
+use Rattle.render.specs.Answers.{choose, acceptedAnswer, refusedAnswer, drawAnswer, redrawAnswer}
 
--- ---- P holds of the code of f: a record, so that f is read off its proof
-record Coded (P : ℕ → Type 0) {A : Type 0} (code : A → ℕ) (f : A) : Type 0 where
-  pub holds : P (code f)
-
--- what holds of the code of each part holds of the code of what is chosen among them
-choice : (P : ℕ → Type 0) {A : Type 0} (code : A → ℕ) (t : Bool) (f g : A) → P (code f) → P (code g) → Coded P code (cond t f g)
-choice P code true f g a b = record { holds = a }
-choice P code false f g a b = record { holds = b }
-
-module _ {P : ℕ → Type 0} {A : Type 0} {code : A → ℕ} where
-  then : {f g : A} → Coded P code f → Coded P code g → Coded P code (sooner code f g)
-  then a b = choice P code (eqb (code _) 0) _ _ (b .holds) (a .holds)
-
-  first : (none : A) (n : ℕ) (f : ℕ → A) → P (code none) → ((i : ℕ) → Coded P code (f i)) → Coded P code (soonest code none n f)
-  first none zero f a b = record { holds = a }
-  first none (suc n) f a b = then (first none n f a b) (b n)
-
-module _ (P : ℕ → Type 0) (none : P 0) (illegal : P illegalArgument) (arc : P unsupportedPathFormat) where
+module _ (P : ℕ → Type 0) (none : P acceptedCode) (illegal : P illegalArgument) (arc : P unsupportedPathFormat) where
   -- ---- a path
   segment-coded : (m : FixedMatrix) (cs : List ℕ) (walk : Walk) (byte : ℕ) → P (segmentCode m cs walk byte)
   unfolding segmentCode
   segment-coded m cs walk byte =
       test (isArc byte) arc
-      (test (leb 26 byte) illegal
+      (test (isNone byte) illegal
       (test (ltb (length cs) (2 * (walk .used + coordinatesTaken byte))) illegal
       (test (curveInRange (curveAt cs walk byte) && curveOnGrid m (curveAt cs walk byte)) none illegal)))
     where
@@ -65,8 +53,7 @@ module _ (P : ℕ → Type 0) (none : P 0) (illegal : P illegalArgument) (arc : 
       test t a b = choice P (λ c. c) t _ _ a b .holds
 
   path-coded : (m : FixedMatrix) (ss cs : List ℕ) (n : ℕ) → Coded P (λ f. f .code) (faultTo m ss cs n)
-  path-coded m ss cs zero = record { holds = none }
-  path-coded m ss cs (suc n) = then (path-coded m ss cs n) (record { holds = segment-coded m cs (walkTo ss cs n) (getD ss n 0) })
+  path-coded m ss cs n = first noFault n _ none (λ i. record { holds = segment-coded m cs (walkTo ss cs i) (getD ss i 0) })
 
   -- ---- fields
   abbrev Field : FieldFault → Type 0
@@ -112,7 +99,7 @@ module _ (P : ℕ → Type 0) (none : P 0) (illegal : P illegalArgument) (arc : 
         then (limited-coded d linearLimit matrixAt 4)
         (then (limited-coded d translationLimit translationAt 2)
         (then (numbers-coded d colorAt 4)
-        (limited-coded d linearPointLimit linearAt 4)))
+        (limited-coded d linearPointLimit linearPointsAt 4)))
 
     lists-coded : Field (listRules d)
     unfolding listRules
@@ -161,7 +148,9 @@ module _ (P : ℕ → Type 0) (none : P 0) (illegal : P illegalArgument) (arc : 
 
     checks-coded : (i : ℕ) → Scene (checkFaults s i)
     unfolding checkFaults
-    checks-coded i = first accepted drawBlocks _ none (λ j. faulty (blockRight s (blockOf i + j)) badChecksum i (blockBytes * (blockOf i + j) + payloadBytes) bad-check)
+    checks-coded i =
+        first accepted drawBlocks _ none
+        (λ j. faulty (blockRight s (blockOf i + j)) badChecksum i (blockBytes * (blockOf i + j) + payloadBytes) bad-check)
 
     draw-coded : (i : ℕ) → Scene (drawFault s i)
     unfolding drawFault
@@ -221,7 +210,9 @@ answer-tabled f a t = choice (λ c. inTable c ≡ true) (λ (r : Answer). r .cod
 
 -- DEMAND 1: every call answers with a code from the table, whatever it is given
 pub draw-code-in-table : (s : List ℕ) (surfaceBytes scratch : ℕ) → inTable (drawAnswer s surfaceBytes scratch .code) ≡ true
-draw-code-in-table s surfaceBytes scratch = answer-tabled (drawRefusal s surfaceBytes scratch) (whole (widthOf s) (heightOf s)) (draw-tabled s surfaceBytes scratch)
+draw-code-in-table s surfaceBytes scratch =
+    answer-tabled (drawRefusal s surfaceBytes scratch) (whole (widthOf s) (heightOf s)) (draw-tabled s surfaceBytes scratch)
 
 pub redraw-code-in-table : (old new : List ℕ) (surfaceBytes scratch : ℕ) → inTable (redrawAnswer old new surfaceBytes scratch .code) ≡ true
-redraw-code-in-table old new surfaceBytes scratch = answer-tabled (redrawRefusal old new surfaceBytes scratch) (damage old new) (redraw-tabled old new surfaceBytes scratch)
+redraw-code-in-table old new surfaceBytes scratch =
+    answer-tabled (redrawRefusal old new surfaceBytes scratch) (damage old new) (redraw-tabled old new surfaceBytes scratch)

@@ -10,7 +10,8 @@ use borrow.Author.Tests.{eqb-true}
 use Rattle.rect.proofs.Laws.{either}
 use Rattle.scene.specs.declared.Fault.{Fault}
 use Rattle.scene.specs.declared.FieldFault.{FieldFault}
-use Rattle.scene.specs.Layout.{blockBytes, payloadBytes, badLength, badChecksum, noDraw}
+use Rattle.codes.specs.Codes.{badLength, badChecksum}
+use Rattle.scene.specs.Layout.{blockBytes, payloadBytes, noDraw}
 use Rattle.scene.specs.Blocks.{blockRight, blockOf, drawOf}
 use Rattle.scene.specs.Header.{countOf}
 use Rattle.scene.specs.Faults.{fault, orFault, firstFault, demand}
@@ -50,7 +51,8 @@ draw-number : (s : List ℕ) (i : ℕ) → i ≤ 64 → drawFault s i .draw ≤ 
 unfolding drawFault checkFaults
 draw-number s i a =
     sooner-draw (checkFaults s i) (inDraw i (drawRules (drawOf s i)))
-    (first-draw 4 (λ j. demand (blockRight s (blockOf i + j)) (fault badChecksum i (blockBytes * (blockOf i + j) + payloadBytes))) (λ j l. demanded-draw (blockRight s (blockOf i + j)) _ a))
+    (first-draw 4 (λ j. demand (blockRight s (blockOf i + j)) (fault badChecksum i (blockBytes * (blockOf i + j) + payloadBytes)))
+    (λ j l. demanded-draw (blockRight s (blockOf i + j)) _ a))
     (λ e. in-draw i (drawRules (drawOf s i)) a)
 
 pub fault-draw : (s : List ℕ) → sceneFault s .draw ≤ 64

@@ -8,6 +8,9 @@ use lib.IntN.{ℤ, pos}
 use lib.ListN.{length, replicate}
 use lib.Dec.{eqb, ltb}
 use borrow.Author.Tests.{eq-eqb, ne-eqb, eqb-false, eqb-true, ltb-false, le-ltb, lt-ltb, not-false}
+use Rattle.codes.specs.Codes.{illegalArgument, unsupportedImageFormat, outOfMemory}
+use Rattle.codes.proofs.Refusals.{refuses}
+use Rattle.codes.proofs.First.{sooner-first, sooner-second, sooner-none}
 use Rattle.rect.specs.declared.Rect.{Rect}
 use Rattle.rect.specs.Rects.{On, whole}
 use Rattle.rect.proofs.Laws.{either}
@@ -20,16 +23,13 @@ use Rattle.render.specs.Answers.{nothing, refuse, orElse, sceneRefusal, 
 -- ---- a chain of refusals
 -- f answers the first of two, k the second
 pub first-refused : (f g h : Refusal) → f ≡ g → (f .code ≡ 0 → ⊥) → f ≡ orElse g h
-first-refused f g h e n = rw (← e, ne-eqb (f .code) 0 n)
+first-refused = sooner-first (λ f. f .code)
 
 pub first-passed : (f g k h : Refusal) → f ≡ g → f .code ≡ 0 → k ≡ h → k ≡ orElse g h
-first-passed f g k h e z d = rw (← e, eq-eqb (f .code) 0 z) d
+first-passed = sooner-second (λ f. f .code)
 
 pub else-fine : (f g : Refusal) → orElse f g .code ≡ 0 → (f .code ≡ 0) × (g .code ≡ 0)
-else-fine f g e =
-    either (eqb (f .code) 0)
-    (λ z. (eqb-true _ _ z, rw z at e))
-    (λ z. absurd (eqb-false _ _ z (rw z at e)))
+else-fine = sooner-none (λ f. f .code)
 
 pass : (b : Bool) (f g : Refusal) → eqb (f .code) 0 ≡ false → (cond b f g) .code ≡ 0 → (b ≡ false) × (g .code ≡ 0)
 pass true f g n e = absurd (eqb-false (f .code) 0 n e)
@@ -51,19 +51,19 @@ scene-refused s k n = rw (ne-eqb (sceneFault s .code) 0 n)
 pub lent-fine : (w h surface scratch : ℕ) → lentRefusal w h surface scratch .code ≡ 0 → (surface ≡ 4 * (w * h)) × (12300 ≤ scratch)
 unfolding lentRefusal
 lent-fine w h surface scratch e =
-    let p = pass (not (eqb surface (4 * (w * h)))) (refuse 0x1004 64 0) _ refl e in
-    let q = pass (ltb scratch 12300) (refuse 0x1002 64 0) _ refl (p .1) in
+    let p = pass (not (eqb surface (4 * (w * h)))) (refuse unsupportedImageFormat 64 0) _ refl e in
+    let q = pass (ltb scratch 12300) (refuse outOfMemory 64 0) _ refl (p .1) in
     (eqb-true _ _ (not-false _ (p .0)), ltb-false _ _ (q .0))
 
 pub lent-passes : (w h surface scratch : ℕ) → surface ≡ 4 * (w * h) → 12300 ≤ scratch → lentRefusal w h surface scratch ≡ nothing
 unfolding lentRefusal
 lent-passes w h surface scratch e l = rw (eq-eqb surface (4 * (w * h)) e, le-ltb scratch 12300 l)
 
-pub lent-wrong : (w h surface scratch : ℕ) → (surface ≡ 4 * (w * h) → ⊥) → lentRefusal w h surface scratch ≡ refuse 0x1004 64 0
+pub lent-wrong : (w h surface scratch : ℕ) → (surface ≡ 4 * (w * h) → ⊥) → lentRefusal w h surface scratch ≡ refuse unsupportedImageFormat 64 0
 unfolding lentRefusal
 lent-wrong w h surface scratch n = rw (ne-eqb surface (4 * (w * h)) n)
 
-pub lent-short : (w h surface scratch : ℕ) → surface ≡ 4 * (w * h) → scratch < 12300 → lentRefusal w h surface scratch ≡ refuse 0x1002 64 0
+pub lent-short : (w h surface scratch : ℕ) → surface ≡ 4 * (w * h) → scratch < 12300 → lentRefusal w h surface scratch ≡ refuse outOfMemory 64 0
 unfolding lentRefusal
 lent-short w h surface scratch e l = rw (eq-eqb surface (4 * (w * h)) e, lt-ltb scratch 12300 l)
 
@@ -74,18 +74,18 @@ size-fine old new e =
     (λ z.
     either (eqb (heightOf old) (heightOf new))
     (λ y. (eqb-true _ _ z, eqb-true _ _ y))
-    (λ y. absurd (eqb-false 0x1001 0 refl (rw (z, y) at e))))
-    (λ z. absurd (eqb-false 0x1001 0 refl (rw z at e)))
+    (λ y. absurd (refuses illegalArgument refl (rw (z, y) at e))))
+    (λ z. absurd (refuses illegalArgument refl (rw z at e)))
 
 pub size-passes : (old new : List ℕ) → widthOf old ≡ widthOf new → heightOf old ≡ heightOf new → sizeRefusal old new ≡ nothing
 unfolding sizeRefusal
 size-passes old new e f = rw (eq-eqb (widthOf old) (widthOf new) e, eq-eqb (heightOf old) (heightOf new) f)
 
-pub size-width : (old new : List ℕ) → (widthOf old ≡ widthOf new → ⊥) → sizeRefusal old new ≡ refuse 0x1001 64 1
+pub size-width : (old new : List ℕ) → (widthOf old ≡ widthOf new → ⊥) → sizeRefusal old new ≡ refuse illegalArgument 64 1
 unfolding sizeRefusal
 size-width old new n = rw (ne-eqb (widthOf old) (widthOf new) n)
 
-pub size-height : (old new : List ℕ) → widthOf old ≡ widthOf new → (heightOf old ≡ heightOf new → ⊥) → sizeRefusal old new ≡ refuse 0x1001 64 1
+pub size-height : (old new : List ℕ) → widthOf old ≡ widthOf new → (heightOf old ≡ heightOf new → ⊥) → sizeRefusal old new ≡ refuse illegalArgument 64 1
 unfolding sizeRefusal
 size-height old new e n = rw (eq-eqb (widthOf old) (widthOf new) e, ne-eqb (heightOf old) (heightOf new) n)
 
@@ -151,5 +151,6 @@ pub accepted-block : (s : List ℕ) → sceneFault s .code ≡ 0 → 512 ≤ len
 accepted-block s a = omega (arith, accepted-scene s a .bytes)
 
 -- a run of zeros of that length
-pub zeroed : (l m : List ℤ) → m ≡ replicate (length l) (pos 0) → length m ≡ length l → 12300 ≤ length l → (12300 ≤ length m) × (m ≡ replicate (length m) (pos 0))
+pub zeroed : (l m : List ℤ) → m ≡ replicate (length l) (pos 0) → length m ≡ length l → 12300 ≤ length l
+    → (12300 ≤ length m) × (m ≡ replicate (length m) (pos 0))
 zeroed l m e k space = (omega (arith, k, space), e ∙ ap (λ (n : ℕ). replicate n (pos 0)) (sym k))

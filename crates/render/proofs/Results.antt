@@ -54,7 +54,8 @@ module _ (old new p : List ℕ) (l : List ℤ) where
   redraw-refused f r e n g = rw (← e) (g ∙ sym (not-chosen f _ _ n), (sym (not-chosen f _ _ n), sym (not-chosen f _ _ n)))
 
   pub redraw-done : (f : Refusal) (r : Answer) (q : List ℕ) (m : List ℤ) (w h : ℕ) (a : Rect) → f ≡ redrawRefusal old new (length p) (length l) → f .code ≡ 0
-      → w ≡ widthOf new → h ≡ heightOf new → a ≡ damageOf w h old new → r ≡ acceptedAnswer a → q ≡ overlay w h a (pixelAt new) p → m ≡ replicate (length l) (pos 0)
+      → w ≡ widthOf new → h ≡ heightOf new → a ≡ damageOf w h old new → r ≡ acceptedAnswer a → q ≡ overlay w h a (pixelAt new) p
+      → m ≡ replicate (length l) (pos 0)
       → (r ≡ redrawAnswer old new (length p) (length l)) × ((q ≡ redrawSurface old new p (length l)) × (m ≡ redrawScratch old new (length p) l))
   redraw-done f r q m w h a e z i j b g o k =
       rw (← e, ← i, ← j, ← b) (g ∙ sym (chosen f _ _ z), (o ∙ sym (chosen f _ _ z), k ∙ sym (chosen f _ _ z)))

@@ -2,15 +2,17 @@
 -- The scratch numbers are the paper's working room.
 use Prim.Native.Nat.{ℕ, _*_, _-_, _≤_, _<_, max}
 use mathlib.Core.Path.{_≡_}
-use mathlib.Core.List.{List, [], _∷_, _++_}
-use mathlib.Core.Bool.{Bool, true, false, cond, not, _&&_, _||_}
+use mathlib.Core.List.{List}
+use mathlib.Core.Bool.{true, cond, not, _&&_}
 use lib.ListN.{length, replicate}
 use lib.Dec.{ltb, eqb}
 use lib.IntN.{ℤ, pos}
+use Rattle.codes.specs.Codes.{acceptedCode, illegalArgument, unsupportedImageFormat, outOfMemory}
+use Rattle.codes.specs.First.{sooner}
 use Rattle.rect.specs.declared.Rect.{Rect}
 use Rattle.rect.specs.Rects.{whole, Holds}
 use Rattle.raster.specs.Surface.{overlay}
-use Rattle.scene.specs.Layout.{noDraw, badLength, badChecksum, illegalArgument}
+use Rattle.scene.specs.Layout.{noDraw}
 use Rattle.scene.specs.Header.{widthOf, heightOf, countOf}
 use Rattle.scene.specs.Rules.{sceneFault}
 use Rattle.engine.specs.Picture.{pixelAt, picture}
@@ -18,46 +20,23 @@ use Rattle.damage.specs.Damage.{changedAt, boxAt, damage}
 use Rattle.render.specs.declared.Refusal.{Refusal}
 use Rattle.render.specs.declared.Answer.{Answer}
 
--- ---- the table of codes, in the paper's order: those of a scene, 0 for accepted among them, then those of what is lent
-abbrev pub unsupportedPathFormat : ℕ
-unsupportedPathFormat = 0x1005
-
-abbrev pub unsupportedImageFormat : ℕ
-unsupportedImageFormat = 0x1004
-
-abbrev pub outOfMemory : ℕ
-outOfMemory = 0x1002
-
-abbrev pub sceneCodes : List ℕ
-sceneCodes = 0 ∷ badLength ∷ badChecksum ∷ illegalArgument ∷ unsupportedPathFormat ∷ []
-
-abbrev pub codes : List ℕ
-codes = sceneCodes ++ (unsupportedImageFormat ∷ outOfMemory ∷ [])
-
-abbrev pub isOneOf : ℕ → List ℕ → Bool
-isOneOf code [] = false
-isOneOf code (c ∷ cs) = eqb code c || isOneOf code cs
-
-abbrev pub inTable : ℕ → Bool
-inTable code = isOneOf code codes
-
 -- enough room is 12,300 numbers or more
 abbrev pub scratchNumbers : ℕ
 scratchNumbers = 12300
 
 -- ---- refusals: code, draw number, scene number; code 0 for none
 abbrev pub nothing : Refusal
-nothing = record { code = 0; draw = noDraw; scene = 0 }
+nothing = record { code = acceptedCode; draw = noDraw; scene = 0 }
 
 abbrev pub refuse : ℕ → ℕ → ℕ → Refusal
 refuse code draw scene = record { code = code; draw = draw; scene = scene }
 
 abbrev pub orElse : Refusal → Refusal → Refusal
-orElse f g = cond (eqb (f .code) 0) g f
+orElse = sooner (λ f. f .code)
 
 -- all scene checks of the scene with that number
 unfoldable pub sceneRefusal : List ℕ → ℕ → Refusal
-sceneRefusal s scene = cond (eqb (sceneFault s .code) 0) nothing (refuse (sceneFault s .code) (sceneFault s .draw) scene)
+sceneRefusal s scene = cond (eqb (sceneFault s .code) acceptedCode) nothing (refuse (sceneFault s .code) (sceneFault s .draw) scene)
 
 -- a surface of that many bytes, then scratch of that many numbers
 unfoldable pub lentRefusal : ℕ → ℕ → ℕ → ℕ → Refusal
@@ -83,13 +62,13 @@ redrawRefusal old new surfaceBytes scratch =
 -- ---- answers
 -- a where nothing is refused, else b
 unfoldable pub choose : {A : Type 0} → Refusal → A → A → A
-choose f a b = cond (eqb (f .code) 0) a b
+choose f a b = cond (eqb (f .code) acceptedCode) a b
 
 abbrev pub refusedAnswer : Refusal → Answer
 refusedAnswer f = record { code = f .code; draw = f .draw; scene = f .scene; x = 0; y = 0; width = 0; height = 0 }
 
 abbrev pub acceptedAnswer : Rect → Answer
-acceptedAnswer a = record { code = 0; draw = noDraw; scene = 0; x = a .x0; y = a .y0; width = a .x1 - a .x0; height = a .y1 - a .y0 }
+acceptedAnswer a = record { code = acceptedCode; draw = noDraw; scene = 0; x = a .x0; y = a .y0; width = a .x1 - a .x0; height = a .y1 - a .y0 }
 
 -- refused, the scratch is as it was; accepted, all zero
 abbrev pub scratchAfter : Refusal → List ℤ → List ℤ

@@ -1,19 +1,15 @@
 // Whether a call is refused: the scenes, then their sizes, then what is lent.
 use crate::Refusal;
-use path::rules::ILLEGAL_ARGUMENT;
+use codes::ACCEPTED;
+use codes::ILLEGAL_ARGUMENT;
+use codes::OUT_OF_MEMORY;
+use codes::UNSUPPORTED_IMAGE_FORMAT;
 use scene::layout::NO_DRAW;
 ghost use mathlib.Core.Path.{_≡_};
 ghost use Prim.Native.Nat.{_≤_, _<_};
 ghost use lib.ListN.{length};
 ghost use Rattle.scene.specs.Layout.{blockBytes, noDraw};
 ghost use Rattle.render.specs.Answers.{refuse, sceneRefusal, lentRefusal, sizeRefusal, drawRefusal, redrawRefusal};
-
-// The code of a call that is not refused.
-pub const ACCEPTED: u32 = 0;
-
-const UNSUPPORTED_IMAGE_FORMAT: u32 = 0x1004;
-
-const OUT_OF_MEMORY: u32 = 0x1002;
 
 // Enough scratch.
 pub const SCRATCH_NUMBERS: usize = 12300;
@@ -63,11 +59,11 @@ fn judge_scene(s: &[u8], number: u32) -> Refusal
     ensures { λ r. ⌜ r ≡ sceneRefusal (now (s .entry)) number ⌝ }
 {
     let f = scene::verdict::verdict(s);
-    if f.code == 0 {
+    if f.code == ACCEPTED {
         return refusal(ACCEPTED, 0);
     }
     Refusal {
-        code: f.code as u32,
+        code: f.code,
         draw: f.draw as u32,
         scene: number,
     }
@@ -93,10 +89,10 @@ fn judge_sizes(old: &[u8], new: &[u8]) -> Refusal
     ensures { λ r. ⌜ r ≡ sizeRefusal (now (old .entry)) (now (new .entry)) ⌝ }
 {
     if scene::header::width(old) != scene::header::width(new) {
-        return refusal(ILLEGAL_ARGUMENT as u32, 1);
+        return refusal(ILLEGAL_ARGUMENT, 1);
     }
     if scene::header::height(old) != scene::header::height(new) {
-        return refusal(ILLEGAL_ARGUMENT as u32, 1);
+        return refusal(ILLEGAL_ARGUMENT, 1);
     }
     refusal(ACCEPTED, 0)
 }

@@ -1,9 +1,9 @@
 // Rendering: the full drawing of a scene, and the quick redraw from one scene to another.
 pub mod judge;
 
-use crate::judge::ACCEPTED;
 use crate::judge::judge_draw;
 use crate::judge::judge_redraw;
+use codes::ACCEPTED;
 use rect::Rect;
 use scene::layout::NO_DRAW;
 ghost use mathlib.Core.Path.{_≡_};

@@ -1,50 +1,37 @@
 -- What follows from code 0: no rule was broken.
 use mathlib.Core.Path.{_≡_, refl}
 use mathlib.Core.List.{List}
-use mathlib.Core.Bool.{Bool, true, false, not, _&&_, _||_}
-use mathlib.Core.Logic.{⊎-elim}
-use Prim.Native.Nat.{ℕ, zero, suc, _+_, _*_, _%_, _≤_, _<_}
-use native.Mathlib.Nat.{eq-or-lt-of-le, le-of-suc-le-suc, not-suc-le-zero}
+use mathlib.Core.Bool.{Bool, true, false, not, _&&_}
+use Prim.Native.Nat.{ℕ, _+_, _*_, _%_, _≤_, _<_}
 use native.Mathlib.Omega.{arith}
 use lib.ListN.{length}
 use lib.Dec.{eqb, leb, ltb}
 use lib.Ieee.{isNan}
 use borrow.Author.Tests.{eqb-true, eqb-false, eq-eqb, leb-true, not-true}
+use Rattle.codes.specs.Codes.{badLength, badChecksum, illegalArgument}
+use Rattle.codes.proofs.Refusals.{refuses}
+use Rattle.codes.proofs.First.{sooner-none, soonest-none}
 use Rattle.fixed.specs.Floats.{f32At, atMost}
 use Rattle.rect.proofs.Laws.{both}
 use Rattle.blend.specs.PorterDuff.{isMode}
-use Rattle.paint.specs.Gradient.{spreadPad, spreadReflect}
-use Rattle.paint.specs.Paints.{paintColor, paintLinear}
-use Rattle.path.specs.Matrices.{matrixInLimits, fixedMatrix}
+use Rattle.path.specs.Matrices.{linearLimit, translationLimit, matrixInLimits, fixedMatrix}
 use Rattle.path.specs.Segments.{faultTo}
-use Rattle.scene.specs.Blocks.{blockRight, blockOf, drawOf}
+use Rattle.scene.specs.Layout.{blockBytes, payloadBytes, drawLimit, noDraw, flagsAt, flagsLimit, segmentLimit, scissorLimit, stopLimit}
+use Rattle.scene.specs.Layout.{matrixAt, translationAt, colorAt, linearPointsAt, scissorsAt, scissorBytes, stopsAt, stopBytes, stopFloats, segmentsAt}
+use Rattle.scene.specs.Blocks.{blockRight, blockOf, drawOf, fileOffset}
 use Rattle.scene.specs.Header.{widthOf, heightOf, countOf}
 use Rattle.scene.specs.Fields.{flagsOf, blendOf, paintTypeOf, spreadOf, segmentCount, scissorCount, stopCount, matrixOf, segmentsOf, coordinatesOf}
-use Rattle.scene.specs.Faults.{sooner, soonest, must, orElse, firstOf, unused, limited, numbers, accepted, fault, demand, orFault, firstFault}
-use Rattle.scene.specs.Rules.{headRules, countRules, floatRules, listRules, pathRules, restRules, drawRules, headerRules, inHeader, inDraw, checkFaults, drawFault, sceneFault}
+use Rattle.scene.specs.Faults.{fine, must, orElse, firstOf, unused, limited, numbers, accepted, fault, demand, orFault, firstFault}
+use Rattle.scene.specs.Rules.{linearPointLimit, isPaint, isSpread, headRules, countRules, floatRules, listRules, pathRules, restRules, drawRules}
+use Rattle.scene.specs.Rules.{isSide, headerRules, located, inHeader, inDraw, checkFaults, drawFault, sceneFault}
 use Rattle.scene.specs.Accepted.{AcceptedDraw, AcceptedScene}
 use Rattle.scene.specs.declared.FieldFault.{FieldFault}
 use Rattle.scene.specs.declared.Fault.{Fault}
 
--- ---- the first of several has code 0: so has each
-module _ {A : Type 0} (code : A → ℕ) where
-  pub sooner-none : (f g : A) → code (sooner code f g) ≡ 0 → (code f ≡ 0) × (code g ≡ 0)
-  sooner-none f g h = by (eqb (code f) 0) refl
-    where
-      by : (t : Bool) → eqb (code f) 0 ≡ t → (code f ≡ 0) × (code g ≡ 0)
-      by true e = (eqb-true (code f) 0 e, rw e at h)
-      by false e = absurd (eqb-false (code f) 0 e (rw e at h))
-
-  pub soonest-none : (none : A) (f : ℕ → A) (n : ℕ) → code (soonest code none n f) ≡ 0 → (i : ℕ) → i < n → code (f i) ≡ 0
-  soonest-none none f zero h i l = absurd (not-suc-le-zero l)
-  soonest-none none f (suc n) h i l =
-      let p = sooner-none (soonest code none n f) (f n) h in
-      ⊎-elim (λ e. rw e (p .1)) (soonest-none none f n (p .0) i) (eq-or-lt-of-le (le-of-suc-le-suc l))
-
 -- ---- a rule
 held : (t : Bool) (p : ℕ) → must t p .code ≡ 0 → t ≡ true
 held true p h = refl
-held false p h = absurd (eqb-false 0x1001 0 refl h)
+held false p h = absurd (refuses illegalArgument refl h)
 
 two : (f g : FieldFault) → orElse f g .code ≡ 0 → (f .code ≡ 0) × (g .code ≡ 0)
 two = sooner-none (λ f. f .code)
@@ -53,7 +40,7 @@ obeyed : (t : Bool) (p : ℕ) (g : FieldFault) → orElse (must t p) g .code ≡
 obeyed t p g h = let a = two (must t p) g h in (held t p (a .0), a .1)
 
 each : (t : ℕ → Bool) (p : ℕ → ℕ) (n : ℕ) → firstOf n (λ i. must (t i) (p i)) .code ≡ 0 → (i : ℕ) → i < n → t i ≡ true
-each t p n h i l = held (t i) (p i) (soonest-none (λ f. f .code) _ (λ k. must (t k) (p k)) n h i l)
+each t p n h i l = held (t i) (p i) (soonest-none (λ f. f .code) fine (λ k. must (t k) (p k)) n h i l)
 
 limits : (d : List ℕ) (b at n : ℕ) → limited d b at n .code ≡ 0 → (i : ℕ) → i < n → atMost b (f32At d (at + 4 * i)) ≡ true
 limits d b at n = each (λ i. atMost b (f32At d (at + 4 * i))) (λ i. at + 4 * i) n
@@ -63,9 +50,9 @@ no-nans d at n h i l = not-true _ (each (λ i. not (isNan (f32At d (at + 4 * i))
 
 -- ---- a draw
 pub record Counted (d : List ℕ) : Type 0 where
-  pub segments : segmentCount d ≤ 128
-  pub scissors : scissorCount d ≤ 4
-  pub stops : stopCount d ≤ 32
+  pub segments : segmentCount d ≤ segmentLimit
+  pub scissors : scissorCount d ≤ scissorLimit
+  pub stops : stopCount d ≤ stopLimit
 
 module _ (d : List ℕ) where
   counted : countRules d .code ≡ 0 → Counted d
@@ -78,14 +65,14 @@ module _ (d : List ℕ) where
 
   record Headed : Type 0 where
     pub mode : isMode (blendOf d) ≡ true
-    pub paintType : (eqb (paintTypeOf d) paintColor || eqb (paintTypeOf d) paintLinear) ≡ true
-    pub spread : (leb spreadPad (spreadOf d) && leb (spreadOf d) spreadReflect) ≡ true
+    pub paintType : isPaint (paintTypeOf d) ≡ true
+    pub spread : isSpread (spreadOf d) ≡ true
     pub counts : Counted d
 
   headed : headRules d .code ≡ 0 → Headed
   unfolding headRules
   headed h =
-      let a = obeyed (ltb (flagsOf d) 8) 0 _ h in
+      let a = obeyed (ltb (flagsOf d) flagsLimit) flagsAt _ h in
       let b = obeyed _ _ _ (a .1) in
       let c = obeyed _ _ _ (b .1) in
       let e = obeyed _ _ (countRules d) (c .1) in
@@ -96,34 +83,38 @@ module _ (d : List ℕ) where
 
   record Measured : Type 0 where
     pub matrix : matrixInLimits (matrixOf d) ≡ true
-    pub color : (i : ℕ) → i < 4 → isNan (f32At d (36 + 4 * i)) ≡ false
-    pub points : (i : ℕ) → i < 4 → atMost 4096 (f32At d (52 + 4 * i)) ≡ true
+    pub color : (i : ℕ) → i < 4 → isNan (f32At d (colorAt + 4 * i)) ≡ false
+    pub points : (i : ℕ) → i < 4 → atMost linearPointLimit (f32At d (linearPointsAt + 4 * i)) ≡ true
 
   measured : floatRules d .code ≡ 0 → Measured
   unfolding floatRules
   measured h =
-      let from-color : FieldFault = orElse (numbers d 36 4) (limited d 4096 52 4) in
-      let p = two (limited d 256 12 4) (orElse (limited d 32768 28 2) from-color) h in
-      let q = two (limited d 32768 28 2) from-color (p .1) in
-      let r = two (numbers d 36 4) (limited d 4096 52 4) (q .1) in
-      let a = limits d 256 12 4 (p .0) in
-      let t = limits d 32768 28 2 (q .0) in
+      let linear : FieldFault = limited d linearLimit matrixAt 4 in
+      let translation : FieldFault = limited d translationLimit translationAt 2 in
+      let color : FieldFault = numbers d colorAt 4 in
+      let points : FieldFault = limited d linearPointLimit linearPointsAt 4 in
+      let p = two linear (orElse translation (orElse color points)) h in
+      let q = two translation (orElse color points) (p .1) in
+      let r = two color points (q .1) in
+      let a = limits d linearLimit matrixAt 4 (p .0) in
+      let t = limits d translationLimit translationAt 2 (q .0) in
       record {
         matrix = rw (a 0 (omega arith), a 1 (omega arith), a 2 (omega arith), a 3 (omega arith), t 0 (omega arith), t 1 (omega arith));
-        color = no-nans d 36 4 (r .0);
-        points = limits d 4096 52 4 (r .1);
+        color = no-nans d colorAt 4 (r .0);
+        points = limits d linearPointLimit linearPointsAt 4 (r .1);
       }
 
   pub matrix-within : floatRules d .code ≡ 0 → matrixInLimits (matrixOf d) ≡ true
   matrix-within h = measured h .matrix
 
-  stops-numbers : listRules d .code ≡ 0 → (i : ℕ) → i < 5 * stopCount d → isNan (f32At d (132 + 4 * i)) ≡ false
+  stops-numbers : listRules d .code ≡ 0 → (i : ℕ) → i < stopFloats * stopCount d → isNan (f32At d (stopsAt + 4 * i)) ≡ false
   unfolding listRules
   stops-numbers h =
-      let past : FieldFault = unused d (132 + 20 * stopCount d) 772 in
-      let p = two (unused d (68 + 16 * scissorCount d) 132) (orElse (numbers d 132 (5 * stopCount d)) past) h in
-      let q = two (numbers d 132 (5 * stopCount d)) past (p .1) in
-      no-nans d 132 (5 * stopCount d) (q .0)
+      let scissors : FieldFault = unused d (scissorsAt + scissorBytes * scissorCount d) stopsAt in
+      let stops : FieldFault = numbers d stopsAt (stopFloats * stopCount d) in
+      let past : FieldFault = unused d (stopsAt + stopBytes * stopCount d) segmentsAt in
+      let p = two scissors (orElse stops past) h in
+      no-nans d stopsAt (stopFloats * stopCount d) (two stops past (p .1) .0)
 
   path-code : pathRules d .code ≡ 0 → faultTo (fixedMatrix (matrixOf d)) (segmentsOf d) (coordinatesOf d) (segmentCount d) .code ≡ 0
   unfolding pathRules
@@ -162,18 +153,11 @@ met : (t : Bool) (f : Fault) → (f .code ≡ 0 → ⊥) → demand t f .code �
 met true f b h = refl
 met false f b h = absurd (b h)
 
--- a fault of fields that are moved into the file is none only where there was none
-in-header-none : (f : FieldFault) → inHeader f .code ≡ 0 → f .code ≡ 0
-in-header-none f h = by (eqb (f .code) 0) refl
+-- a fault among fields as one of the scene is none only where there was none
+located-none : (draw offset : ℕ) (f : FieldFault) → located draw offset f .code ≡ 0 → (f .code ≡ 0) × (located draw offset f ≡ accepted)
+located-none draw offset f h = by (eqb (f .code) 0) refl
   where
-    by : (t : Bool) → eqb (f .code) 0 ≡ t → f .code ≡ 0
-    by true e = eqb-true (f .code) 0 e
-    by false e = rw e at h
-
-in-draw-none : (i : ℕ) (f : FieldFault) → inDraw i f .code ≡ 0 → (f .code ≡ 0) × (inDraw i f ≡ accepted)
-in-draw-none i f h = by (eqb (f .code) 0) refl
-  where
-    by : (t : Bool) → eqb (f .code) 0 ≡ t → (f .code ≡ 0) × (inDraw i f ≡ accepted)
+    by : (t : Bool) → eqb (f .code) 0 ≡ t → (f .code ≡ 0) × (located draw offset f ≡ accepted)
     by true e = (eqb-true (f .code) 0 e, rw e)
     by false e = absurd (eqb-false (f .code) 0 e (rw e at h))
 
@@ -182,13 +166,14 @@ module _ (s : List ℕ) where
   unfolding drawFault
   draw-none i h =
       let p = both-none (checkFaults s i) (inDraw i (drawRules (drawOf s i))) h in
-      let q = in-draw-none i (drawRules (drawOf s i)) (p .1) in
+      let f = drawRules (drawOf s i) in
+      let q = located-none i (fileOffset i (f .place)) f (p .1) in
       (q .0, rw (eq-eqb (checkFaults s i .code) 0 (p .0)) (q .1))
 
   record Bordered : Type 0 where
-    pub width : (leb 1 (widthOf s) && leb (widthOf s) 1024) ≡ true
-    pub height : (leb 1 (heightOf s) && leb (heightOf s) 1024) ≡ true
-    pub count : countOf s ≤ 64
+    pub width : isSide (widthOf s) ≡ true
+    pub height : isSide (heightOf s) ≡ true
+    pub count : countOf s ≤ drawLimit
 
   bordered : headerRules s .code ≡ 0 → Bordered
   unfolding headerRules
@@ -198,21 +183,22 @@ module _ (s : List ℕ) where
       let c = obeyed _ _ _ (b .1) in
       record { width = a .0; height = b .0; count = leb-true _ _ (c .0) }
 
-  pub header-count : headerRules s .code ≡ 0 → countOf s ≤ 64
+  pub header-count : headerRules s .code ≡ 0 → countOf s ≤ drawLimit
   header-count h = bordered h .count
 
   pub accepted-scene : sceneFault s .code ≡ 0 → AcceptedScene s
   unfolding sceneFault
   accepted-scene h =
       let draws : Fault = firstFault (countOf s) (drawFault s) in
-      let from-full : Fault = orFault (demand (eqb (length s) (512 * blockOf (countOf s))) (fault 0xB002 64 0)) draws in
-      let from-header : Fault = orFault (inHeader (headerRules s)) from-full in
-      let from-check : Fault = orFault (demand (blockRight s 0) (fault 0xB001 64 508)) from-header in
-      let p = both-none (demand (eqb (length s % 512) 0 && leb 512 (length s)) (fault 0xB002 64 0)) from-check h in
-      let q = both-none (demand (blockRight s 0) (fault 0xB001 64 508)) from-header (p .1) in
-      let r = both-none (inHeader (headerRules s)) from-full (q .1) in
-      let t = both-none (demand (eqb (length s) (512 * blockOf (countOf s))) (fault 0xB002 64 0)) draws (r .1) in
-      let b = bordered (in-header-none (headerRules s) (r .0)) in
+      let full : Fault = demand (eqb (length s) (blockBytes * blockOf (countOf s))) (fault badLength noDraw 0) in
+      let header : Fault = inHeader (headerRules s) in
+      let check : Fault = demand (blockRight s 0) (fault badChecksum noDraw payloadBytes) in
+      let blocks : Fault = demand (eqb (length s % blockBytes) 0 && leb blockBytes (length s)) (fault badLength noDraw 0) in
+      let p = both-none blocks (orFault check (orFault header (orFault full draws))) h in
+      let q = both-none check (orFault header (orFault full draws)) (p .1) in
+      let r = both-none header (orFault full draws) (q .1) in
+      let t = both-none full draws (r .1) in
+      let b = bordered (located-none noDraw (headerRules s .place) (headerRules s) (r .0) .0) in
       let width = both _ _ (b .width) in
       let height = both _ _ (b .height) in
       record {
@@ -221,6 +207,6 @@ module _ (s : List ℕ) where
         heightLeast = leb-true _ _ (height .0);
         heightMost = leb-true _ _ (height .1);
         count = b .count;
-        bytes = eqb-true _ _ (met _ (fault 0xB002 64 0) (eqb-false 0xB002 0 refl) (t .0));
+        bytes = eqb-true _ _ (met _ (fault badLength noDraw 0) (refuses badLength refl) (t .0));
         draws = λ i l. draw-none i (soonest-none (λ f. f .code) accepted (drawFault s) (countOf s) (t .1) i l) .0;
       }

@@ -1,49 +1,35 @@
 -- The first fault of several: a turn of a loop that meets none, and one that meets it.
-use mathlib.Core.Path.{_≡_, refl, _∙_}
+use mathlib.Core.Path.{_≡_, refl, ap, _∙_}
 use mathlib.Core.Bool.{Bool, true, false}
-use mathlib.Core.Logic.{⊎-elim}
 use mathlib.Core.List.{List}
-use Prim.Native.Nat.{ℕ, zero, suc, _+_, _-_, _≤_, _<_}
-use native.Mathlib.Nat.{eq-or-lt-of-le, le-of-suc-le-suc, not-suc-le-zero}
-use native.Mathlib.Numerals.{add-one}
+use Prim.Native.Nat.{ℕ, _+_, _-_, _≤_, _<_}
 use native.Mathlib.Omega.{arith}
 use lib.ListN.{getD}
 use lib.Dec.{eqb}
-use borrow.Author.Tests.{eq-eqb, ne-eqb, eqb-false}
-use Rattle.scene.specs.Faults.{soonest, fine, firstOf, must, unused, accepted, firstFault, demand}
+use borrow.Author.Tests.{eq-eqb, ne-eqb}
+use Rattle.codes.specs.Codes.{illegalArgument}
+use Rattle.codes.proofs.Refusals.{refuses}
+use Rattle.codes.proofs.First.{first-turn, first-hit}
+use Rattle.scene.specs.Faults.{fine, firstOf, must, unused, accepted, firstFault, demand}
 use Rattle.scene.specs.declared.Fault.{Fault}
-
-module _ {A : Type 0} (code : A → ℕ) (none : A) (calm : code none ≡ 0) (f : ℕ → A) where
-  pub first-turn : (n : ℕ) → soonest code none n f ≡ none → f n ≡ none → soonest code none (n + 1) f ≡ none
-  first-turn n h e = rw (add-one, h, calm, e)
-
-  pub first-hit : (n m : ℕ) → n < m → soonest code none n f ≡ none → (code (f n) ≡ 0 → ⊥) → soonest code none m f ≡ f n
-  first-hit n zero l h b = absurd (not-suc-le-zero l)
-  first-hit n (suc m) l h b =
-      ⊎-elim (λ e. rw (← e, h, calm)) (λ k. rw (first-hit n m k h b, ne-eqb (code (f n)) 0 b)) (eq-or-lt-of-le (le-of-suc-le-suc l))
-
--- the same faults in the same places
-pub first-same : {A : Type 0} (code : A → ℕ) (none : A) (f g : ℕ → A) (n : ℕ) → ((i : ℕ) → f i ≡ g i) → soonest code none n f ≡ soonest code none n g
-first-same code none f g zero h = refl
-first-same code none f g (suc n) h = rw (first-same code none f g n h, h n)
 
 -- rules on fields: t i must hold at the place p i
 module _ (t : ℕ → Bool) (p : ℕ → ℕ) where
   pub rules-turn : (n : ℕ) → firstOf n (λ i. must (t i) (p i)) ≡ fine → t n ≡ true → firstOf (n + 1) (λ i. must (t i) (p i)) ≡ fine
-  rules-turn n h e = first-turn (λ f. f .code) fine refl (λ i. must (t i) (p i)) n h (rw e)
+  rules-turn n h e = first-turn (λ f. f .code) fine (λ i. must (t i) (p i)) refl n h (rw e)
 
   pub rules-hit : (n m : ℕ) → n < m → firstOf n (λ i. must (t i) (p i)) ≡ fine → t n ≡ false → firstOf m (λ i. must (t i) (p i)) ≡ must false (p n)
   rules-hit n m l h e =
-      first-hit (λ f. f .code) fine refl (λ i. must (t i) (p i)) n m l h (rw e (eqb-false 0x1001 0 refl)) ∙ rw e
+      first-hit (λ f. f .code) fine (λ i. must (t i) (p i)) n m l (ap (λ f. f .code) h) (rw e (refuses illegalArgument refl)) ∙ rw e
 
 -- demands on a scene: t i must hold, or g i is the fault
 module _ (t : ℕ → Bool) (g : ℕ → Fault) where
   pub demands-turn : (n : ℕ) → firstFault n (λ i. demand (t i) (g i)) ≡ accepted → t n ≡ true → firstFault (n + 1) (λ i. demand (t i) (g i)) ≡ accepted
-  demands-turn n h e = first-turn (λ f. f .code) accepted refl (λ i. demand (t i) (g i)) n h (rw e)
+  demands-turn n h e = first-turn (λ f. f .code) accepted (λ i. demand (t i) (g i)) refl n h (rw e)
 
   pub demands-hit : (n m : ℕ) → n < m → firstFault n (λ i. demand (t i) (g i)) ≡ accepted → t n ≡ false → (g n .code ≡ 0 → ⊥)
       → firstFault m (λ i. demand (t i) (g i)) ≡ g n
-  demands-hit n m l h e b = first-hit (λ f. f .code) accepted refl (λ i. demand (t i) (g i)) n m l h (rw e b) ∙ rw e
+  demands-hit n m l h e b = first-hit (λ f. f .code) accepted (λ i. demand (t i) (g i)) n m l (ap (λ f. f .code) h) (rw e b) ∙ rw e
 
 -- zero bytes: the loop stands at a place of its own
 module _ (d : List ℕ) (from to at : ℕ) (begun : from ≤ at) where

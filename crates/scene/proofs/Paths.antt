@@ -15,6 +15,7 @@ use Rattle.path.specs.Matrices.{fixedMatrix}
 use Rattle.path.specs.Segments.{faultTo, faultAt, segmentCode, walkTo}
 use Rattle.path.specs.Answers.{checkedTo}
 use Rattle.path.proofs.Faults.{accepted-ready}
+use Rattle.scene.specs.Layout.{segmentsAt, coordinatesAt, drawBytes}
 use Rattle.scene.specs.Fields.{matrixOf, segmentsOf, coordinatesOf, segmentCount}
 use Rattle.scene.specs.Faults.{orElse, unused}
 use Rattle.scene.specs.Rules.{pathRules, restRules}
@@ -31,7 +32,14 @@ one-of false n = omega arith
 fault-segment : (m : FixedMatrix) (ss cs : List ℕ) (n : ℕ) → faultTo m ss cs n .segment ≤ n
 fault-segment m ss cs zero = le-refl 0
 fault-segment m ss cs (suc n) =
-    either (eqb (faultTo m ss cs n .code) 0) (faultAt (segmentCode m cs (walkTo ss cs n) (getD ss n 0)) n) (faultTo m ss cs n) (suc n) (one-of (eqb (segmentCode m cs (walkTo ss cs n) (getD ss n 0)) 0) n) (omega (arith, fault-segment m ss cs n))
+    let code = segmentCode m cs (walkTo ss cs n) (getD ss n 0) in
+    either (eqb (faultTo m ss cs n .code) 0) (faultAt code n) (faultTo m ss cs n) (suc n) (one-of (eqb code 0) n) (omega (arith, fault-segment m ss cs n))
+
+-- the walk was over the draw's own path
+pub checked-of : (d : List ℕ) (m : FixedMatrix) (ss cs : List ℕ) (n : ℕ) (r : Checked)
+    → m ≡ fixedMatrix (matrixOf d) → ss ≡ segmentsOf d → cs ≡ coordinatesOf d → n ≡ segmentCount d → r ≡ checkedTo m ss cs n
+    → r ≡ checkedTo (fixedMatrix (matrixOf d)) (segmentsOf d) (coordinatesOf d) (segmentCount d)
+checked-of d m ss cs n r a b c e f = cc
 
 module _ (d : List ℕ) (r : Checked) (e : r ≡ checkedTo (fixedMatrix (matrixOf d)) (segmentsOf d) (coordinatesOf d) (segmentCount d)) where
   abbrev here : PathFault
@@ -44,7 +52,7 @@ module _ (d : List ℕ) (r : Checked) (e : r ≡ checkedTo (fixedMatrix (matrixO
   pub path-segment : r .fault .segment ≤ segmentCount d
   path-segment = rw the-fault (fault-segment (fixedMatrix (matrixOf d)) (segmentsOf d) (coordinatesOf d) (segmentCount d))
 
-  pub path-refused : (r .fault .code ≡ 0 → ⊥) → record { code = r .fault .code; place = 772 + r .fault .segment } ≡ orElse (pathRules d) (restRules d)
+  pub path-refused : (r .fault .code ≡ 0 → ⊥) → record { code = r .fault .code; place = segmentsAt + r .fault .segment } ≡ orElse (pathRules d) (restRules d)
   unfolding pathRules
   path-refused h = rw (← the-fault, ne-eqb (r .fault .code) 0 h)
 
@@ -59,6 +67,7 @@ module _ (d : List ℕ) (r : Checked) (e : r ≡ checkedTo (fixedMatrix (matrixO
     pub path-used : 2 * r .used ≤ length (coordinatesOf d)
     path-used = rw all-used (accepted-ready (fixedMatrix (matrixOf d)) (segmentsOf d) (coordinatesOf d) (segmentCount d) calm .there)
 
-    pub path-accepted : orElse (unused d (772 + segmentCount d) 900) (unused d (900 + 2 * r .used) 2032) ≡ orElse (pathRules d) (restRules d)
+    pub path-accepted : orElse (unused d (segmentsAt + segmentCount d) coordinatesAt) (unused d (coordinatesAt + 2 * r .used) drawBytes)
+        ≡ orElse (pathRules d) (restRules d)
     unfolding pathRules restRules
     path-accepted = rw (all-used, eq-eqb (here .code) 0 calm)

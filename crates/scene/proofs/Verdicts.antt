@@ -6,25 +6,27 @@ use Prim.Native.Nat.{ℕ, _*_, _%_, _≤_}
 use lib.ListN.{length}
 use lib.Dec.{eqb, leb}
 use borrow.Author.Tests.{eq-eqb, ne-eqb, leb-true}
+use Rattle.codes.specs.Codes.{badLength, badChecksum}
 use Rattle.rect.proofs.Laws.{both}
+use Rattle.scene.specs.Layout.{blockBytes, payloadBytes, noDraw}
 use Rattle.scene.specs.Blocks.{blockRight, blockOf}
 use Rattle.scene.specs.Header.{countOf}
 use Rattle.scene.specs.Faults.{fault, firstFault}
 use Rattle.scene.specs.Rules.{headerRules, inHeader, drawFault, sceneFault}
 
 module _ (s : List ℕ) where
-  abbrev whole : Bool
-  whole = eqb (length s % 512) 0 && leb 512 (length s)
+  abbrev pub whole : Bool
+  whole = eqb (length s % blockBytes) 0 && leb blockBytes (length s)
 
-  pub whole-length : whole ≡ true → 512 ≤ length s
-  whole-length w = leb-true 512 (length s) (both (eqb (length s % 512) 0) (leb 512 (length s)) w .1)
+  pub whole-length : whole ≡ true → blockBytes ≤ length s
+  whole-length w = leb-true blockBytes (length s) (both (eqb (length s % blockBytes) 0) (leb blockBytes (length s)) w .1)
 
-  pub bad-length : whole ≡ false → sceneFault s ≡ fault 0xB002 64 0
+  pub bad-length : whole ≡ false → sceneFault s ≡ fault badLength noDraw 0
   unfolding sceneFault
   bad-length w = rw w
 
   module _ (w : whole ≡ true) where
-    pub bad-check : blockRight s 0 ≡ false → sceneFault s ≡ fault 0xB001 64 508
+    pub bad-check : blockRight s 0 ≡ false → sceneFault s ≡ fault badChecksum noDraw payloadBytes
     unfolding sceneFault
     bad-check b = rw (w, b)
 
@@ -34,10 +36,10 @@ module _ (s : List ℕ) where
       bad-header h = rw (w, b, ne-eqb (headerRules s .code) 0 h, ne-eqb (headerRules s .code) 0 h)
 
       module _ (h : headerRules s .code ≡ 0) where
-        pub bad-count : (length s ≡ 512 * blockOf (countOf s) → ⊥) → sceneFault s ≡ fault 0xB002 64 0
+        pub bad-count : (length s ≡ blockBytes * blockOf (countOf s) → ⊥) → sceneFault s ≡ fault badLength noDraw 0
         unfolding sceneFault
-        bad-count l = rw (w, b, eq-eqb (headerRules s .code) 0 h, ne-eqb (length s) (512 * blockOf (countOf s)) l)
+        bad-count l = rw (w, b, eq-eqb (headerRules s .code) 0 h, ne-eqb (length s) (blockBytes * blockOf (countOf s)) l)
 
-        pub by-draws : length s ≡ 512 * blockOf (countOf s) → sceneFault s ≡ firstFault (countOf s) (drawFault s)
+        pub by-draws : length s ≡ blockBytes * blockOf (countOf s) → sceneFault s ≡ firstFault (countOf s) (drawFault s)
         unfolding sceneFault
-        by-draws l = rw (w, b, eq-eqb (headerRules s .code) 0 h, eq-eqb (length s) (512 * blockOf (countOf s)) l)
+        by-draws l = rw (w, b, eq-eqb (headerRules s .code) 0 h, eq-eqb (length s) (blockBytes * blockOf (countOf s)) l)

@@ -3,32 +3,29 @@
 use Prim.Native.Nat.{ℕ, _+_, _*_, _≤_, _<_}
 use mathlib.Core.Path.{_≡_}
 use mathlib.Core.List.{List}
-use mathlib.Core.Bool.{true, false, _&&_, _||_}
+use mathlib.Core.Bool.{true, false}
 use lib.ListN.{length}
-use lib.Dec.{leb, eqb}
 use lib.Ieee.{isNan}
 use Rattle.fixed.specs.Floats.{f32At, atMost}
 use Rattle.blend.specs.PorterDuff.{isMode}
-use Rattle.paint.specs.Gradient.{spreadPad, spreadReflect}
-use Rattle.paint.specs.Paints.{paintColor, paintLinear}
 use Rattle.path.specs.Matrices.{matrixInLimits, fixedMatrix}
 use Rattle.path.specs.Segments.{faultTo}
-use Rattle.scene.specs.Layout.{blockBytes, sideLimit, drawLimit, segmentLimit, scissorLimit, stopLimit, colorAt, linearAt, stopsAt, stopFloats}
+use Rattle.scene.specs.Layout.{blockBytes, sideLimit, drawLimit, segmentLimit, scissorLimit, stopLimit, colorAt, linearPointsAt, stopsAt, stopFloats}
 use Rattle.scene.specs.Blocks.{blockOf, drawOf}
 use Rattle.scene.specs.Header.{widthOf, heightOf, countOf}
 use Rattle.scene.specs.Fields.{blendOf, paintTypeOf, spreadOf, segmentCount, scissorCount, stopCount, matrixOf, segmentsOf, coordinatesOf}
-use Rattle.scene.specs.Rules.{linearPointLimit, drawRules}
+use Rattle.scene.specs.Rules.{linearPointLimit, isPaint, isSpread, drawRules}
 
 pub record AcceptedDraw (d : List ℕ) : Type 0 where
   pub mode : isMode (blendOf d) ≡ true
-  pub paintType : (eqb (paintTypeOf d) paintColor || eqb (paintTypeOf d) paintLinear) ≡ true
-  pub spread : (leb spreadPad (spreadOf d) && leb (spreadOf d) spreadReflect) ≡ true
+  pub paintType : isPaint (paintTypeOf d) ≡ true
+  pub spread : isSpread (spreadOf d) ≡ true
   pub segments : segmentCount d ≤ segmentLimit
   pub scissors : scissorCount d ≤ scissorLimit
   pub stops : stopCount d ≤ stopLimit
   pub matrix : matrixInLimits (matrixOf d) ≡ true
   pub color : (i : ℕ) → i < 4 → isNan (f32At d (colorAt + 4 * i)) ≡ false
-  pub points : (i : ℕ) → i < 4 → atMost linearPointLimit (f32At d (linearAt + 4 * i)) ≡ true
+  pub points : (i : ℕ) → i < 4 → atMost linearPointLimit (f32At d (linearPointsAt + 4 * i)) ≡ true
   pub stopFloats : (i : ℕ) → i < stopFloats * stopCount d → isNan (f32At d (stopsAt + 4 * i)) ≡ false
   pub path : faultTo (fixedMatrix (matrixOf d)) (segmentsOf d) (coordinatesOf d) (segmentCount d) .code ≡ 0
 

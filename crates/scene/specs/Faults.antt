@@ -1,26 +1,20 @@
 -- Faults, and which comes first.
-use Prim.Native.Nat.{ℕ, zero, suc, _+_, _*_, _-_}
+use Prim.Native.Nat.{ℕ, _+_, _*_, _-_}
 use mathlib.Core.List.{List}
 use mathlib.Core.Bool.{Bool, cond, not}
 use lib.ListN.{getD}
 use lib.Dec.{eqb}
 use lib.Ieee.{isNan}
+use Rattle.codes.specs.Codes.{acceptedCode, illegalArgument}
+use Rattle.codes.specs.First.{sooner, soonest}
 use Rattle.fixed.specs.Floats.{f32At, atMost}
-use Rattle.scene.specs.Layout.{illegalArgument, noDraw}
+use Rattle.scene.specs.Layout.{noDraw}
 use Rattle.scene.specs.declared.FieldFault.{FieldFault}
 use Rattle.scene.specs.declared.Fault.{Fault}
 
--- the first of two, and of f 0, .., f (n - 1): the first whose code is not 0
-abbrev pub sooner : {A : Type 0} → (A → ℕ) → A → A → A
-sooner code f g = cond (eqb (code f) 0) g f
-
-abbrev pub soonest : {A : Type 0} → (A → ℕ) → A → ℕ → (ℕ → A) → A
-soonest code none zero f = none
-soonest code none (suc n) f = sooner code (soonest code none n f) (f n)
-
 -- ---- faults among fields: a code and the place that the rules met, in the bytes that are judged; code 0 for none
 abbrev pub fine : FieldFault
-fine = record { code = 0; place = 0 }
+fine = record { code = acceptedCode; place = 0 }
 
 abbrev pub orElse : FieldFault → FieldFault → FieldFault
 orElse = sooner (λ f. f .code)
@@ -46,7 +40,7 @@ numbers d at n = firstOf n (λ i. must (not (isNan (f32At d (at + 4 * i)))) (at 
 
 -- ---- a scene's faults: code, draw number, and the offset in the file
 abbrev pub accepted : Fault
-accepted = record { code = 0; draw = noDraw; offset = 0 }
+accepted = record { code = acceptedCode; draw = noDraw; offset = 0 }
 
 abbrev pub fault : ℕ → ℕ → ℕ → Fault
 fault code draw offset = record { code = code; draw = draw; offset = offset }

@@ -12,7 +12,8 @@ use Rattle.paint.specs.declared.LinearPoints.{LinearPoints}
 use Rattle.paint.specs.declared.Paint.{Paint}
 use Rattle.paint.specs.declared.Paint.the-variants.{Solid, Linear}
 use Rattle.paint.specs.Paints.{paintLinear}
-use Rattle.scene.specs.Layout.{flagsAt, blendAt, paintTypeAt, spreadAt, segmentCountAt, scissorCountAt, stopCountAt, matrixAt, translationAt, colorAt, linearAt, scissorsAt, stopsAt, segmentsAt, coordinatesAt, drawBytes}
+use Rattle.scene.specs.Layout.{flagsAt, blendAt, paintTypeAt, spreadAt, segmentCountAt, scissorCountAt, stopCountAt, matrixAt}
+use Rattle.scene.specs.Layout.{translationAt, colorAt, linearPointsAt, scissorsAt, stopsAt, segmentsAt, coordinatesAt, drawBytes}
 
 abbrev pub flagsOf : List ℕ → ℕ
 flagsOf d = u16At d flagsAt
@@ -62,7 +63,7 @@ abbrev pub colorOf : List ℕ → Color
 colorOf d = record { r = f32At d colorAt; g = f32At d (colorAt + 4); b = f32At d (colorAt + 8); a = f32At d (colorAt + 12) }
 
 abbrev pub linearOf : List ℕ → LinearPoints
-linearOf d = record { x0 = f32At d linearAt; y0 = f32At d (linearAt + 4); x1 = f32At d (linearAt + 8); y1 = f32At d (linearAt + 12) }
+linearOf d = record { x0 = f32At d linearPointsAt; y0 = f32At d (linearPointsAt + 4); x1 = f32At d (linearPointsAt + 8); y1 = f32At d (linearPointsAt + 12) }
 
 abbrev pub pickPaint : Bool → Paint → Paint → Paint
 pickPaint true a b = a

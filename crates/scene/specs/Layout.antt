@@ -84,8 +84,8 @@ translationAt = 28
 abbrev pub colorAt : ℕ
 colorAt = 36
 
-abbrev pub linearAt : ℕ
-linearAt = 52
+abbrev pub linearPointsAt : ℕ
+linearPointsAt = 52
 
 abbrev pub scissorsAt : ℕ
 scissorsAt = 68
@@ -120,13 +120,3 @@ stopBytes = 20
 
 abbrev pub stopFloats : ℕ
 stopFloats = 5
-
--- codes
-abbrev pub badChecksum : ℕ
-badChecksum = 0xB001
-
-abbrev pub badLength : ℕ
-badLength = 0xB002
-
-abbrev pub illegalArgument : ℕ
-illegalArgument = 0x1001

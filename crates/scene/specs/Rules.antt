@@ -1,9 +1,10 @@
 -- The rules, in the order in which they are judged ("Codes, and which comes first"): a draw by its own bytes, then a scene by its bytes.
 use Prim.Native.Nat.{ℕ, _+_, _*_, _%_}
 use mathlib.Core.List.{List}
-use mathlib.Core.Bool.{cond, _&&_, _||_}
+use mathlib.Core.Bool.{Bool, cond, _&&_, _||_}
 use lib.ListN.{getD, length}
 use lib.Dec.{leb, ltb, eqb}
+use Rattle.codes.specs.Codes.{acceptedCode, badLength, badChecksum}
 use Rattle.fixed.specs.Little.{u16At}
 use Rattle.blend.specs.PorterDuff.{isMode}
 use Rattle.paint.specs.Gradient.{spreadPad, spreadReflect}
@@ -11,8 +12,10 @@ use Rattle.paint.specs.Paints.{paintColor, paintLinear}
 use Rattle.path.specs.Matrices.{linearLimit, translationLimit, fixedMatrix}
 use Rattle.path.specs.Segments.{faultTo, walkTo}
 use Rattle.scene.specs.Layout.{blockBytes, payloadBytes, drawBlocks, widthAt, heightAt, countAt, reservedAt, headerEnd, sideLimit, drawLimit, noDraw}
-use Rattle.scene.specs.Layout.{flagsAt, blendAt, paintTypeAt, spreadAt, segmentCountAt, scissorCountAt, stopCountAt, paddingAt, matrixAt, translationAt, colorAt, linearAt}
-use Rattle.scene.specs.Layout.{scissorsAt, stopsAt, segmentsAt, coordinatesAt, drawBytes, flagsLimit, segmentLimit, scissorLimit, stopLimit, scissorBytes, stopBytes, stopFloats, badChecksum, badLength}
+use Rattle.scene.specs.Layout.{flagsAt, blendAt, paintTypeAt, spreadAt, segmentCountAt, scissorCountAt}
+use Rattle.scene.specs.Layout.{stopCountAt, paddingAt, matrixAt, translationAt, colorAt, linearPointsAt}
+use Rattle.scene.specs.Layout.{scissorsAt, stopsAt, segmentsAt, coordinatesAt, drawBytes, flagsLimit}
+use Rattle.scene.specs.Layout.{segmentLimit, scissorLimit, stopLimit, scissorBytes, stopBytes, stopFloats}
 use Rattle.scene.specs.Blocks.{blockRight, blockOf, drawOf, fileOffset}
 use Rattle.scene.specs.Header.{widthOf, heightOf, countOf}
 use Rattle.scene.specs.Fields.{flagsOf, blendOf, paintTypeOf, spreadOf, segmentCount, scissorCount, stopCount, matrixOf, segmentsOf, coordinatesOf}
@@ -31,12 +34,18 @@ countRules d =
     (orElse (must (leb (stopCount d) stopLimit) stopCountAt)
     (must (eqb (getD d paddingAt 0) 0) paddingAt)))
 
+abbrev pub isPaint : ℕ → Bool
+isPaint type = eqb type paintColor || eqb type paintLinear
+
+abbrev pub isSpread : ℕ → Bool
+isSpread mode = leb spreadPad mode && leb mode spreadReflect
+
 unfoldable pub headRules : List ℕ → FieldFault
 headRules d =
     orElse (must (ltb (flagsOf d) flagsLimit) flagsAt)
     (orElse (must (isMode (blendOf d)) blendAt)
-    (orElse (must (eqb (paintTypeOf d) paintColor || eqb (paintTypeOf d) paintLinear) paintTypeAt)
-    (orElse (must (leb spreadPad (spreadOf d) && leb (spreadOf d) spreadReflect) spreadAt)
+    (orElse (must (isPaint (paintTypeOf d)) paintTypeAt)
+    (orElse (must (isSpread (spreadOf d)) spreadAt)
     (countRules d))))
 
 -- the matrix, the colour and the linear points, whatever the paint type
@@ -45,7 +54,7 @@ floatRules d =
     orElse (limited d linearLimit matrixAt 4)
     (orElse (limited d translationLimit translationAt 2)
     (orElse (numbers d colorAt 4)
-    (limited d linearPointLimit linearAt 4)))
+    (limited d linearPointLimit linearPointsAt 4)))
 
 -- unused scissors, used stops, unused stops
 unfoldable pub listRules : List ℕ → FieldFault
@@ -72,21 +81,28 @@ unfoldable pub drawRules : List ℕ → FieldFault
 drawRules d = orElse (headRules d) (orElse (floatRules d) (orElse (listRules d) (orElse (pathRules d) (restRules d))))
 
 -- ---- the fields of block 0, in order
+abbrev pub isSide : ℕ → Bool
+isSide n = leb 1 n && leb n sideLimit
+
 unfoldable pub headerRules : List ℕ → FieldFault
 headerRules s =
-    orElse (must (leb 1 (widthOf s) && leb (widthOf s) sideLimit) widthAt)
-    (orElse (must (leb 1 (heightOf s) && leb (heightOf s) sideLimit) heightAt)
+    orElse (must (isSide (widthOf s)) widthAt)
+    (orElse (must (isSide (heightOf s)) heightAt)
     (orElse (must (leb (countOf s) drawLimit) countAt)
     (orElse (must (eqb (u16At s reservedAt) 0) reservedAt)
     (unused s headerEnd payloadBytes))))
 
+-- a fault among fields as one of the scene, with a draw number and an offset in the file
+abbrev pub located : ℕ → ℕ → FieldFault → Fault
+located draw offset f = cond (eqb (f .code) acceptedCode) accepted (fault (f .code) draw offset)
+
 -- block 0 begins the file
 abbrev pub inHeader : FieldFault → Fault
-inHeader f = cond (eqb (f .code) 0) accepted (fault (f .code) noDraw (f .place))
+inHeader f = located noDraw (f .place) f
 
 -- a fault of draw i
 abbrev pub inDraw : ℕ → FieldFault → Fault
-inDraw i f = cond (eqb (f .code) 0) accepted (fault (f .code) i (fileOffset i (f .place)))
+inDraw i f = located i (fileOffset i (f .place)) f
 
 -- the checks of draw i's blocks
 unfoldable pub checkFaults : List ℕ → ℕ → Fault

@@ -1,26 +1,21 @@
 // Faults among fields: which comes first, and the rules that go over many places.
-//
-// Without its sign bit, a float's bit pattern grows with its size: at most 2^log is at most the pattern (127 + log) 2^23, and a NaN's is
-// above that of infinity.
+// Floats are judged by their bit patterns, which without their signs are in the order of the sizes.
 use crate::FieldFault;
+use codes::ACCEPTED;
+use codes::ILLEGAL_ARGUMENT;
+use fixed::floats::INFINITY;
+use fixed::floats::SIGN;
+use fixed::floats::power_pattern;
 use fixed::u32_at;
-use path::rules::ILLEGAL_ARGUMENT;
 ghost use mathlib.Core.Path.{_≡_};
 ghost use Prim.Native.Nat.{_+_, _*_, _%_, _^_, _≤_};
 ghost use lib.ListN.{length};
 ghost use lib.Dec.{leb};
 ghost use Rattle.fixed.specs.Little.{u32At};
+ghost use Rattle.fixed.specs.Patterns.{sizeBits};
 ghost use Rattle.scene.specs.Layout.{drawBytes};
 ghost use Rattle.scene.specs.Faults as Faults;
 ghost use Rattle.scene.specs.Faults.{orElse, firstOf};
-
-const SIGN: u32 = 0x80000000;
-
-const INFINITY: u32 = 0x7F800000;
-
-const EXPONENT_BIAS: u32 = 127;
-
-const EXPONENT_ONE: u32 = 0x800000;
 
 // A rule, and the place that must keep it.
 pub fn must(ok: bool, place: usize) -> FieldFault
@@ -28,7 +23,10 @@ pub fn must(ok: bool, place: usize) -> FieldFault
     ensures { λ r. ⌜ r ≡ Faults.must ok place ⌝ }
 {
     if ok {
-        FieldFault { code: 0, place: 0 }
+        FieldFault {
+            code: ACCEPTED,
+            place: 0,
+        }
     } else {
         FieldFault {
             code: ILLEGAL_ARGUMENT,
@@ -41,7 +39,7 @@ pub fn must(ok: bool, place: usize) -> FieldFault
 pub fn or_else(f: FieldFault, g: FieldFault) -> FieldFault
     ensures { λ r. ⌜ r ≡ orElse f g ⌝ }
 {
-    if f.code == 0 { g } else { f }
+    if f.code == ACCEPTED { g } else { f }
 }
 
 // Every byte from a place up to another is zero.
@@ -64,7 +62,7 @@ pub fn limited(d: &[u8], log: u32, at: usize, n: usize) -> FieldFault
     requires { ⌜ (log ≤ 15) × (at + 4 * n ≤ length (now d)) × (at + 4 * n ≤ drawBytes) ⌝ }
     ensures { λ r. ⌜ r ≡ Faults.limited (now (d .entry)) (2 ^ log) at n ⌝ }
 {
-    patterns(d, (EXPONENT_BIAS + log) * EXPONENT_ONE, at, n)
+    patterns(d, power_pattern(log), at, n)
 }
 
 // n floats from a place on are no NaNs.
@@ -78,7 +76,7 @@ pub fn numbers(d: &[u8], at: usize, n: usize) -> FieldFault
 // The bit patterns of n floats from a place on are at most a limit, without their signs.
 fn patterns(d: &[u8], limit: u32, at: usize, n: usize) -> FieldFault
     requires { ⌜ (at + 4 * n ≤ length (now d)) × (at + 4 * n ≤ drawBytes) ⌝ }
-    ensures { λ r. ⌜ r ≡ firstOf n (λ i. Faults.must (leb (u32At (now (d .entry)) (at + 4 * i) % 2147483648) limit) (at + 4 * i)) ⌝ }
+    ensures { λ r. ⌜ r ≡ firstOf n (λ i. Faults.must (leb (sizeBits (u32At (now (d .entry)) (at + 4 * i))) limit) (at + 4 * i)) ⌝ }
 {
     let mut i = 0;
     while i < n {

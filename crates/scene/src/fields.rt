@@ -4,7 +4,7 @@ use crate::layout::COLOR_AT;
 use crate::layout::COORDINATES_AT;
 use crate::layout::DRAW_BYTES;
 use crate::layout::FLAGS_AT;
-use crate::layout::LINEAR_AT;
+use crate::layout::LINEAR_POINTS_AT;
 use crate::layout::MATRIX_AT;
 use crate::layout::PAINT_LINEAR;
 use crate::layout::PAINT_TYPE_AT;
@@ -182,10 +182,10 @@ fn linear_points(d: &[u8]) -> LinearPoints
     ensures { λ r. ⌜ r ≡ linearOf (now (d .entry)) ⌝ }
 {
     LinearPoints {
-        x0: float_at(d, LINEAR_AT),
-        y0: float_at(d, LINEAR_AT + 4),
-        x1: float_at(d, LINEAR_AT + 8),
-        y1: float_at(d, LINEAR_AT + 12),
+        x0: float_at(d, LINEAR_POINTS_AT),
+        y0: float_at(d, LINEAR_POINTS_AT + 4),
+        x1: float_at(d, LINEAR_POINTS_AT + 8),
+        y1: float_at(d, LINEAR_POINTS_AT + 12),
     }
 }
 

@@ -17,11 +17,11 @@ use fixed::u16_at;
 ghost use mathlib.Core.Path.{_≡_};
 ghost use Prim.Native.Nat.{_≤_, _<_};
 ghost use lib.ListN.{length};
-ghost use mathlib.Core.Bool.{_&&_};
-ghost use lib.Dec.{leb};
-ghost use Rattle.scene.specs.Layout.{blockBytes, sideLimit};
+ghost use Rattle.fixed.specs.Little.{u16At};
+ghost use Rattle.scene.specs.Layout.{blockBytes, headerEnd};
 ghost use Rattle.scene.specs.Header.{widthOf, heightOf, countOf, backgroundOf};
-ghost use Rattle.scene.specs.Rules.{headerRules};
+ghost use Rattle.scene.specs.Faults as Faults;
+ghost use Rattle.scene.specs.Rules.{isSide, headerRules};
 
 // The picture's width, in pixels.
 pub fn width(s: &[u8]) -> usize
@@ -65,18 +65,28 @@ pub fn header_rules(s: &[u8]) -> FieldFault
     requires { ⌜ blockBytes ≤ length (now s) ⌝ }
     ensures { λ r. ⌜ r ≡ headerRules (now (s .entry)) ⌝ }
 {
-    let width = u16_at(s, WIDTH_AT);
-    let height = u16_at(s, HEIGHT_AT);
     let zeros = unused(s, HEADER_END, PAYLOAD_BYTES);
-    let reserved = or_else(must(u16_at(s, RESERVED_AT) == 0, RESERVED_AT), zeros);
-    let count = or_else(must(u16_at(s, COUNT_AT) <= DRAW_LIMIT, COUNT_AT), reserved);
-    let tall = or_else(must(is_side(height), HEIGHT_AT), count);
-    or_else(must(is_side(width), WIDTH_AT), tall)
+    let from_reserved = or_else(must(u16_at(s, RESERVED_AT) == 0, RESERVED_AT), zeros);
+    let from_count = or_else(
+        must(u16_at(s, COUNT_AT) <= DRAW_LIMIT, COUNT_AT),
+        from_reserved,
+    );
+    or_else(
+        side_rule(s, WIDTH_AT),
+        or_else(side_rule(s, HEIGHT_AT), from_count),
+    )
 }
 
 // A side of a picture: 1 to 1,024 pixels.
+fn side_rule(s: &[u8], at: usize) -> FieldFault
+    requires { ⌜ (blockBytes ≤ length (now s)) × (at < headerEnd) ⌝ }
+    ensures { λ r. ⌜ r ≡ Faults.must (isSide (u16At (now (s .entry)) at)) at ⌝ }
+{
+    must(is_side(u16_at(s, at)), at)
+}
+
 fn is_side(n: u32) -> bool
-    ensures { λ r. ⌜ r ≡ leb 1 n && leb n sideLimit ⌝ }
+    ensures { λ r. ⌜ r ≡ isSide n ⌝ }
 {
     1 <= n && n <= SIDE_LIMIT
 }

@@ -57,7 +57,7 @@ pub const TRANSLATION_AT: usize = 28;
 
 pub const COLOR_AT: usize = 36;
 
-pub const LINEAR_AT: usize = 52;
+pub const LINEAR_POINTS_AT: usize = 52;
 
 pub const SCISSORS_AT: usize = 68;
 
@@ -69,11 +69,11 @@ pub const COORDINATES_AT: usize = 900;
 
 pub const FLAGS_LIMIT: u32 = 8;
 
-pub const SEGMENT_LIMIT: usize = 128;
+pub const SEGMENT_LIMIT: u8 = 128;
 
-pub const SCISSOR_LIMIT: usize = 4;
+pub const SCISSOR_LIMIT: u8 = 4;
 
-pub const STOP_LIMIT: usize = 32;
+pub const STOP_LIMIT: u8 = 32;
 
 pub const SCISSOR_BYTES: usize = 16;
 
@@ -92,8 +92,3 @@ pub const PAINT_LINEAR: u32 = 0x1B01;
 pub const SPREAD_PAD: u32 = 0x1C00;
 
 pub const SPREAD_REFLECT: u32 = 0x1C02;
-
-// Codes.
-pub const BAD_CHECKSUM: u16 = 0xB001;
-
-pub const BAD_LENGTH: u16 = 0xB002;

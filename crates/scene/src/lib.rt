@@ -15,13 +15,13 @@ pub struct Checksum {
 
 // The first fault among fields: its code, 0 for none, and the place that the rules met, in the bytes that are judged.
 pub struct FieldFault {
-    pub code: u16,
+    pub code: u32,
     pub place: u16,
 }
 
 // A scene's first fault: its code, 0 for none, the draw number, and the offset in the file.
 pub struct Fault {
-    pub code: u16,
+    pub code: u32,
     pub draw: usize,
     pub offset: usize,
 }

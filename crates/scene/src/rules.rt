@@ -20,7 +20,7 @@ use crate::layout::COORDINATES_AT;
 use crate::layout::DRAW_BYTES;
 use crate::layout::FLAGS_AT;
 use crate::layout::FLAGS_LIMIT;
-use crate::layout::LINEAR_AT;
+use crate::layout::LINEAR_POINTS_AT;
 use crate::layout::MATRIX_AT;
 use crate::layout::PADDING_AT;
 use crate::layout::PAINT_COLOR;
@@ -44,21 +44,22 @@ use crate::layout::STOP_LIMIT;
 use crate::layout::STOPS_AT;
 use crate::layout::TRANSLATION_AT;
 use blend::factor::is_mode;
+use codes::ACCEPTED;
 use fixed::u16_at;
 use path::FixedMatrix;
 use path::rules::check;
 ghost use mathlib.Core.Path.{_≡_};
-ghost use mathlib.Core.Bool.{true, _&&_, _||_};
-ghost use Prim.Native.Nat.{_≤_};
-ghost use lib.ListN.{length};
-ghost use lib.Dec.{leb, eqb};
+ghost use mathlib.Core.Bool.{true};
+ghost use Prim.Native.Nat.{_≤_, _<_};
+ghost use lib.ListN.{getD, length};
+ghost use lib.Dec.{leb, ltb};
+ghost use Rattle.blend.specs.PorterDuff.{isMode};
 ghost use Rattle.path.specs.Matrices.{matrixInLimits};
-ghost use Rattle.paint.specs.Gradient.{spreadPad, spreadReflect};
-ghost use Rattle.paint.specs.Paints.{paintColor, paintLinear};
-ghost use Rattle.scene.specs.Layout.{drawBytes, segmentLimit, stopLimit};
-ghost use Rattle.scene.specs.Fields.{segmentCount, stopCount, matrixOf};
+ghost use Rattle.scene.specs.Layout.{drawBytes, segmentLimit, stopLimit, flagsAt, flagsLimit, blendAt, paintTypeAt, spreadAt};
+ghost use Rattle.scene.specs.Fields.{flagsOf, blendOf, paintTypeOf, spreadOf, segmentCount, stopCount, matrixOf};
+ghost use Rattle.scene.specs.Faults as Faults;
 ghost use Rattle.scene.specs.Faults.{orElse};
-ghost use Rattle.scene.specs.Rules.{headRules, countRules, floatRules, listRules, pathRules, restRules, drawRules};
+ghost use Rattle.scene.specs.Rules.{isPaint, isSpread, headRules, countRules, floatRules, listRules, pathRules, restRules, drawRules};
 
 // A draw judged by itself.
 pub fn draw_rules(d: &[u8]) -> FieldFault
@@ -66,15 +67,15 @@ pub fn draw_rules(d: &[u8]) -> FieldFault
     ensures { λ r. ⌜ r ≡ drawRules (now (d .entry)) ⌝ }
 {
     let head = head_rules(d);
-    if head.code != 0 {
+    if head.code != ACCEPTED {
         return head;
     }
     let floats = float_rules(d);
-    if floats.code != 0 {
+    if floats.code != ACCEPTED {
         return floats;
     }
     let lists = list_rules(d);
-    if lists.code != 0 {
+    if lists.code != ACCEPTED {
         return lists;
     }
     path_rules(d)
@@ -85,14 +86,38 @@ fn head_rules(d: &[u8]) -> FieldFault
     requires { ⌜ length (now d) ≡ drawBytes ⌝ }
     ensures { λ r. ⌜ r ≡ headRules (now (d .entry)) ⌝ }
 {
-    let counts = count_rules(d);
-    let from_spread = or_else(must(is_spread(spread(d)), SPREAD_AT), counts);
-    let from_paint = or_else(must(is_paint(paint_type(d)), PAINT_TYPE_AT), from_spread);
-    let from_blend = or_else(must(is_mode(blend_mode(d)), BLEND_AT), from_paint);
-    or_else(
-        must(u16_at(d, FLAGS_AT) < FLAGS_LIMIT, FLAGS_AT),
-        from_blend,
-    )
+    let from_spread = or_else(spread_rule(d), count_rules(d));
+    let from_paint = or_else(paint_rule(d), from_spread);
+    let from_blend = or_else(blend_rule(d), from_paint);
+    or_else(flags_rule(d), from_blend)
+}
+
+fn flags_rule(d: &[u8]) -> FieldFault
+    requires { ⌜ length (now d) ≡ drawBytes ⌝ }
+    ensures { λ r. ⌜ r ≡ Faults.must (ltb (flagsOf (now (d .entry))) flagsLimit) flagsAt ⌝ }
+{
+    must(u16_at(d, FLAGS_AT) < FLAGS_LIMIT, FLAGS_AT)
+}
+
+fn blend_rule(d: &[u8]) -> FieldFault
+    requires { ⌜ length (now d) ≡ drawBytes ⌝ }
+    ensures { λ r. ⌜ r ≡ Faults.must (isMode (blendOf (now (d .entry)))) blendAt ⌝ }
+{
+    must(is_mode(blend_mode(d)), BLEND_AT)
+}
+
+fn paint_rule(d: &[u8]) -> FieldFault
+    requires { ⌜ length (now d) ≡ drawBytes ⌝ }
+    ensures { λ r. ⌜ r ≡ Faults.must (isPaint (paintTypeOf (now (d .entry)))) paintTypeAt ⌝ }
+{
+    must(is_paint(paint_type(d)), PAINT_TYPE_AT)
+}
+
+fn spread_rule(d: &[u8]) -> FieldFault
+    requires { ⌜ length (now d) ≡ drawBytes ⌝ }
+    ensures { λ r. ⌜ r ≡ Faults.must (isSpread (spreadOf (now (d .entry)))) spreadAt ⌝ }
+{
+    must(is_spread(spread(d)), SPREAD_AT)
 }
 
 // The counts, and the zero after them.
@@ -101,25 +126,30 @@ fn count_rules(d: &[u8]) -> FieldFault
     ensures { λ r. ⌜ r ≡ countRules (now (d .entry)) ⌝ }
 {
     let padding = must(d[PADDING_AT] == 0, PADDING_AT);
-    let from_stops = or_else(must(stop_count(d) <= STOP_LIMIT, STOP_COUNT_AT), padding);
-    let from_scissors = or_else(
-        must(scissor_count(d) <= SCISSOR_LIMIT, SCISSOR_COUNT_AT),
-        from_stops,
-    );
+    let from_stops = or_else(count_rule(d, STOP_COUNT_AT, STOP_LIMIT), padding);
+    let from_scissors = or_else(count_rule(d, SCISSOR_COUNT_AT, SCISSOR_LIMIT), from_stops);
     or_else(
-        must(segment_count(d) <= SEGMENT_LIMIT, SEGMENT_COUNT_AT),
+        count_rule(d, SEGMENT_COUNT_AT, SEGMENT_LIMIT),
         from_scissors,
     )
 }
 
+// A byte that counts at most so many.
+fn count_rule(d: &[u8], at: usize, limit: u8) -> FieldFault
+    requires { ⌜ (length (now d) ≡ drawBytes) × (at < drawBytes) ⌝ }
+    ensures { λ r. ⌜ r ≡ Faults.must (leb (getD (now (d .entry)) at 0) limit) at ⌝ }
+{
+    must(d[at] <= limit, at)
+}
+
 fn is_paint(n: u32) -> bool
-    ensures { λ r. ⌜ r ≡ eqb n paintColor || eqb n paintLinear ⌝ }
+    ensures { λ r. ⌜ r ≡ isPaint n ⌝ }
 {
     n == PAINT_COLOR || n == PAINT_LINEAR
 }
 
 fn is_spread(n: u32) -> bool
-    ensures { λ r. ⌜ r ≡ leb spreadPad n && leb n spreadReflect ⌝ }
+    ensures { λ r. ⌜ r ≡ isSpread n ⌝ }
 {
     SPREAD_PAD <= n && n <= SPREAD_REFLECT
 }
@@ -129,7 +159,7 @@ fn float_rules(d: &[u8]) -> FieldFault
     requires { ⌜ length (now d) ≡ drawBytes ⌝ }
     ensures { λ r. ⌜ r ≡ floatRules (now (d .entry)) ⌝ }
 {
-    let points = limited(d, POINT_LIMIT_LOG, LINEAR_AT, 4);
+    let points = limited(d, POINT_LIMIT_LOG, LINEAR_POINTS_AT, 4);
     let from_color = or_else(numbers(d, COLOR_AT, 4), points);
     let from_translation = or_else(
         limited(d, FixedMatrix::TRANSLATION_LIMIT_LOG, TRANSLATION_AT, 2),
@@ -165,7 +195,7 @@ fn path_rules(d: &[u8]) -> FieldFault
     let n = segment_count(d);
     let checked = check(fixed_matrix(d), segments(d), coordinates(d), n);
     let fault = checked.fault;
-    if fault.code != 0 {
+    if fault.code != ACCEPTED {
         return FieldFault {
             code: fault.code,
             place: (SEGMENTS_AT + fault.segment) as u16,

@@ -5,14 +5,15 @@ use crate::blocks::block_right;
 use crate::blocks::read_draw;
 use crate::header::count;
 use crate::header::header_rules;
-use crate::layout::BAD_CHECKSUM;
-use crate::layout::BAD_LENGTH;
 use crate::layout::BLOCK_BYTES;
 use crate::layout::DRAW_BLOCKS;
 use crate::layout::DRAW_BYTES;
 use crate::layout::NO_DRAW;
 use crate::layout::PAYLOAD_BYTES;
 use crate::rules::draw_rules;
+use codes::ACCEPTED;
+use codes::BAD_CHECKSUM;
+use codes::BAD_LENGTH;
 ghost use mathlib.Core.Path.{_≡_};
 ghost use mathlib.Core.Bool.{_&&_};
 ghost use Prim.Native.Nat.{_+_, _*_, _%_, _≤_, _<_};
@@ -22,6 +23,7 @@ ghost use Rattle.scene.specs.Layout.{blockBytes, drawLimit};
 ghost use Rattle.scene.specs.Blocks.{blockOf};
 ghost use Rattle.scene.specs.Faults as Faults;
 ghost use Rattle.scene.specs.Faults.{firstFault};
+ghost use Rattle.scene.specs.Rules as Rules;
 ghost use Rattle.scene.specs.Rules.{inHeader, inDraw, checkFaults, drawFault, sceneFault};
 
 // The first fault of a scene.
@@ -35,7 +37,7 @@ pub fn verdict(s: &[u8]) -> Fault
         return fault(BAD_CHECKSUM, NO_DRAW, PAYLOAD_BYTES);
     }
     let header = header_rules(s);
-    if header.code != 0 {
+    if header.code != ACCEPTED {
         return in_header(header);
     }
     let n = count(s);
@@ -60,12 +62,12 @@ fn draw_faults(s: &[u8], n: usize) -> Fault
     let mut i = 0;
     while i < n {
         let f = draw_fault(s, i);
-        if f.code != 0 {
+        if f.code != ACCEPTED {
             return f;
         }
         i += 1;
     }
-    fault(0, NO_DRAW, 0)
+    fault(ACCEPTED, NO_DRAW, 0)
 }
 
 // Draw i: its four checks, then its own rules.
@@ -74,7 +76,7 @@ fn draw_fault(s: &[u8], i: usize) -> Fault
     ensures { λ r. ⌜ r ≡ drawFault (now (s .entry)) i ⌝ }
 {
     let checks = check_faults(s, i);
-    if checks.code != 0 {
+    if checks.code != ACCEPTED {
         return checks;
     }
     let mut d = [0u8; DRAW_BYTES];
@@ -96,18 +98,14 @@ fn check_faults(s: &[u8], i: usize) -> Fault
         }
         j += 1;
     }
-    fault(0, NO_DRAW, 0)
+    fault(ACCEPTED, NO_DRAW, 0)
 }
 
 // A fault of block 0, which begins the file.
 fn in_header(f: FieldFault) -> Fault
     ensures { λ r. ⌜ r ≡ inHeader f ⌝ }
 {
-    if f.code == 0 {
-        fault(0, NO_DRAW, 0)
-    } else {
-        fault(f.code, NO_DRAW, f.place as usize)
-    }
+    located(NO_DRAW, f.place as usize, f)
 }
 
 // A fault of draw i.
@@ -115,15 +113,23 @@ fn in_draw(i: usize, f: FieldFault) -> Fault
     requires { ⌜ i < drawLimit ⌝ }
     ensures { λ r. ⌜ r ≡ inDraw i f ⌝ }
 {
-    if f.code == 0 {
-        return fault(0, NO_DRAW, 0);
-    }
     let place = f.place as usize;
     let block = 1 + DRAW_BLOCKS * i + place / PAYLOAD_BYTES;
-    fault(f.code, i, BLOCK_BYTES * block + place % PAYLOAD_BYTES)
+    located(i, BLOCK_BYTES * block + place % PAYLOAD_BYTES, f)
 }
 
-fn fault(code: u16, draw: usize, offset: usize) -> Fault
+// A fault among fields as one of the scene.
+fn located(draw: usize, offset: usize, f: FieldFault) -> Fault
+    ensures { λ r. ⌜ r ≡ Rules.located draw offset f ⌝ }
+{
+    if f.code == ACCEPTED {
+        fault(ACCEPTED, NO_DRAW, 0)
+    } else {
+        fault(f.code, draw, offset)
+    }
+}
+
+fn fault(code: u32, draw: usize, offset: usize) -> Fault
     ensures { λ r. ⌜ r ≡ Faults.fault code draw offset ⌝ }
 {
     Fault { code, draw, offset }

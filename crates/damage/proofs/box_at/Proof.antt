@@ -14,42 +14,49 @@ use Rattle.engine.proofs.edges.draw_bounds.Reads as draw-bounds-reads
 use Rattle.scene.proofs.blocks.read_draw.Reads as read-draw-reads
 use Rattle.scene.proofs.header.count.Reads as count-reads
 
--- src/lib.rt:30:9
 count-requires : tie.Need-count-requires
 count-requires c κs = search needs
 
--- src/lib.rt:32:9
 returns : tie.Need-returns
 returns c =
-    let a = c .before .before .before .before .args in
+    let a = c .before .before .before .args in
     ((sym (box-past (a .width) (a .height) (a .s .now) (a .i) (omega (arith, c .before .count .ensures .0, c .if1 .taken))), (omega arith, omega arith)), refl)
 
--- src/lib.rt:39:5
+slice-aggregate-read-draw : tie.Need-slice-aggregate-read-draw
+slice-aggregate-read-draw c = search needs
+
 read-draw-requires : tie.Need-read-draw-requires
 read-draw-requires c κs = search needs
 
--- src/lib.rt:40:5
+slice-aggregate-draw-bounds : tie.Need-slice-aggregate-draw-bounds
+slice-aggregate-draw-bounds c = search needs
+
 draw-bounds-requires : tie.Need-draw-bounds-requires
 draw-bounds-requires c κs =
-    let a = c .before .before .before .before .before .before .before .before .before .before .args in
-    let r = c .before .before .before .before .read-draw in
-    let e = c .before .before .before .before .before .before .before .before .before .before .pre .0 .0 .draws (a .i) (omega (arith, c .before .before .before .before .before .before .before .count .ensures .0, c .before .before .before .before .before .before .if1 .left)) in
-    ((r .kept .1 .1 .0 ∙ c .before .before .before .before .before .before .before .before .before .before .pre .0 .1, subst AcceptedDraw (sym (r .ensures)) (accepted-draw (drawOf (a .s .now) (a .i)) e)), c .before .before .before .before .before .before .before .before .before .before .pre .1)
+    let after-read-draw = c .before .before .before in
+    let branch = after-read-draw .before .before in
+    let after-count = branch .before in
+    let entry = after-count .before .before in
+    let a = entry .args in
+    let e = entry .pre .0 .draws (a .i) (omega (arith, after-count .count .ensures .0, branch .if1 .left)) in (
+      (after-read-draw .read-draw .kept .1 .1 .0, subst AcceptedDraw (sym (after-read-draw .read-draw .ensures)) (accepted-draw (drawOf (a .s .now) (a .i)) e)),
+      entry .pre .1,
+    )
 
--- src/lib.rt:16:1
 same-length : tie.Need-same-length
 same-length c = search needs
 
--- src/lib.rt:16:1
-same-length-2 : tie.Need-same-length-2
-same-length-2 c = search needs
-
--- src/lib.rt:16:1
 returns-2 : tie.Need-returns-2
 returns-2 c =
-    let a = c .before .before .before .before .before .before .before .before .before .before .before .before .args in
-    let b = c .before .draw-bounds in
-    (box-answer (a .width) (a .height) (a .s .now) _ (a .i) (b .result) (omega (arith, c .before .before .before .before .before .before .before .before .before .count .ensures .0, c .before .before .before .before .before .before .before .before .if1 .left)) (c .before .before .before .before .before .before .read-draw .ensures) (b .ensures .0), b .ensures .1)
+    let after-read-draw = c .before .before .before .before .before in
+    let branch = after-read-draw .before .before in
+    let after-count = branch .before in
+    let a = after-count .before .before .args in
+    let b = c .before .draw-bounds in (
+      box-answer (a .width) (a .height) (a .s .now) _ (a .i) (b .result) (omega (arith, after-count .count .ensures .0, branch .if1 .left))
+          (after-read-draw .read-draw .ensures) (b .ensures .0),
+      b .ensures .1,
+    )
 
 pub box-at-spec : {M : Type 1} → statement M
 box-at-spec =
@@ -57,8 +64,9 @@ box-at-spec =
     (tie.spec
     count-requires
     returns
+    slice-aggregate-read-draw
     read-draw-requires
+    slice-aggregate-draw-bounds
     draw-bounds-requires
     same-length
-    same-length-2
     returns-2)

@@ -7,19 +7,15 @@ use Rattle.damage.proofs.same_background.Lts as lts
 use Rattle.damage.proofs.same_bytes.Reads as same-bytes-reads
 use Rattle.scene.proofs.header.background.Reads as background-reads
 
--- src/lib.rt:137:9
 background-requires : tie.Need-background-requires
 background-requires c κs = search needs
 
--- src/lib.rt:138:9
 background-requires-2 : tie.Need-background-requires-2
 background-requires-2 c κs = search needs
 
--- src/lib.rt:136:5
 same-bytes-requires : tie.Need-same-bytes-requires
 same-bytes-requires c κs = search needs
 
--- src/lib.rt:132:1
 returns : tie.Need-returns
 returns c =
     let a = c .before .before .before .before .before .args in

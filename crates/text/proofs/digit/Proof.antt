@@ -5,19 +5,15 @@ use Rattle.text.proofs.digit.Tie as tie
 use Rattle.text.proofs.digit.Reads as reads
 use Rattle.text.proofs.digit.Lts as lts
 
--- src/lib.rt:47:17
 add-result : tie.Need-add-result
 add-result c = search needs
 
--- src/lib.rt:47:33
 add-result-2 : tie.Need-add-result-2
 add-result-2 c = search needs
 
--- src/lib.rt:43:1
 returns : tie.Need-returns
 returns c = rw (lt-ltb _ _ (c .if1 .taken))
 
--- src/lib.rt:43:1
 returns-2 : tie.Need-returns-2
 returns-2 c = rw (le-ltb _ _ (c .if1 .left))
 

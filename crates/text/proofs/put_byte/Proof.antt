@@ -8,31 +8,24 @@ use Rattle.text.proofs.put_byte.Reads as reads
 use Rattle.text.proofs.put_byte.Lts as lts
 use Rattle.text.proofs.digit.Reads as digit-reads
 
--- src/lib.rt:44:14
 digit-requires : tie.Need-digit-requires
 digit-requires c κs = search needs
 
--- src/lib.rt:44:5
 slice-write-out : tie.Need-slice-write-out
 slice-write-out c = search needs
 
--- src/lib.rt:45:18
 digit-requires-2 : tie.Need-digit-requires-2
 digit-requires-2 c κs = search needs
 
--- src/lib.rt:45:9
 add-out : tie.Need-add-out
 add-out c = search needs
 
--- src/lib.rt:45:5
 slice-write-out-2 : tie.Need-slice-write-out-2
 slice-write-out-2 c = simp length-set (omega arith)
 
--- src/lib.rt:40:1
 same-length : tie.Need-same-length
 same-length c = simp length-set (omega arith)
 
--- src/lib.rt:40:1
 returns : tie.Need-returns
 returns c =
     let a = c .before .before .before .args in

@@ -5,15 +5,12 @@ use Rattle.text.proofs.separator.Tie as tie
 use Rattle.text.proofs.separator.Reads as reads
 use Rattle.text.proofs.separator.Lts as lts
 
--- src/lib.rt:54:8
 add-if1 : tie.Need-add-if1
 add-if1 c = search needs
 
--- src/lib.rt:50:1
 returns : tie.Need-returns
 returns c = rw (eq-eqb _ _ (c .if1 .taken))
 
--- src/lib.rt:50:1
 returns-2 : tie.Need-returns-2
 returns-2 c = rw (ne-eqb _ _ (c .if1 .left))
 

@@ -3,26 +3,23 @@ use mathlib.Core.Path.{_≡_, ap₂, _∙_}
 use Prim.Native.Nat.{ℕ, _-_, _≤_}
 use native.Mathlib.Omega.{arith}
 use lib.ListN.{length, getD}
-use Rattle.lists.specs.Lists.{over}
 use Rattle.color.specs.declared.Pixel.{Pixel}
-use Rattle.raster.specs.Surface.{run, pixelIn}
-use Rattle.raster.proofs.Pixels.{run-read}
+use Rattle.raster.specs.Surface.{pixelIn}
+use Rattle.raster.specs.Rows.{Stored}
+use Rattle.raster.proofs.Runs.{stored-none, stored-step, stored-all}
 use Rattle.blend.specs.PorterDuff.{composite}
-use Rattle.blend.proofs.Runs.{run-turn, run-end}
 use borrow.Author.Needs.{needs}
 use Rattle.blend.proofs.row.composite_row.Statement.{statement}
 use Rattle.blend.proofs.row.composite_row.Tie as tie
 
 abbrev Inv-loop : tie.InvT-loop
-Inv-loop mode coverage src row₀ i₀ row i =
-    (i ≤ length coverage) × (length row ≡ length row₀)
-    × (row ≡ over (run i (λ j. composite mode (getD coverage j 0) (pixelIn src j) (pixelIn row₀ j))) row₀)
+Inv-loop mode coverage src row₀ i₀ row i = (i ≤ length coverage) × Stored (λ j. composite mode (getD coverage j 0) (pixelIn src j) (pixelIn row₀ j)) row₀ i row
 
 abbrev μ-loop : tie.MeasureT-loop
 μ-loop mode coverage src row₀ i₀ row i = length coverage - i
 
 loop-holds : tie.Need-loop-holds Inv-loop μ-loop
-loop-holds c = search needs
+loop-holds c = (omega arith, stored-none _ _)
 
 shared-slice-read-composite-pixel : tie.Need-shared-slice-read-composite-pixel Inv-loop μ-loop
 shared-slice-read-composite-pixel c = search needs
@@ -35,8 +32,9 @@ pixel-requires-2 c κs = search needs
 
 composite-pixel-requires : tie.Need-composite-pixel-requires Inv-loop μ-loop
 composite-pixel-requires c κs =
-    let l = c .before .before .before .before .before in
-    l .before .before .before .before .pre .1 (l .loop .i) (omega arith)
+    let at-loop = c .before .before .before .before .before in
+    let entry = at-loop .before .before .before .before in
+    entry .pre .1 (at-loop .loop .i) (omega arith)
 
 put-pixel-requires : tie.Need-put-pixel-requires Inv-loop μ-loop
 put-pixel-requires c κs = search needs
@@ -49,17 +47,21 @@ loop-less c = search needs
 
 loop-again : tie.Need-loop-again Inv-loop μ-loop
 loop-again c =
-    let t = c .before .before .put-pixel in
-    let b = c .before .before .before .before in
-    let l = b .before .before .before .before .before .before .loop in
-    let start = b .before .before .before .before .before .before .before .before .before .before in
-    let a = start .args in
-    let f : ℕ → Pixel = λ j. composite (a .mode) (getD (a .coverage .now) j 0) (pixelIn (a .src .now) j) (pixelIn (a .row .now) j) in
-    let read = b .before .pixel2 .ensures ∙ run-read f (l .row) (a .row .now) (l .i) (l .inv .2) in (
+    let after-put-pixel = c .before .before in
+    let after-composite-pixel = after-put-pixel .before .before in
+    let after-pixel2 = after-composite-pixel .before in
+    let after-pixel = after-pixel2 .before .before in
+    let at-loop = after-pixel .before .before .before in
+    let entry = at-loop .before .before .before .before in
+    let a = entry .args in
+    let step : ℕ → Pixel → Pixel = λ j. composite (a .mode) (getD (a .coverage .now) j 0) (pixelIn (a .src .now) j) in
+    let made = after-composite-pixel .composite-pixel in
+    let put = after-put-pixel .put-pixel in
+    let l = at-loop .loop in (
       search needs,
-      omega (arith, t .kept .0),
-      run-turn f (l .row) (a .row .now) (t .last .0) (l .i) (b .composite-pixel .result) (t .ensures)
-          (b .composite-pixel .ensures ∙ ap₂ (composite (a .mode) (getD (a .coverage .now) (l .i) 0)) (b .before .before .before .pixel .ensures) read) (l .inv .2) (omega (arith, start .pre .0 .1)),
+      stored-step step (l .inv .1) (put .last .0) (made .result) (put .ensures)
+          (made .ensures ∙ ap₂ (composite (a .mode) (getD (a .coverage .now) (l .i) 0)) (after-pixel .pixel .ensures) (after-pixel2 .pixel2 .ensures))
+          (omega (arith, entry .pre .0 .1)),
     )
 
 same-length : tie.Need-same-length Inv-loop μ-loop
@@ -67,8 +69,8 @@ same-length c = search needs
 
 returns : tie.Need-returns Inv-loop μ-loop
 returns c =
-    let a = c .before .before .before .before .before .args in
-    run-end (λ j. composite (a .mode) (getD (a .coverage .now) j 0) (pixelIn (a .src .now) j) (pixelIn (a .row .now) j)) (c .before .loop .row) (a .row .now) (c .before .loop .i) (length (a .coverage .now)) (c .before .loop .inv .2) (omega arith) (omega arith)
+    let entry = c .before .before .before .before .before in
+    stored-all (c .before .loop .inv .1) (length (entry .args .coverage .now)) (omega arith) (entry .pre .0 .1)
 
 pub composite-row-spec : {M : Type 1} → statement M
 composite-row-spec =

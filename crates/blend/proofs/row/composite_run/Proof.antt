@@ -3,25 +3,26 @@ use mathlib.Core.Path.{_≡_, refl, _∙_}
 use Prim.Native.Nat.{ℕ, _-_, _*_, _≤_}
 use native.Mathlib.Omega.{arith}
 use lib.ListN.{length, getD}
-use Rattle.lists.specs.Lists.{over}
-use Rattle.lists.proofs.Laws.{part-length, emit-length}
+use Rattle.lists.proofs.Laws.{part-length}
 use Rattle.color.specs.declared.Pixel.{Pixel}
-use Rattle.raster.specs.Surface.{bytesOf, run, pixelIn}
+use Rattle.raster.specs.Surface.{pixelIn}
+use Rattle.raster.specs.Rows.{Stored}
+use Rattle.raster.proofs.Runs.{stored-none, stored-all}
 use Rattle.blend.specs.PorterDuff.{composite}
-use Rattle.blend.proofs.Runs.{span-turn, run-end}
+use Rattle.blend.proofs.Spans.{span-turn}
 use borrow.Author.Needs.{needs}
 use Rattle.blend.proofs.row.composite_run.Statement.{statement}
 use Rattle.blend.proofs.row.composite_run.Tie as tie
 
 abbrev Inv-loop : tie.InvT-loop
 Inv-loop mode coverage src row₀ i₀ row i =
-    (i ≤ length coverage) × (length row ≡ length row₀) × (row ≡ over (run i (λ j. composite mode (getD coverage j 0) src (pixelIn row₀ j))) row₀)
+    (i ≤ length coverage) × Stored (λ j. composite mode (getD coverage j 0) src (pixelIn row₀ j)) row₀ i row
 
 abbrev μ-loop : tie.MeasureT-loop
 μ-loop mode coverage src row₀ i₀ row i = length coverage - i
 
 loop-holds : tie.Need-loop-holds Inv-loop μ-loop
-loop-holds c = search needs
+loop-holds c = (omega arith, stored-none _ _)
 
 span-end-requires : tie.Need-span-end-requires Inv-loop μ-loop
 span-end-requires c κs = search needs
@@ -49,28 +50,36 @@ sub-composite-span-2 c = search needs
 
 composite-span-requires : tie.Need-composite-span-requires Inv-loop μ-loop
 composite-span-requires c κs =
-    let a = c .before .before .before .before .before .before .before .args in
-    let l = c .before .before .before .before .loop in
-    let e = c .before .before .span-end .result in
-    let t = c .before .before .span-end .ensures in (
-      c .before .before .before .before .before .before .before .pre .1 (l .i) (omega arith),
+    let after-span-end = c .before .before in
+    let at-loop = after-span-end .before .before in
+    let entry = at-loop .before .before .before in
+    let a = entry .args in
+    let l = at-loop .loop in
+    let e = after-span-end .span-end .result in
+    let t = after-span-end .span-end .ensures in (
+      entry .pre .1 (l .i) (omega arith),
       part-length (l .row) (l .i * 4) (e * 4) (omega (arith, t .some)) (omega (arith, t .within)) ∙ omega arith,
     )
 
 loop-less : tie.Need-loop-less Inv-loop μ-loop
-loop-less c = omega (arith, c .before .before .before .before .before .span-end .ensures .some)
+loop-less c =
+    let after-span-end = c .before .before .before .before .before in
+    omega (arith, after-span-end .span-end .ensures .some)
 
 loop-again : tie.Need-loop-again Inv-loop μ-loop
 loop-again c =
-    let a = c .before .before .before .before .before .before .before .before .before .before .args in
-    let l = c .before .before .before .before .before .before .before .loop in
-    let e = c .before .before .before .before .before .span-end .result in
-    let t = c .before .before .before .before .before .span-end .ensures in
-    let g : ℕ → Pixel → Pixel = λ k p. composite (a .mode) k (a .src) p in
-    let o = span-turn g (a .coverage .now) (l .row) (a .row .now) (c .before .before .composite-span .last .1 .1 .1 .0) (l .i) e t (omega arith) (l .inv .2) (c .before .before .composite-span .ensures) in (
-      t .within,
-      emit-length 4 (λ j. bytesOf (g (getD (a .coverage .now) j 0) (pixelIn (a .row .now) j))) _ (a .row .now) e (λ n. refl) o (omega (arith, t .within)),
-      o,
+    let after-composite-span = c .before .before in
+    let after-span-end = after-composite-span .before .before .before in
+    let at-loop = after-span-end .before .before in
+    let entry = at-loop .before .before .before in
+    let a = entry .args in
+    let l = at-loop .loop in
+    let span = after-span-end .span-end in
+    let call = after-composite-span .composite-span in (
+      span .ensures .within,
+      span-turn (λ k p. composite (a .mode) k (a .src) p) (a .coverage .now) (l .row) (a .row .now) (call .last .1 .1 .1 .0) (l .i) (span .result)
+          (span .ensures)
+          (omega arith) (l .inv .1) (call .ensures),
     )
 
 same-length : tie.Need-same-length Inv-loop μ-loop
@@ -78,8 +87,8 @@ same-length c = search needs
 
 returns : tie.Need-returns Inv-loop μ-loop
 returns c =
-    let a = c .before .before .before .before .args in
-    run-end (λ j. composite (a .mode) (getD (a .coverage .now) j 0) (a .src) (pixelIn (a .row .now) j)) (c .before .loop .row) (a .row .now) (c .before .loop .i) (length (a .coverage .now)) (c .before .loop .inv .2) (omega arith) (omega arith)
+    let entry = c .before .before .before .before in
+    stored-all (c .before .loop .inv .1) (length (entry .args .coverage .now)) (omega arith) (entry .pre .0)
 
 pub composite-run-spec : {M : Type 1} → statement M
 composite-run-spec =

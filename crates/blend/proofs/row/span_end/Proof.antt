@@ -3,7 +3,7 @@ use Prim.Native.Nat.{_-_}
 use lib.ListN.{length}
 use native.Mathlib.Omega.{arith}
 use Rattle.blend.specs.Spans.{Span}
-use Rattle.blend.proofs.Runs.{span-one, span-more}
+use Rattle.blend.proofs.Spans.{span-one, span-more}
 use borrow.Author.Needs.{needs}
 use Rattle.blend.proofs.row.span_end.Statement.{statement}
 use Rattle.blend.proofs.row.span_end.Tie as tie
@@ -21,13 +21,17 @@ add-e : tie.Need-add-e Inv-loop μ-loop
 add-e c = search needs
 
 loop-holds : tie.Need-loop-holds Inv-loop μ-loop
-loop-holds c = span-one (c .before .args .coverage .now) (c .before .args .i) (c .before .pre)
+loop-holds c =
+    let entry = c .before in
+    span-one (entry .args .coverage .now) (entry .args .i) (entry .pre)
 
 shared-slice-read-if1 : tie.Need-shared-slice-read-if1 Inv-loop μ-loop
 shared-slice-read-if1 c = search needs
 
 returns : tie.Need-returns Inv-loop μ-loop
-returns c = c .before .before .before .loop .inv
+returns c =
+    let at-loop = c .before .before .before in
+    at-loop .loop .inv
 
 add-e-2 : tie.Need-add-e-2 Inv-loop μ-loop
 add-e-2 c = search needs
@@ -37,8 +41,10 @@ loop-less c = search needs
 
 loop-again : tie.Need-loop-again Inv-loop μ-loop
 loop-again c =
-    let a = c .before .before .before .before .before .args in
-    let l = c .before .before .before .loop in
+    let at-loop = c .before .before .before in
+    let entry = at-loop .before .before in
+    let a = entry .args in
+    let l = at-loop .loop in
     span-more (a .coverage .now) (a .i) (l .e) (l .inv) (omega arith) (c .if1 .left)
 
 returns-2 : tie.Need-returns-2 Inv-loop μ-loop

@@ -6,15 +6,19 @@ use Rattle.blend.proofs.step.blend_pixel.Tie as tie
 returns : tie.Need-returns
 unfolding compositeByte
 returns c =
-    let f = c .before .before .before .before .before in
+    let after-stored-byte2 = c .before .before in
+    let after-stored-byte = after-stored-byte2 .before in
+    let after-blended-pixel = after-stored-byte .before in
+    let after-destination-factor = after-blended-pixel .before in
+    let after-source-factor = after-destination-factor .before in
     rw (
-      c .before .before .before .stored-byte .ensures,
-      c .before .before .stored-byte2 .ensures,
+      after-stored-byte .stored-byte .ensures,
+      after-stored-byte2 .stored-byte2 .ensures,
       c .before .stored-byte3 .ensures,
       c .stored-byte4 .ensures,
-      c .before .before .before .before .blended-pixel .ensures,
-      f .destination-factor .ensures,
-      f .before .source-factor .ensures,
+      after-blended-pixel .blended-pixel .ensures,
+      after-destination-factor .destination-factor .ensures,
+      after-source-factor .source-factor .ensures,
     )
 
 pub blend-pixel-spec : {M : Type 1} → statement M

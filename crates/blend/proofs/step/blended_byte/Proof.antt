@@ -35,8 +35,9 @@ cast-result c = omega (arith, source (c .before), c .least .ensures)
 
 returns : tie.Need-returns
 returns c =
-    let a = c .before .args in
-    by-shifts (a .s * a .fs) (a .d * a .fd) (c .least .result) (source (c .before)) (c .least .ensures)
+    let entry = c .before in
+    let a = entry .args in
+    by-shifts (a .s * a .fs) (a .d * a .fd) (c .least .result) (source entry) (c .least .ensures)
 
 pub blended-byte-spec : {M : Type 1} → statement M
 blended-byte-spec =

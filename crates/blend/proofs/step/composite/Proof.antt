@@ -7,12 +7,14 @@ use Rattle.blend.specs.PorterDuff.{isMode}
 use Rattle.blend.proofs.step.composite.Statement.{statement}
 use Rattle.blend.proofs.step.composite.Tie as tie
 
-accepted : (c : tie.Then1) → (isMode (c .before .before .args .mode) && leb (c .before .before .args .coverage) 16) ≡ true
+accepted : (c : tie.Then1)
+    → let entry = c .before .before in (isMode (entry .args .mode) && leb (entry .args .coverage) 16) ≡ true
 accepted c = sym (c .before .accepts .ensures) ∙ c .if1 .taken
 
 composite-pixel-requires : tie.Need-composite-pixel-requires
 composite-pixel-requires c κs =
-    let a = c .before .before .args in
+    let entry = c .before .before in
+    let a = entry .args in
     leb→le (a .coverage) 16 (both-right (isMode (a .mode)) (leb (a .coverage) 16) (subst T (sym (accepted c)) tt))
 
 returns : tie.Need-returns

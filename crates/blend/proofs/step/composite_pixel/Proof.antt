@@ -7,13 +7,18 @@ use Rattle.blend.proofs.step.composite_pixel.Statement.{statement}
 use Rattle.blend.proofs.step.composite_pixel.Tie as tie
 
 returns : tie.Need-returns
-returns c = rw (c .if1 .taken) (sym (uncovered-keeps (c .before .args .mode) (c .before .args .src) (c .before .args .dst)))
+returns c =
+    let entry = c .before in
+    rw (c .if1 .taken) (sym (uncovered-keeps (entry .args .mode) (entry .args .src) (entry .args .dst)))
 
 returns-2 : tie.Need-returns-2
 returns-2 c =
-    let a = c .before .before .before .before .args in
-    rw (c .before .before .if2 .taken)
-    (sym (hiding-replaces (a .mode) (a .src) (a .dst) (omega arith) (omega arith) (omega arith) (omega arith) (sym (c .before .hides .ensures) ∙ c .if3 .taken)))
+    let then2 = c .before .before in
+    let entry = then2 .before .before in
+    let a = entry .args in
+    rw (then2 .if2 .taken)
+    (sym (hiding-replaces (a .mode) (a .src) (a .dst) (omega arith) (omega arith) (omega arith) (omega arith) (sym (c .before .hides .ensures)
+    ∙ c .if3 .taken)))
 
 blend-pixel-requires : tie.Need-blend-pixel-requires
 blend-pixel-requires c κs = search needs

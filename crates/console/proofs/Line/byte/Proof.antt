@@ -6,20 +6,16 @@ use Rattle.console.proofs.Line.byte.Tie as tie
 use Rattle.console.proofs.Line.byte.Reads as reads
 use Rattle.console.proofs.Line.byte.Lts as lts
 
--- src/lines.rt:45:13
 returns : tie.Need-returns
 unfolding withByte
 returns c = rw (le-ltb _ _ (c .if1 .taken))
 
--- src/lines.rt:48:9
 element-write-next : tie.Need-element-write-next
 element-write-next c = search needs
 
--- src/lines.rt:49:23
 add-next : tie.Need-add-next
 add-next c = search needs
 
--- src/lines.rt:40:5
 returns-2 : tie.Need-returns-2
 unfolding withByte
 returns-2 c = rw (lt-ltb _ _ (c .if1 .left))

@@ -8,15 +8,12 @@ use Rattle.console.proofs.Line.word.Lts as lts
 use Rattle.console.proofs.lines.put_all.Reads as put-all-reads
 use Rattle.console.proofs.lines.space.Reads as space-reads
 
--- src/lines.rt:20:17
 space-requires : tie.Need-space-requires
 space-requires c κs = search needs
 
--- src/lines.rt:20:9
 put-all-requires : tie.Need-put-all-requires
 put-all-requires c κs = search needs
 
--- src/lines.rt:17:5
 returns : tie.Need-returns
 returns c = c .put-all .ensures ∙ ap (λ l. withBytes l (c .before .before .before .args .s .now)) (c .before .space .ensures)
 

@@ -25,34 +25,27 @@ put-more : (l : Line) (s : List ℕ) (i : ℕ) (m r : Line) → i < length s →
     → r ≡ withBytes l (take (i + 1) s)
 put-more l s i m r h e f = f ∙ rw (e, add-one, take-suc s i 0 h, foldl-append)
 
--- src/lines.rt:71:5
 loop-holds : tie.Need-loop-holds Inv-loop μ-loop
 loop-holds c = (search needs, refl)
 
--- src/lines.rt:72:26
 shared-slice-read-byte : tie.Need-shared-slice-read-byte Inv-loop μ-loop
 shared-slice-read-byte c = search needs
 
--- src/lines.rt:72:9
 byte-requires : tie.Need-byte-requires Inv-loop μ-loop
 byte-requires c κs = search needs
 
--- src/lines.rt:73:9
 add-i : tie.Need-add-i Inv-loop μ-loop
 add-i c = search needs
 
--- src/lines.rt:71:5
 loop-less : tie.Need-loop-less Inv-loop μ-loop
 loop-less c = search needs
 
--- src/lines.rt:71:5
 loop-again : tie.Need-loop-again Inv-loop μ-loop
 loop-again c =
     let l = c .before .before .before .loop in
     let a = c .before .before .before .before .before .args in
     (search needs, put-more (a .l) (a .s .now) (l .i) (l .next) (c .byte .result) (omega arith) (l .inv .1) (c .byte .ensures))
 
--- src/lines.rt:66:1
 returns : tie.Need-returns Inv-loop μ-loop
 returns c =
     let l = c .before .loop in

@@ -6,15 +6,12 @@ use Rattle.console.proofs.lines.space.Reads as reads
 use Rattle.console.proofs.lines.space.Lts as lts
 use Rattle.console.proofs.Line.byte.Reads as byte-reads
 
--- src/lines.rt:63:35
 byte-requires : tie.Need-byte-requires
 byte-requires c κs = search needs
 
--- src/lines.rt:60:1
 returns : tie.Need-returns
 returns c = rw (eq-eqb _ _ (c .if1 .taken))
 
--- src/lines.rt:60:1
 returns-2 : tie.Need-returns-2
 returns-2 c = rw (ne-eqb _ _ (c .before .if1 .left)) (c .byte .ensures)
 

@@ -18,73 +18,58 @@ abbrev μ-loop : tie.MeasureT-loop
 
 -- the row below y lies in the surface
 row-fits : (c : tie.In-loop Inv-loop μ-loop)
-    → (c .before .loop .y - 1) * (c .before .before .before .before .args .width * 4) + c .before .before .before .before .args .width * 4
-    ≤ length (c .before .before .before .before .args .surface .now)
+    → let entry = c .before .before .before .before in
+    (c .before .loop .y - 1) * (entry .args .width * 4) + entry .args .width * 4
+    ≤ length (entry .args .surface .now)
 row-fits c =
     let a = c .before .before .before .before .args in
     omega (arith, run-fits (a .width * 4) (c .before .loop .y - 1) (a .height) (omega arith))
 
--- src/pictures.rt:28:5
 loop-holds : tie.Need-loop-holds Inv-loop μ-loop
 loop-holds c = search needs
 
--- src/pictures.rt:29:9
 sub-y : tie.Need-sub-y Inv-loop μ-loop
 sub-y c = search needs
 
--- src/pictures.rt:30:23
 mul-at : tie.Need-mul-at Inv-loop μ-loop
 mul-at c = search needs
 
--- src/pictures.rt:30:18
 mul-at-2 : tie.Need-mul-at-2 Inv-loop μ-loop
 mul-at-2 c = omega (arith, row-fits c)
 
--- src/pictures.rt:31:22
 mul-e : tie.Need-mul-e Inv-loop μ-loop
 mul-e c = search needs
 
--- src/pictures.rt:31:17
 add-e : tie.Need-add-e Inv-loop μ-loop
 add-e c = omega (arith, row-fits c)
 
--- src/pictures.rt:32:23
 sub-print-row : tie.Need-sub-print-row Inv-loop μ-loop
 sub-print-row c = search needs
 
--- src/pictures.rt:32:23
 part-print-row-start : tie.Need-part-print-row-start Inv-loop μ-loop
 part-print-row-start c = search needs
 
--- src/pictures.rt:32:23
 part-print-row-end : tie.Need-part-print-row-end Inv-loop μ-loop
 part-print-row-end c = row-fits c
 
--- src/pictures.rt:32:13
 print-row-requires : tie.Need-print-row-requires Inv-loop μ-loop
 print-row-requires c κs = search needs
 
--- src/pictures.rt:33:13
 same-length : tie.Need-same-length Inv-loop μ-loop
 same-length c = search needs
 
--- src/pictures.rt:33:13
 returns : tie.Need-returns Inv-loop μ-loop
 returns c = search needs
 
--- src/pictures.rt:28:5
 loop-less : tie.Need-loop-less Inv-loop μ-loop
 loop-less c = search needs
 
--- src/pictures.rt:28:5
 loop-again : tie.Need-loop-again Inv-loop μ-loop
 loop-again c = search needs
 
--- src/pictures.rt:24:1
 same-length-2 : tie.Need-same-length-2 Inv-loop μ-loop
 same-length-2 c = search needs
 
--- src/pictures.rt:24:1
 returns-2 : tie.Need-returns-2 Inv-loop μ-loop
 returns-2 c = search needs
 

@@ -27,61 +27,54 @@ sized s w h l e f = rw (le-ltb (length s) blockBytes l, e, f)
 none-allowed : (r : Size) → r ≡ noSize → Allowed r
 none-allowed r e = rw e (omega arith, omega arith)
 
--- src/sizes.rt:12:9
 nothing-requires : tie.Need-nothing-requires
 nothing-requires c κs = search needs
 
--- src/sizes.rt:12:9
 returns : tie.Need-returns
 unfolding pictureSize
 returns c = (c .nothing .ensures ∙ rw (lt-ltb _ _ (c .before .if1 .taken)), none-allowed _ (c .nothing .ensures))
 
--- src/sizes.rt:14:9
 width-requires : tie.Need-width-requires
 width-requires c κs = search needs
 
--- src/sizes.rt:15:9
 height-requires : tie.Need-height-requires
 height-requires c κs = search needs
 
--- src/sizes.rt:19:16
 cast-if2 : tie.Need-cast-if2
 cast-if2 c = search needs
 
--- src/sizes.rt:17:9
 nothing-requires-2 : tie.Need-nothing-requires-2
 nothing-requires-2 c κs = search needs
 
--- src/sizes.rt:17:9
 returns-2 : tie.Need-returns-2
 returns-2 c =
+    let branch = c .before .before .before .before in
     let w = c .before .before .before .width in
     let h = c .before .before .height in
-    let e = sized _ (w .result) (h .result) (c .before .before .before .before .if1 .left) (w .ensures .0) (h .ensures .0) in
+    let e = sized _ (w .result) (h .result) (branch .if1 .left) (w .ensures .0) (h .ensures .0) in
     (c .nothing2 .ensures ∙ sym (e ∙ rw (lt-ltb _ _ (c .before .if2 .taken))), none-allowed _ (c .nothing2 .ensures))
 
--- src/sizes.rt:22:17
 cast-if3 : tie.Need-cast-if3
 cast-if3 c = search needs
 
--- src/sizes.rt:20:9
 nothing-requires-3 : tie.Need-nothing-requires-3
 nothing-requires-3 c κs = search needs
 
--- src/sizes.rt:20:9
 returns-3 : tie.Need-returns-3
 returns-3 c =
-    let w = c .before .before .before .before .width in
+    let after-width = c .before .before .before .before in
+    let branch = after-width .before in
+    let w = after-width .width in
     let h = c .before .before .before .height in
-    let e = sized _ (w .result) (h .result) (c .before .before .before .before .before .if1 .left) (w .ensures .0) (h .ensures .0) in
+    let e = sized _ (w .result) (h .result) (branch .if1 .left) (w .ensures .0) (h .ensures .0) in
     (c .nothing3 .ensures ∙ sym (e ∙ rw (le-ltb _ _ (c .before .before .if2 .left), lt-ltb _ _ (c .before .if3 .taken))), none-allowed _ (c .nothing3 .ensures))
 
--- src/sizes.rt:8:1
 returns-4 : tie.Need-returns-4
 returns-4 c =
+    let branch = c .before .before .before .before in
     let w = c .before .before .before .width in
     let h = c .before .before .height in
-    let e = sized _ (w .result) (h .result) (c .before .before .before .before .if1 .left) (w .ensures .0) (h .ensures .0) in
+    let e = sized _ (w .result) (h .result) (branch .if1 .left) (w .ensures .0) (h .ensures .0) in
     (sym (e ∙ rw (le-ltb _ _ (c .before .if2 .left), le-ltb _ _ (c .if3 .left))), (c .before .if2 .left, c .if3 .left))
 
 pub picture-size-spec : {M : Type 1} → statement M

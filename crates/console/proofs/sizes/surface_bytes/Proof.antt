@@ -13,17 +13,18 @@ use Rattle.console.proofs.sizes.surface_bytes.Lts as lts
 most : (r : Size) → Allowed r → r .height * (r .width * 4) ≤ 4194304
 most r h = let w : r .width * 4 ≤ 4096 = omega (arith, h .0) in mul-le-mul (h .1) w
 
--- src/sizes.rt:43:20
 mul-result : tie.Need-mul-result
 mul-result c = search needs
 
--- src/sizes.rt:43:5
 mul-result-2 : tie.Need-mul-result-2
-mul-result-2 c = omega (arith, most (c .before .before .args .size) (c .before .before .pre))
+mul-result-2 c =
+    let entry = c .before .before in
+    omega (arith, most (entry .args .size) (entry .pre))
 
--- src/sizes.rt:39:1
 returns : tie.Need-returns
-returns c = (refl, most (c .before .before .args .size) (c .before .before .pre))
+returns c =
+    let entry = c .before .before in
+    (refl, most (entry .args .size) (entry .pre))
 
 pub surface-bytes-spec : {M : Type 1} → statement M
 surface-bytes-spec = tie.close (tie.spec mul-result mul-result-2 returns)

@@ -4,7 +4,7 @@ use Prim.Native.Nat.{_*_, _≤_}
 use native.Mathlib.Omega.{arith}
 use lib.IntN.{ℤ, pos, natAbs}
 use lib.Signed.{_<ℤ_}
-use Rattle.coverage.specs.Engine.{ceilDiv, place, edge}
+use Rattle.coverage.specs.Scanline.{ceilDiv, place, edge}
 use Rattle.coverage.proofs.Crossing.{rise-of, crossing-is}
 use mir.Syntax.{w32, w64}
 use Rattle.fixed.proofs.Means.{Num, need, keep, small, lit, add, sub, mul}

@@ -86,12 +86,14 @@ cast-result c =
     let s = c .before .before in
     let a = s .args in
     let e = top-is (a .n) (a .d) (a .c) (a .k) (s .pre .0) (past (c .before)) in
-    subst (λ (z : ℤ). (T (nonNeg z)) × Fits w64 (natAbs z)) (sym (keep w64 (top s) tt .same)) (subst (λ (z : ℤ). T (nonNeg z)) (sym e) tt, omega (arith, top s .size .size))
+    subst (λ (z : ℤ). (T (nonNeg z)) × Fits w64 (natAbs z)) (sym (keep w64 (top s) tt .same))
+    (subst (λ (z : ℤ). T (nonNeg z)) (sym e) tt, omega (arith, top s .size .size))
 
 cast-result-2 : tie.Need-cast-result-2
 cast-result-2 c =
     let s = c .before .before in
-    subst (λ (z : ℤ). (T (nonNeg z)) × Fits w64 (natAbs z)) (sym (d s .same)) (subst (λ (z : ℤ). T (nonNeg z)) (sym (is-positive (s .pre .0))) tt, omega (arith, s .pre .1))
+    subst (λ (z : ℤ). (T (nonNeg z)) × Fits w64 (natAbs z)) (sym (d s .same))
+    (subst (λ (z : ℤ). T (nonNeg z)) (sym (is-positive (s .pre .0))) tt, omega (arith, s .pre .1))
 
 div-result : tie.Need-div-result
 div-result c =

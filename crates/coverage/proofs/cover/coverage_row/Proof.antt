@@ -9,7 +9,7 @@ use Rattle.lists.specs.Lists.{tab, over}
 use Rattle.lists.proofs.Laws.{tab-length, tab-all, over-length, part-length}
 use Rattle.path.specs.Stored.{edgesOf}
 use Rattle.coverage.specs.Winding.{coverage}
-use Rattle.coverage.specs.Engine.{Ready}
+use Rattle.coverage.specs.Scanline.{Outlined}
 use Rattle.coverage.proofs.Window.{kOf, row-turn}
 use borrow.Author.Needs.{needs}
 use Rattle.coverage.proofs.cover.coverage_row.Statement.{statement}
@@ -54,26 +54,35 @@ part-coverage-run-end c = search needs
 
 coverage-run-requires : tie.Need-coverage-run-requires Inv-loop μ-loop
 coverage-run-requires c κs =
-    let s = c .before .before .before .before .before .before .before .before .before .before in
-    let l = c .before .before .before .before .loop in
+    let turn = c .before .before .before .before in
+    let entry = turn .before .before .before .before .before .before in
+    let l = turn .loop in
     let e = c .before .before .least .result in
-    let w = part-length (l .cover) (l .i) e (omega arith) (omega (arith, l .inv .2)) in
-    (subst (λ (t : List ℤ). Ready t (s .args .n)) (sym (l .inv .1)) (s .pre .0), (s .pre .1 .0, omega (arith, w), omega (arith, w, ap length (l .inv .1), s .pre .0 .few, s .pre .0 .room)))
+    let w = part-length (l .cover) (l .i) e (omega arith) (omega (arith, l .inv .2)) in (
+      subst (λ (t : List ℤ). Outlined t (entry .args .n)) (sym (l .inv .1)) (entry .pre .0),
+      (entry .pre .1 .0, omega (arith, w), omega (arith, w, ap length (l .inv .1), entry .pre .0 .few, entry .pre .0 .room)),
+    )
 
 loop-less : tie.Need-loop-less Inv-loop μ-loop
 loop-less c = search needs
 
 loop-again : tie.Need-loop-again Inv-loop μ-loop
 loop-again c =
-    let s = c .before .before .before .before .before .before .before .before .before .before .before .before .before .before in
-    let a = s .args in
-    let l = c .before .before .before .before .before .before .before .before .loop in
-    let d = c .before .before .before .before .before .before .before .before .before .before .before .zero-counts .last .0 in
-    let e = c .before .before .before .before .before .before .least .result in
+    let after-least = c .before .before .before .before .before .before in
+    let turn = after-least .before .before in
+    let after-zero-counts = turn .before .before .before in
+    let entry = after-zero-counts .before .before .before in
+    let a = entry .args in
+    let l = turn .loop in
+    let d = after-zero-counts .zero-counts .last .0 in
+    let e = after-least .least .result in
     let g = c .before .before .before .coverage-run in
     let es = edgesOf (a .scratch .now) (a .n) in
-    let o = row-turn es (a .nonzero) (a .x) (a .y) (l .cover) d (g .last .1 .1 .1 .1 .0) (l .i) e (omega arith) (omega (arith, l .inv .2)) (l .inv .2) (l .inv .3)
-    (g .ensures .1 ∙ ap (λ (t : List ℤ). tab (length (take (e - l .i) (drop (l .i) (l .cover)))) (λ j. coverage (edgesOf t (a .n)) (a .nonzero) (a .x + l .i + j) (a .y))) (l .inv .1)) in (
+    let o = row-turn es (a .nonzero) (a .x) (a .y) (l .cover) d (g .last .1 .1 .1 .1 .0) (l .i) e (omega arith) (omega (arith, l .inv .2)) (l .inv .2)
+    (l .inv .3)
+    (g .ensures .1
+    ∙ ap (λ (t : List ℤ). tab (length (take (e - l .i) (drop (l .i) (l .cover)))) (λ j. coverage (edgesOf t (a .n)) (a .nonzero) (a .x + l .i + j) (a .y)))
+    (l .inv .1)) in (
       omega (arith, l .inv .2),
       g .ensures .0 ∙ l .inv .1,
       ap length o ∙ over-length (tab e (kOf es (a .nonzero) (a .x) (a .y))) d (omega (arith, tab-length e (kOf es (a .nonzero) (a .x) (a .y)), l .inv .2)),
@@ -91,8 +100,11 @@ returns c =
     let a = c .before .before .before .before .before .before .before .args in
     let l = c .before .loop in
     let z = c .before .before .before .before .zero-counts in
-    let k : length (z .last .0) ≡ length (a .cover .now) = z .kept .0 in
-    (l .inv .1, tab-all (kOf (edgesOf (a .scratch .now) (a .n)) (a .nonzero) (a .x) (a .y)) (l .cover) (z .last .0) (l .i) (length (a .cover .now)) (l .inv .3) (omega (arith, k)) (sym k))
+    let k : length (z .last .0) ≡ length (a .cover .now) = z .kept .0 in (
+      l .inv .1,
+      tab-all (kOf (edgesOf (a .scratch .now) (a .n)) (a .nonzero) (a .x) (a .y)) (l .cover) (z .last .0) (l .i) (length (a .cover .now)) (l .inv .3)
+          (omega (arith, k)) (sym k),
+    )
 
 pub coverage-row-spec : {M : Type 1} → statement M
 coverage-row-spec =

@@ -8,7 +8,7 @@ use lib.IntN.{ℤ}
 use Rattle.lists.specs.Lists.{tab}
 use Rattle.lists.proofs.Laws.{tab-length}
 use Rattle.path.specs.Stored.{edgeAt, edgesOf}
-use Rattle.coverage.specs.Engine.{at, laid, zeros, pixelOf, Marked, Tame}
+use Rattle.coverage.specs.Scanline.{at, laid, zeros, pixelOf, Marked, Tame}
 use Rattle.coverage.proofs.Zeros.{clear-laid}
 use Rattle.coverage.proofs.Window.{sumsOf, sums-long, sums-marked, sums-tame, window-covers, part-is, given-back}
 use borrow.Author.Needs.{needs}
@@ -17,14 +17,16 @@ use Rattle.coverage.proofs.cover.coverage_run.Tie as tie
 
 -- the part that is lent
 lent : (c : tie.After-add-edges)
-    → take (c .before .before .before .before .args .n * 4 + length (c .before .before .before .before .args .cover .now) * 16 - c .before .before .before .before .args .n * 4) (drop (c .before .before .before .before .args .n * 4) (c .add-edges .last .0))
-    ≡ sumsOf (4 * c .before .before .before .before .args .x) (length (c .before .before .before .before .args .cover .now)) (c .before .before .before .before .args .y) (edgesOf (c .before .before .before .before .args .scratch .now) (c .before .before .before .before .args .n))
+    → let entry = c .before .before .before .before in
+    take (entry .args .n * 4 + length (entry .args .cover .now) * 16 - entry .args .n * 4) (drop (entry .args .n * 4) (c .add-edges .last .0))
+    ≡ sumsOf (4 * entry .args .x) (length (entry .args .cover .now)) (entry .args .y) (edgesOf (entry .args .scratch .now) (entry .args .n))
 lent c =
-    let s = c .before .before .before .before in
-    let a = s .args in
+    let entry = c .before .before .before .before in
+    let a = entry .args in
     let w = length (a .cover .now) in
     let es = edgesOf (a .scratch .now) (a .n) in
-    part-is (a .n * 4) (w * 16) (a .scratch .now) (sumsOf (4 * a .x) w (a .y) es) (c .add-edges .last .0) (s .pre .1 .2) (sums-long (4 * a .x) w (a .y) es) (c .add-edges .ensures .0)
+    part-is (a .n * 4) (w * 16) (a .scratch .now) (sumsOf (4 * a .x) w (a .y) es) (c .add-edges .last .0) (entry .pre .1 .2) (sums-long (4 * a .x) w (a .y) es)
+    (c .add-edges .ensures .0)
 
 mul-at : tie.Need-mul-at
 mul-at c = search needs
@@ -41,8 +43,13 @@ mul-add-edges c = search needs
 add-edges-requires : tie.Need-add-edges-requires
 add-edges-requires c κs =
     let s = c .before .before .before in
-    let p = s .pre .0 in
-    ((s .pre .1 .0, omega (arith, s .pre .1 .1)), (record { few = p .few; room = s .pre .1 .2; small = p .small }, clear-laid (s .args .scratch .now) (s .args .n) (length (s .args .cover .now) * 16) (s .pre .1 .2) (p .clear)))
+    let p = s .pre .0 in (
+      (s .pre .1 .0, omega (arith, s .pre .1 .1)),
+      (
+        record { few = p .few; room = s .pre .1 .2; small = p .small },
+        clear-laid (s .args .scratch .now) (s .args .n) (length (s .args .cover .now) * 16) (s .pre .1 .2) (p .clear),
+      ),
+    )
 
 mul-take-row : tie.Need-mul-take-row
 mul-take-row c = search needs
@@ -58,17 +65,22 @@ part-take-row-end c = search needs
 
 take-row-requires : tie.Need-take-row-requires
 take-row-requires c κs =
-    let s = c .before .before .before .before .before .before .before .before .before in
-    let a = s .args in
-    let g = c .before .before .before .before .before .add-edges in
+    let after-add-edges = c .before .before .before .before .before in
+    let entry = after-add-edges .before .before .before .before in
+    let a = entry .args in
+    let g = after-add-edges .add-edges in
     let w = length (a .cover .now) in
     let es = edgesOf (a .scratch .now) (a .n) in
-    let o = lent (c .before .before .before .before .before) in
+    let o = lent (after-add-edges) in
     let k : length (g .last .1 .1 .1 .1 .0) ≡ w = g .kept .1 .1 .1 .1 .0 in
-    let few : length es ≤ 1000000 = omega (arith, tab-length (a .n) (edgeAt (a .scratch .now)), s .pre .0 .few) in
-    subst (λ (u : List ℤ). (length u ≡ length (g .last .1 .1 .1 .1 .0) * 16) × (Marked (g .last .1 .1 .1 .1 .0) (at u) × Tame u (length (g .last .1 .1 .1 .1 .0) * 4))) (sym o) (
+    let few : length es ≤ 1000000 = omega (arith, tab-length (a .n) (edgeAt (a .scratch .now)), entry .pre .0 .few) in
+    subst (λ (u : List ℤ). (length u ≡ length (g .last .1 .1 .1 .1 .0) * 16)
+    × (Marked (g .last .1 .1 .1 .1 .0) (at u) × Tame u (length (g .last .1 .1 .1 .1 .0) * 4))) (sym o) (
       sums-long (4 * a .x) w (a .y) es ∙ ap (λ (n : ℕ). n * 16) (sym k),
-      (sums-marked (4 * a .x) w (a .y) es (g .last .1 .1 .1 .1 .0) k (g .ensures .1), subst (λ (n : ℕ). Tame (sumsOf (4 * a .x) w (a .y) es) (n * 4)) (sym k) (sums-tame (4 * a .x) w (a .y) es few)),
+      (
+        sums-marked (4 * a .x) w (a .y) es (g .last .1 .1 .1 .1 .0) k (g .ensures .1),
+        subst (λ (n : ℕ). Tame (sumsOf (4 * a .x) w (a .y) es) (n * 4)) (sym k) (sums-tame (4 * a .x) w (a .y) es few),
+      ),
     )
 
 same-length : tie.Need-same-length
@@ -79,18 +91,20 @@ same-length-2 c = search needs
 
 returns : tie.Need-returns
 returns c =
-    let s = c .before .before .before .before .before .before .before .before .before .before .before .before .before in
-    let a = s .args in
-    let b = c .before .before .before .before .before .before .before .before .before in
+    let after-add-edges = c .before .before .before .before .before .before .before .before .before in
+    let entry = after-add-edges .before .before .before .before in
+    let a = entry .args in
     let t = c .before .before .before .take-row in
     let w = length (a .cover .now) in
     let es = edgesOf (a .scratch .now) (a .n) in
     let q = sumsOf (4 * a .x) w (a .y) es in
-    let k : length (b .add-edges .last .1 .1 .1 .1 .0) ≡ w = b .add-edges .kept .1 .1 .1 .1 .0 in (
-      given-back (a .n * 4) (w * 16) (a .scratch .now) q (b .add-edges .last .0) (s .pre .1 .2) (sums-long (4 * a .x) w (a .y) es) (b .add-edges .ensures .0) (t .last .0)
-          (clear-laid (a .scratch .now) (a .n) (w * 16) (s .pre .1 .2) (s .pre .0 .clear)
-          ∙ ap (laid (a .n * 4) (w * 16) (a .scratch .now)) (sym (t .ensures .0 ∙ ap zeros (ap length (lent b) ∙ sums-long (4 * a .x) w (a .y) es)))),
-      t .ensures .1 ∙ ap₂ (λ (n : ℕ) (u : List ℤ). tab n (pixelOf (a .nonzero) u)) k (lent b) ∙ window-covers (a .x) w (a .y) es (a .nonzero),
+    let k : length (after-add-edges .add-edges .last .1 .1 .1 .1 .0) ≡ w = after-add-edges .add-edges .kept .1 .1 .1 .1 .0 in (
+      given-back (a .n * 4) (w * 16) (a .scratch .now) q (after-add-edges .add-edges .last .0) (entry .pre .1 .2) (sums-long (4 * a .x) w (a .y) es)
+          (after-add-edges .add-edges .ensures .0) (t .last .0)
+          (clear-laid (a .scratch .now) (a .n) (w * 16) (entry .pre .1 .2) (entry .pre .0 .clear)
+          ∙ ap (laid (a .n * 4) (w * 16) (a .scratch .now))
+          (sym (t .ensures .0 ∙ ap zeros (ap length (lent after-add-edges) ∙ sums-long (4 * a .x) w (a .y) es)))),
+      t .ensures .1 ∙ ap₂ (λ (n : ℕ) (u : List ℤ). tab n (pixelOf (a .nonzero) u)) k (lent after-add-edges) ∙ window-covers (a .x) w (a .y) es (a .nonzero),
     )
 
 pub coverage-run-spec : {M : Type 1} → statement M

@@ -12,7 +12,7 @@ use lib.IntN.{ℤ, natAbs}
 use Rattle.lists.specs.Lists.{tab}
 use Rattle.path.specs.declared.Edge.{Edge}
 use Rattle.path.specs.Stored.{edgeAt, edgesOf, Small}
-use Rattle.coverage.specs.Engine.{laid, missed, bumped, startOf, Marked}
+use Rattle.coverage.specs.Scanline.{laid, missed, bumped, startOf, Marked}
 use Rattle.coverage.specs.Winding.{sample}
 use Rattle.coverage.proofs.Begin.{clean}
 use Rattle.coverage.proofs.Starts.{partly, by-small}
@@ -26,7 +26,8 @@ Inv-loop scratch₀ n i c y cover₀ e y0 y1 base k r₀ scratch cover r =
     (r ≤ 4)
     × (length scratch ≡ length scratch₀)
     × (length cover ≡ length cover₀)
-    × (scratch ≡ laid (n * 4) (length cover₀ * 16) scratch₀ (tab (length cover₀ * 16) (partly c (length cover₀ * 4) y (edgesOf scratch₀ i) (edgeAt scratch₀ i) r)))
+    × (scratch ≡ laid (n * 4) (length cover₀ * 16) scratch₀
+    (tab (length cover₀ * 16) (partly c (length cover₀ * 4) y (edgesOf scratch₀ i) (edgeAt scratch₀ i) r)))
     × Marked cover (partly c (length cover₀ * 4) y (edgesOf scratch₀ i) (edgeAt scratch₀ i) r)
 
 abbrev μ-loop : tie.MeasureT-loop
@@ -38,28 +39,36 @@ line y r h k = toZ-pos w32 (omega arith)
 
 -- what the test tells of the edge, and what begins
 tested : (c : tie.After-misses Inv-loop μ-loop)
-    → c .misses .result ≡ missed (edgeAt (c .before .before .before .before .before .before .args .scratch .now) (c .before .before .before .before .before .before .args .i) .y0) (edgeAt (c .before .before .before .before .before .before .args .scratch .now) (c .before .before .before .before .before .before .args .i) .y1) (c .before .before .before .before .before .before .args .y)
+    → let entry = c .before .before .before .before .before .before in
+    c .misses .result
+    ≡ missed (edgeAt (entry .args .scratch .now) (entry .args .i) .y0) (edgeAt (entry .args .scratch .now) (entry .args .i) .y1) (entry .args .y)
 tested c =
-    let s = c .before .before .before .before .before .before in
-    let e = s .pre .1 .0 .small (s .args .i) (omega arith) in
+    let entry = c .before .before .before .before .before .before in
+    let e = entry .pre .1 .0 .small (entry .args .i) (omega arith) in
     let o = c .before .before .before .load .ensures in
-    let d = edgeAt (s .args .scratch .now) (s .args .i) in
+    let d = edgeAt (entry .args .scratch .now) (entry .args .i) in
     c .misses .ensures
-    ∙ ap₂ (λ (a b : ℤ). missed a b (s .args .y)) (ap (λ (f : Edge). toZ w32 (ofZ w32 (f .y0))) o ∙ clean (d .y0) (e .y0)) (ap (λ (f : Edge). toZ w32 (ofZ w32 (f .y1))) o ∙ clean (d .y1) (e .y1))
+    ∙ ap₂ (λ (a b : ℤ). missed a b (entry .args .y)) (ap (λ (f : Edge). toZ w32 (ofZ w32 (f .y0))) o ∙ clean (d .y0) (e .y0))
+    (ap (λ (f : Edge). toZ w32 (ofZ w32 (f .y1))) o ∙ clean (d .y1) (e .y1))
 
 begun-at : (c : tie.After-start Inv-loop μ-loop)
-    → c .start .result ≡ startOf (c .before .before .before .before .before .before .before .before .before .before .args .c) (length (c .before .before .before .before .before .before .before .before .before .before .args .cover .now) * 4) (sample (4 * c .before .before .before .before .before .before .before .before .before .before .args .y + c .before .before .loop .r)) (edgeAt (c .before .before .before .before .before .before .before .before .before .before .args .scratch .now) (c .before .before .before .before .before .before .before .before .before .before .args .i))
+    → let entry = c .before .before .before .before .before .before .before .before .before .before in
+    c .start .result
+    ≡ startOf (entry .args .c) (length (entry .args .cover .now) * 4) (sample (4 * entry .args .y + c .before .before .loop .r))
+    (edgeAt (entry .args .scratch .now) (entry .args .i))
 begun-at c =
-    let s = c .before .before .before .before .before .before .before .before .before .before in
-    let a = s .args in
+    let after-load = c .before .before .before .before .before .before .before in
+    let entry = after-load .before .before .before in
+    let a = entry .args in
     let l = c .before .before .loop in
-    c .start .ensures ∙ ap₂ (startOf (a .c) (length (a .cover .now) * 4)) (line (a .y) (l .r) (omega arith) (omega arith)) (c .before .before .before .before .before .before .before .load .ensures)
+    c .start .ensures ∙ ap₂ (startOf (a .c) (length (a .cover .now) * 4)) (line (a .y) (l .r) (omega arith) (omega arith)) (after-load .load .ensures)
 
 -- what is added, as the local holds it
 by-read : (c : tie.After-start Inv-loop μ-loop) → (natAbs (c .start .result .by) ≤ 1) × (toZ w32 (ofZ w32 (c .start .result .by)) ≡ c .start .result .by)
 by-read c =
     let a = c .before .before .before .before .before .before .before .before .before .before .args in
-    let h = by-small (a .c) (length (a .cover .now) * 4) (sample (4 * a .y + c .before .before .loop .r)) (edgeAt (a .scratch .now) (a .i)) (c .start .result) (begun-at c) in
+    let h = by-small (a .c) (length (a .cover .now) * 4) (sample (4 * a .y + c .before .before .loop .r)) (edgeAt (a .scratch .now) (a .i)) (c .start .result)
+    (begun-at c) in
     (h, clean (c .start .result .by) (omega (arith, h)))
 
 load-requires : tie.Need-load-requires Inv-loop μ-loop
@@ -73,11 +82,13 @@ same-length c = search needs
 
 returns : tie.Need-returns Inv-loop μ-loop
 returns c =
-    let s = c .before .before .before .before .before .before .before in
-    let a = s .args in
+    let entry = c .before .before .before .before .before .before .before in
+    let a = entry .args in
     let w = length (a .cover .now) in
-    let q = sym (tested (c .before)) ∙ c .if1 .taken in
-    (miss-sums (a .n) w (a .c) (a .y) (a .scratch .now) (s .pre .1 .0 .room) (a .i) q (s .pre .1 .1 .0), miss-marks (a .n) w (a .c) (a .y) (a .scratch .now) (s .pre .1 .0 .room) (a .i) q (a .cover .now) (s .pre .1 .1 .1))
+    let q = sym (tested (c .before)) ∙ c .if1 .taken in (
+      miss-sums (a .n) w (a .c) (a .y) (a .scratch .now) (entry .pre .1 .0 .room) (a .i) q (entry .pre .1 .1 .0),
+      miss-marks (a .n) w (a .c) (a .y) (a .scratch .now) (entry .pre .1 .0 .room) (a .i) q (a .cover .now) (entry .pre .1 .1 .1),
+    )
 
 mul-base : tie.Need-mul-base Inv-loop μ-loop
 mul-base c = search needs
@@ -87,14 +98,14 @@ mul-k c = search needs
 
 loop-holds : tie.Need-loop-holds Inv-loop μ-loop
 loop-holds c =
-    let s = c .before .before .before .before .before .before .before in
-    let a = s .args in
+    let entry = c .before .before .before .before .before .before .before in
+    let a = entry .args in
     let w = length (a .cover .now) in (
       search needs,
       refl,
       refl,
-      first-sums (a .n) w (a .c) (a .y) (a .scratch .now) (s .pre .1 .0 .room) (a .i) (s .pre .1 .1 .0),
-      first-marks (a .n) w (a .c) (a .y) (a .scratch .now) (s .pre .1 .0 .room) (a .i) (a .cover .now) (s .pre .1 .1 .1),
+      first-sums (a .n) w (a .c) (a .y) (a .scratch .now) (entry .pre .1 .0 .room) (a .i) (entry .pre .1 .1 .0),
+      first-marks (a .n) w (a .c) (a .y) (a .scratch .now) (entry .pre .1 .0 .room) (a .i) (a .cover .now) (entry .pre .1 .1 .1),
     )
 
 mul-start : tie.Need-mul-start Inv-loop μ-loop
@@ -114,20 +125,29 @@ cast-start c = search needs
 
 start-requires : tie.Need-start-requires Inv-loop μ-loop
 start-requires c κs =
-    let s = c .before .before .before .before .before .before .before .before .before in
-    let a = s .args in
-    let l = c .before .loop in
-    (subst Small (sym (c .before .before .before .before .before .before .load .ensures)) (s .pre .1 .0 .small (a .i) (omega arith)), (subst (λ (z : ℤ). natAbs z ≤ 8388608) (sym (line (a .y) (l .r) (omega arith) (omega arith))) (omega arith), s .pre .0 .2))
+    let after-load = c .before .before .before .before .before .before in
+    let entry = after-load .before .before .before in
+    let a = entry .args in
+    let l = c .before .loop in (
+      subst Small (sym (after-load .load .ensures)) (entry .pre .1 .0 .small (a .i) (omega arith)),
+      (subst (λ (z : ℤ). natAbs z ≤ 8388608) (sym (line (a .y) (l .r) (omega arith) (omega arith))) (omega arith), entry .pre .0 .2),
+    )
 
 put-requires : tie.Need-put-requires Inv-loop μ-loop
 put-requires c κs =
-    let s = c .before .before .before .before .before .before .before .before .before .before .before .before .before in
-    let a = s .args in
-    let l = c .before .before .before .before .before .loop in
+    let turn = c .before .before .before .before .before in
+    let entry = turn .before .before .before .before .before .before .before .before in
+    let a = entry .args in
+    let l = turn .loop in
     let t = c .before .before .before in
     let w = length (a .cover .now) in (
-      (omega arith, omega (arith, l .inv .1, l .inv .2, s .pre .1 .0 .room), rw (by-read t .1) (by-read t .0)),
-      λ h. omega (arith, sums-small (a .n) w (a .c) (a .y) (a .scratch .now) (s .pre .1 .0 .room) (a .i) (l .r) (l .scratch) (l .inv .3) (t .start .result .at * 4 + l .r) (omega (arith, l .inv .2, h)), s .pre .1 .0 .few),
+      (omega arith, omega (arith, l .inv .1, l .inv .2, entry .pre .1 .0 .room), rw (by-read t .1) (by-read t .0)),
+      λ h. omega (
+        arith,
+        sums-small (a .n) w (a .c) (a .y) (a .scratch .now) (entry .pre .1 .0 .room) (a .i) (l .r) (l .scratch) (l .inv .3) (t .start .result .at * 4 + l .r)
+            (omega (arith, l .inv .2, h)),
+        entry .pre .1 .0 .few,
+      ),
     )
 
 add-r : tie.Need-add-r Inv-loop μ-loop
@@ -138,19 +158,23 @@ loop-less c = search needs
 
 loop-again : tie.Need-loop-again Inv-loop μ-loop
 loop-again c =
-    let s = c .before .before .before .before .before .before .before .before .before .before .before .before .before .before .before .before .before in
-    let a = s .args in
-    let l = c .before .before .before .before .before .before .before .before .before .loop in
-    let t = c .before .before .before .before .before .before .before in
+    let after-start = c .before .before .before .before .before .before .before in
+    let turn = after-start .before .before in
+    let entry = turn .before .before .before .before .before .before .before .before in
+    let a = entry .args in
+    let l = turn .loop in
     let p = c .before .before .before .put in
     let w = length (a .cover .now) in (
       search needs,
       omega (arith, p .kept .0, l .inv .1),
       omega (arith, p .kept .1 .1 .0, l .inv .2),
-      next-sums (a .n) w (a .c) (a .y) (a .scratch .now) (s .pre .1 .0 .room) (a .i) (l .r) (omega arith) (t .start .result) (begun-at t) (l .scratch) (p .last .0) (l .inv .3)
+      next-sums (a .n) w (a .c) (a .y) (a .scratch .now) (entry .pre .1 .0 .room) (a .i) (l .r) (omega arith) (after-start .start .result)
+          (begun-at after-start) (l .scratch) (p .last .0) (l .inv .3)
           (p .ensures .0
-          ∙ ap₂ (λ (k : ℕ) (z : ℤ). cond (ltb (t .start .result .at / 4) k) (bumped (l .scratch) (a .n * 4 + (t .start .result .at * 4 + l .r)) z) (l .scratch)) (l .inv .2) (by-read t .1)),
-      next-marks (a .n) w (a .c) (a .y) (a .scratch .now) (s .pre .1 .0 .room) (a .i) (l .r) (omega arith) (t .start .result) (begun-at t) (l .cover) (p .last .1 .1 .0) (p .ensures .1) (l .inv .4),
+          ∙ ap₂ (λ (k : ℕ) (z : ℤ). cond (ltb (after-start .start .result .at / 4) k)
+          (bumped (l .scratch) (a .n * 4 + (after-start .start .result .at * 4 + l .r)) z) (l .scratch)) (l .inv .2) (by-read after-start .1)),
+      next-marks (a .n) w (a .c) (a .y) (a .scratch .now) (entry .pre .1 .0 .room) (a .i) (l .r) (omega arith) (after-start .start .result)
+          (begun-at after-start) (l .cover) (p .last .1 .1 .0) (p .ensures .1) (l .inv .4),
     )
 
 same-length-2 : tie.Need-same-length-2 Inv-loop μ-loop
@@ -161,12 +185,12 @@ same-length-3 c = search needs
 
 returns-2 : tie.Need-returns-2 Inv-loop μ-loop
 returns-2 c =
-    let s = c .before .before .before .before .before .before .before .before .before in
-    let a = s .args in
+    let entry = c .before .before .before .before .before .before .before .before .before in
+    let a = entry .args in
     let l = c .before .loop in
     let w = length (a .cover .now) in (
-      last-sums (a .n) w (a .c) (a .y) (a .scratch .now) (s .pre .1 .0 .room) (a .i) (l .r) (l .scratch) (omega arith) (l .inv .3),
-      last-marks (a .n) w (a .c) (a .y) (a .scratch .now) (s .pre .1 .0 .room) (a .i) (l .r) (l .cover) (omega arith) (l .inv .4),
+      last-sums (a .n) w (a .c) (a .y) (a .scratch .now) (entry .pre .1 .0 .room) (a .i) (l .r) (l .scratch) (omega arith) (l .inv .3),
+      last-marks (a .n) w (a .c) (a .y) (a .scratch .now) (entry .pre .1 .0 .room) (a .i) (l .r) (l .cover) (omega arith) (l .inv .4),
     )
 
 pub add-edge-spec : {M : Type 1} → statement M

@@ -4,7 +4,7 @@ use Prim.Native.Nat.{ℕ, _*_, _-_, _≤_}
 use native.Mathlib.Omega.{arith}
 use lib.ListN.{length}
 use Rattle.path.specs.Stored.{edgesOf}
-use Rattle.coverage.specs.Engine.{sumsAt, withSums, Marked}
+use Rattle.coverage.specs.Scanline.{sumsAt, withSums, Marked}
 use Rattle.coverage.proofs.Turn.{no-sums, no-marks, turn-asks, turn-sums, turn-marks}
 use borrow.Author.Needs.{needs}
 use Rattle.coverage.proofs.edges.add_edges.Statement.{statement}
@@ -35,11 +35,12 @@ loop-holds c =
 
 add-edge-requires : tie.Need-add-edge-requires Inv-loop μ-loop
 add-edge-requires c κs =
-    let s = c .before .before .before .before .before in
-    let a = s .args in
+    let entry = c .before .before .before .before .before in
+    let a = entry .args in
     let l = c .before .before .before .loop in (
-      (omega arith, s .pre .0 .0, omega (arith, l .inv .2)),
-      turn-asks (a .n) (length (a .cover .now)) (a .c) (a .y) (a .scratch .now) (s .pre .1 .0 .room) (l .i) (omega arith) (l .scratch) (l .inv .3) (length (l .cover)) (l .inv .2) (l .cover) (s .pre .1 .0) (l .inv .1) (l .inv .4),
+      (omega arith, entry .pre .0 .0, omega (arith, l .inv .2)),
+      turn-asks (a .n) (length (a .cover .now)) (a .c) (a .y) (a .scratch .now) (entry .pre .1 .0 .room) (l .i) (omega arith) (l .scratch) (l .inv .3)
+          (length (l .cover)) (l .inv .2) (l .cover) (entry .pre .1 .0) (l .inv .1) (l .inv .4),
     )
 
 add-i : tie.Need-add-i Inv-loop μ-loop
@@ -50,16 +51,19 @@ loop-less c = search needs
 
 loop-again : tie.Need-loop-again Inv-loop μ-loop
 loop-again c =
-    let s = c .before .before .before .before .before .before .before .before .before in
-    let a = s .args in
-    let l = c .before .before .before .before .before .before .before .loop in
+    let turn = c .before .before .before .before .before .before .before in
+    let entry = turn .before .before in
+    let a = entry .args in
+    let l = turn .loop in
     let g = c .before .before .before .add-edge in
     let w = length (a .cover .now) in (
       search needs,
       omega (arith, g .kept .0, l .inv .1),
       omega (arith, g .kept .1 .1 .1 .1 .1 .0, l .inv .2),
-      turn-sums (a .n) w (a .c) (a .y) (a .scratch .now) (s .pre .1 .0 .room) (l .i) (omega arith) (l .scratch) (l .inv .3) (length (l .cover)) (l .inv .2) (g .last .0) (g .ensures .0),
-      turn-marks (a .n) w (a .c) (a .y) (a .scratch .now) (s .pre .1 .0 .room) (l .i) (omega arith) (l .scratch) (l .inv .3) (length (l .cover)) (l .inv .2) (g .last .1 .1 .1 .1 .1 .0) (g .ensures .1),
+      turn-sums (a .n) w (a .c) (a .y) (a .scratch .now) (entry .pre .1 .0 .room) (l .i) (omega arith) (l .scratch) (l .inv .3) (length (l .cover)) (l .inv .2)
+          (g .last .0) (g .ensures .0),
+      turn-marks (a .n) w (a .c) (a .y) (a .scratch .now) (entry .pre .1 .0 .room) (l .i) (omega arith) (l .scratch) (l .inv .3) (length (l .cover)) (l .inv .2)
+          (g .last .1 .1 .1 .1 .1 .0) (g .ensures .1),
     )
 
 same-length : tie.Need-same-length Inv-loop μ-loop

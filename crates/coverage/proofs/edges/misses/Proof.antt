@@ -29,7 +29,8 @@ last s = toZ-pos w32 (omega arith) ∙ ap pos (as-sample (s .args .y))
 low : (s : tie.Start) {t : Bool} → leZ (toZ w32 (ofZ w32 (s .args .y0))) (toZ w32 (256 * s .args .y + 32)) ≡ t → leZ (s .args .y0) (sample (4 * s .args .y)) ≡ t
 low s e = rw (toZ-ofZ (s .fits .y0), first s) at e
 
-high : (s : tie.Start) {t : Bool} → ltZ (toZ w32 (256 * s .args .y + 224)) (toZ w32 (ofZ w32 (s .args .y0))) ≡ t → ltZ (sample (4 * s .args .y + 3)) (s .args .y0) ≡ t
+high : (s : tie.Start) {t : Bool} → ltZ (toZ w32 (256 * s .args .y + 224)) (toZ w32 (ofZ w32 (s .args .y0))) ≡ t
+    → ltZ (sample (4 * s .args .y + 3)) (s .args .y0) ≡ t
 high s e = rw (toZ-ofZ (s .fits .y0), last s) at e
 
 mul-first : tie.Need-mul-first

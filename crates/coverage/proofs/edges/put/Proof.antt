@@ -9,7 +9,7 @@ use lib.Seq.{set-out}
 use borrow.Author.Tests.{lt-ltb, le-ltb}
 use mir.Syntax.{w32}
 use Rattle.fixed.proofs.Means.{Num, need, keep, add}
-use Rattle.coverage.specs.Engine.{bumped}
+use Rattle.coverage.specs.Scanline.{bumped}
 use Rattle.coverage.proofs.Begin.{sized}
 use borrow.Author.Needs.{needs}
 use Rattle.coverage.proofs.edges.put.Statement.{statement}
@@ -18,12 +18,14 @@ use Rattle.coverage.proofs.edges.put.Tie as tie
 abbrev sum : tie.Else1 → Num
 sum c =
     let a = c .before .args in
-    add (sized 1000000 (getD (a .scratch .now) (a .base + (a .at * 4 + a .r)) (pos 0)) tt (c .before .pre .1 (omega arith))) (sized 1 (a .by) tt (c .before .pre .0 .2))
+    add (sized 1000000 (getD (a .scratch .now) (a .base + (a .at * 4 + a .r)) (pos 0)) tt (c .before .pre .1 (omega arith)))
+    (sized 1 (a .by) tt (c .before .pre .0 .2))
 
 returns : tie.Need-returns
 returns c =
     let a = c .before .args in (
-      ap (λ (t : Bool). cond t (bumped (a .scratch .now) (a .base + (a .at * 4 + a .r)) (a .by)) (a .scratch .now)) (sym (le-ltb (a .at / 4) (length (a .cover .now)) (omega arith))),
+      ap (λ (t : Bool). cond t (bumped (a .scratch .now) (a .base + (a .at * 4 + a .r)) (a .by)) (a .scratch .now))
+          (sym (le-ltb (a .at / 4) (length (a .cover .now)) (omega arith))),
       sym (set-out (a .cover .now) (a .at / 4) 1 (omega arith)),
     )
 
@@ -65,7 +67,8 @@ returns-2 c =
     let e = c .before in
     let a = e .before .args in (
       ap (set (a .scratch .now) (a .base + (a .at * 4 + a .r))) (keep w32 (sum e) tt .same)
-          ∙ ap (λ (t : Bool). cond t (bumped (a .scratch .now) (a .base + (a .at * 4 + a .r)) (a .by)) (a .scratch .now)) (sym (lt-ltb (a .at / 4) (length (a .cover .now)) (omega arith))),
+          ∙ ap (λ (t : Bool). cond t (bumped (a .scratch .now) (a .base + (a .at * 4 + a .r)) (a .by)) (a .scratch .now))
+          (sym (lt-ltb (a .at / 4) (length (a .cover .now)) (omega arith))),
       refl,
     )
 

@@ -5,7 +5,7 @@ use Prim.Native.Nat.{_+_}
 use lib.IntN.{ℤ}
 use mir.Syntax.{w32}
 use mir.Facts.{toZ-ofZ}
-use Rattle.coverage.specs.Engine.{fullOf, cellOf}
+use Rattle.coverage.specs.Scanline.{fullOf, cellOf}
 use borrow.Author.Needs.{needs, sfits-of}
 use Rattle.coverage.proofs.samples.cell_of.Statement.{statement}
 use Rattle.coverage.proofs.samples.cell_of.Tie as tie
@@ -28,17 +28,22 @@ add-t13 c = search needs
 returns : tie.Need-returns
 unfolding cellOf
 returns c =
-    let a = c .before .before .before .before .before .before .before .before .before .args in
-    let p = toZ-ofZ {w = w32} {z = a .t .sum} (sfits-of (c .before .before .before .before .before .before .before .before .struct-told .given .0 .1)) in
-    let q = toZ-ofZ {w = w32} {z = a .u .sum} (sfits-of (c .before .before .before .before .before .before .before .struct-told2 .given .0 .1)) in
-    let r = toZ-ofZ {w = w32} {z = a .v .sum} (sfits-of (c .before .before .before .before .before .before .struct-told3 .given .0 .1)) in
-    let s = toZ-ofZ {w = w32} {z = a .w .sum} (sfits-of (c .before .before .before .before .before .struct-told4 .given .0 .1)) in
+    let after-full-of = c .before .before .before .before in
+    let after-struct-told4 = after-full-of .before in
+    let after-struct-told3 = after-struct-told4 .before in
+    let after-struct-told2 = after-struct-told3 .before in
+    let after-struct-told = after-struct-told2 .before in
+    let a = after-struct-told .before .args in
+    let p = toZ-ofZ {w = w32} {z = a .t .sum} (sfits-of (after-struct-told .struct-told .given .0 .1)) in
+    let q = toZ-ofZ {w = w32} {z = a .u .sum} (sfits-of (after-struct-told2 .struct-told2 .given .0 .1)) in
+    let r = toZ-ofZ {w = w32} {z = a .v .sum} (sfits-of (after-struct-told3 .struct-told3 .given .0 .1)) in
+    let s = toZ-ofZ {w = w32} {z = a .w .sum} (sfits-of (after-struct-told4 .struct-told4 .given .0 .1)) in
     λ i. record {
       a = p i;
       b = q i;
       c = r i;
       d = s i;
-      full = (c .before .before .before .before .full-of .ensures ∙ full-same (a .nonzero) p q r s) i;
+      full = (after-full-of .full-of .ensures ∙ full-same (a .nonzero) p q r s) i;
       count = a .t .count + a .u .count + a .v .count + a .w .count;
     }
 

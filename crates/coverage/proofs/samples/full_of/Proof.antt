@@ -3,8 +3,8 @@ use mathlib.Core.Path.{ap, _∙_}
 use Prim.Native.Nat.{ℕ, _*_}
 use lib.IntN.{ℤ}
 use mir.Facts.{toZ-ofZ}
-use Rattle.coverage.specs.Winding.{one, inside}
-use Rattle.coverage.specs.Engine.{fullOf}
+use Rattle.coverage.specs.Winding.{oneIf, insideBy}
+use Rattle.coverage.specs.Scanline.{fullOf}
 use Rattle.coverage.proofs.Tally.{four-counts}
 use borrow.Author.Needs.{needs}
 use Rattle.coverage.proofs.samples.full_of.Statement.{statement}
@@ -37,14 +37,14 @@ mul-result c = search needs
 returns : tie.Need-returns
 unfolding fullOf
 returns c =
-    let s = c .before .before .before .before in
-    let f : ℤ → ℕ = λ z. one (inside (s .args .nonzero) z) in
+    let entry = c .before .before .before .before in
+    let f : ℤ → ℕ = λ z. oneIf (insideBy (entry .args .nonzero) z) in
     ap (λ (n : ℕ). n * 4)
     (four-counts
-    (c .before .before .before .one-inside .ensures .0 ∙ ap f (toZ-ofZ (s .fits .a)))
-    (c .before .before .one-inside2 .ensures .0 ∙ ap f (toZ-ofZ (s .fits .b)))
-    (c .before .one-inside3 .ensures .0 ∙ ap f (toZ-ofZ (s .fits .c)))
-    (c .one-inside4 .ensures .0 ∙ ap f (toZ-ofZ (s .fits .d))))
+    (c .before .before .before .one-inside .ensures .0 ∙ ap f (toZ-ofZ (entry .fits .a)))
+    (c .before .before .one-inside2 .ensures .0 ∙ ap f (toZ-ofZ (entry .fits .b)))
+    (c .before .one-inside3 .ensures .0 ∙ ap f (toZ-ofZ (entry .fits .c)))
+    (c .one-inside4 .ensures .0 ∙ ap f (toZ-ofZ (entry .fits .d))))
 
 pub full-of-spec : {M : Type 1} → statement M
 full-of-spec =

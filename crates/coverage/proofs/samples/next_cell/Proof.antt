@@ -8,7 +8,7 @@ use mir.Syntax.{w32}
 use mir.Val.{toZ, ofZ}
 use borrow.Author.Tests.{eq-eqb, ne-eqb}
 use Rattle.coverage.specs.declared.Cell.{Cell}
-use Rattle.coverage.specs.Engine.{at, laid, zeros, cellFrom, cellAfter, Bounded}
+use Rattle.coverage.specs.Scanline.{at, laid, zeros, cellFrom, cellAfter, Bounded}
 use Rattle.coverage.proofs.Begin.{clean}
 use borrow.Author.Needs.{needs}
 use Rattle.coverage.proofs.samples.next_cell.Statement.{statement}
@@ -16,7 +16,15 @@ use Rattle.coverage.proofs.samples.next_cell.Tie as tie
 
 -- the winding numbers, as they are handed on
 as-read : (z : Cell) → Bounded z
-    → record { a = toZ w32 (ofZ w32 (z .a)); b = toZ w32 (ofZ w32 (z .b)); c = toZ w32 (ofZ w32 (z .c)); d = toZ w32 (ofZ w32 (z .d)); full = z .full; count = z .full } ≡ cellAfter z
+    → record {
+      a = toZ w32 (ofZ w32 (z .a));
+      b = toZ w32 (ofZ w32 (z .b));
+      c = toZ w32 (ofZ w32 (z .c));
+      d = toZ w32 (ofZ w32 (z .d));
+      full = z .full;
+      count =
+          z .full;
+    } ≡ cellAfter z
 as-read z h =
     rw (clean (z .a) (omega (arith, h .a)), clean (z .b) (omega (arith, h .b)), clean (z .c) (omega (arith, h .c)), clean (z .d) (omega (arith, h .d)))
 

@@ -24,19 +24,22 @@ returns c =
 
 returns-2 : tie.Need-returns-2
 returns-2 c =
-    let a = c .before .before .args in
-    (rw (c .before .if1 .taken, eq-eqb (natAbs (a .w)) 0 (zero-yes w32 (a .w) (c .before .before .fits .w .sfits) (c .if2 .left))), search needs)
+    let entry = c .before .before in
+    let a = entry .args in
+    (rw (c .before .if1 .taken, eq-eqb (natAbs (a .w)) 0 (zero-yes w32 (a .w) (entry .fits .w .sfits) (c .if2 .left))), search needs)
 
 returns-3 : tie.Need-returns-3
 returns-3 c =
-    let a = c .before .before .args in
-    let o : natAbs (a .w) % 2 ≡ 1 = subst (λ (z : ℤ). natAbs z % 2 ≡ 1) (toZ-ofZ (c .before .before .fits .w)) (odd-yes (toZ w32 (ofZ w32 (a .w))) (c .if3 .taken)) in
+    let entry = c .before .before in
+    let a = entry .args in
+    let o : natAbs (a .w) % 2 ≡ 1 = subst (λ (z : ℤ). natAbs z % 2 ≡ 1) (toZ-ofZ (entry .fits .w)) (odd-yes (toZ w32 (ofZ w32 (a .w))) (c .if3 .taken)) in
     (rw (c .before .if1 .left, o), search needs)
 
 returns-4 : tie.Need-returns-4
 returns-4 c =
-    let a = c .before .before .args in
-    let f = c .before .before .fits .w in
+    let entry = c .before .before in
+    let a = entry .args in
+    let f = entry .fits .w in
     let o : natAbs (a .w) % 2 ≡ 0 = odd-no (a .w) f (subst (λ (z : ℤ). ofZ w32 (remZ z (pos 2)) ≡ 0) (toZ-ofZ f) (c .if3 .left)) in
     (rw (c .before .if1 .left, o), search needs)
 

@@ -7,7 +7,7 @@ use lib.ListN.{length}
 use mir.Syntax.{w32}
 use mir.Val.{toZ, ofZ}
 use Rattle.coverage.specs.declared.Taken.{Taken}
-use Rattle.coverage.specs.Engine.{at, takenFrom, lineFrom}
+use Rattle.coverage.specs.Scanline.{at, takenFrom, lineFrom}
 use Rattle.coverage.proofs.Begin.{clean}
 use Rattle.coverage.proofs.Cells.{line-as, four-lines}
 use Rattle.coverage.proofs.Zeros.{part-zeroed}
@@ -23,8 +23,16 @@ asked : (s : tie.Start) (v : ℤ) → natAbs v ≤ 1000000 → (i : ℕ) → s .
     × (natAbs (at (s .args .sums .now) (i + 4)) ≤ 1000000)
     × (natAbs (at (s .args .sums .now) (i + 8)) ≤ 1000000)
     × (natAbs (at (s .args .sums .now) (i + 12)) ≤ 1000000))
-asked s v h i l m =
-    (omega (arith, s .pre .0 .0), (subst (λ (z : ℤ). natAbs z ≤ 1000000) (sym (clean v (omega (arith, h)))) h, size i (omega arith), size (i + 4) (omega arith), size (i + 8) (omega arith), size (i + 12) (omega arith)))
+asked s v h i l m = (
+  omega (arith, s .pre .0 .0),
+  (
+    subst (λ (z : ℤ). natAbs z ≤ 1000000) (sym (clean v (omega (arith, h)))) h,
+    size i (omega arith),
+    size (i + 4) (omega arith),
+    size (i + 8) (omega arith),
+    size (i + 12) (omega arith),
+  ),
+)
   where
     size : (j : ℕ) → s .args .p * 16 ≤ j → natAbs (at (s .args .sums .now) j) ≤ 1000000
     size j k = subst (λ (n : ℕ). natAbs (at (s .args .sums .now) n) ≤ 1000000) (whole (s .args .p * 16) j k) (s .pre .1 (j - s .args .p * 16))
@@ -36,25 +44,33 @@ mul-i : tie.Need-mul-i
 mul-i c = search needs
 
 take-line-requires : tie.Need-take-line-requires
-take-line-requires c κs = asked (c .before .before .before .before .before) (c .before .before .before .before .before .args .z .a) (c .before .before .before .before .before .pre .0 .1 .a) (c .before .before .before .before .before .args .p * 16) (omega arith) (omega arith)
+take-line-requires c κs =
+    let entry = c .before .before .before .before .before in
+    asked (entry) (entry .args .z .a) (entry .pre .0 .1 .a) (entry .args .p * 16) (omega arith) (omega arith)
 
 add-take-line : tie.Need-add-take-line
 add-take-line c = search needs
 
 take-line-requires-2 : tie.Need-take-line-requires-2
-take-line-requires-2 c κs = asked (c .before .before .before .before .before .before .before) (c .before .before .before .before .before .before .before .args .z .b) (c .before .before .before .before .before .before .before .pre .0 .1 .b) (c .before .before .before .before .before .before .before .args .p * 16 + 1) (omega arith) (omega arith)
+take-line-requires-2 c κs =
+    let entry = c .before .before .before .before .before .before .before in
+    asked (entry) (entry .args .z .b) (entry .pre .0 .1 .b) (entry .args .p * 16 + 1) (omega arith) (omega arith)
 
 add-take-line-2 : tie.Need-add-take-line-2
 add-take-line-2 c = search needs
 
 take-line-requires-3 : tie.Need-take-line-requires-3
-take-line-requires-3 c κs = asked (c .before .before .before .before .before .before .before .before .before) (c .before .before .before .before .before .before .before .before .before .args .z .c) (c .before .before .before .before .before .before .before .before .before .pre .0 .1 .c) (c .before .before .before .before .before .before .before .before .before .args .p * 16 + 2) (omega arith) (omega arith)
+take-line-requires-3 c κs =
+    let entry = c .before .before .before .before .before .before .before .before .before in
+    asked (entry) (entry .args .z .c) (entry .pre .0 .1 .c) (entry .args .p * 16 + 2) (omega arith) (omega arith)
 
 add-take-line-3 : tie.Need-add-take-line-3
 add-take-line-3 c = search needs
 
 take-line-requires-4 : tie.Need-take-line-requires-4
-take-line-requires-4 c κs = asked (c .before .before .before .before .before .before .before .before .before .before .before) (c .before .before .before .before .before .before .before .before .before .before .before .args .z .d) (c .before .before .before .before .before .before .before .before .before .before .before .pre .0 .1 .d) (c .before .before .before .before .before .before .before .before .before .before .before .args .p * 16 + 3) (omega arith) (omega arith)
+take-line-requires-4 c κs =
+    let entry = c .before .before .before .before .before .before .before .before .before .before .before in
+    asked (entry) (entry .args .z .d) (entry .pre .0 .1 .d) (entry .args .p * 16 + 3) (omega arith) (omega arith)
 
 add-e : tie.Need-add-e
 add-e c = search needs
@@ -82,21 +98,29 @@ same-length c = search needs
 
 returns : tie.Need-returns
 returns c =
-    let s = c .before .before .before .before .before .before .before .before .before .before .before .before .before .before .before .before in
-    let a = s .args in
+    let after-zero-numbers = c .before .before in
+    let after-take-line4 = after-zero-numbers .before .before in
+    let after-take-line3 = after-take-line4 .before .before in
+    let after-take-line2 = after-take-line3 .before .before in
+    let after-take-line = after-take-line2 .before .before in
+    let entry = after-take-line .before .before .before .before .before .before in
+    let a = entry .args in
     let z = a .z in
     let line : (r : ℕ) (v : ℤ) (i : ℕ) (t : Taken) → natAbs v ≤ 1000000 → i ≡ a .p * 16 + r
-    → t ≡ takenFrom (a .nonzero) (toZ w32 (ofZ w32 v)) (at (a .sums .now) i) (at (a .sums .now) (i + 4)) (at (a .sums .now) (i + 8)) (at (a .sums .now) (i + 12))
+    → t ≡ takenFrom (a .nonzero) (toZ w32 (ofZ w32 v)) (at (a .sums .now) i) (at (a .sums .now) (i + 4)) (at (a .sums .now) (i + 8))
+    (at (a .sums .now) (i + 12))
     → t ≡ lineFrom (a .nonzero) v (λ j. at (a .sums .now) (a .p * 16 + j)) r =
-    λ r v i t h e o. o ∙ ap (λ (u : ℤ). takenFrom (a .nonzero) u (at (a .sums .now) i) (at (a .sums .now) (i + 4)) (at (a .sums .now) (i + 8)) (at (a .sums .now) (i + 12))) (clean v (omega (arith, h))) ∙ line-as (a .nonzero) v (a .sums .now) (a .p * 16) r i e in
-    let p = s .pre .0 .1 in (
+    λ r v i t h e o. o
+    ∙ ap (λ (u : ℤ). takenFrom (a .nonzero) u (at (a .sums .now) i) (at (a .sums .now) (i + 4)) (at (a .sums .now) (i + 8)) (at (a .sums .now) (i + 12)))
+    (clean v (omega (arith, h))) ∙ line-as (a .nonzero) v (a .sums .now) (a .p * 16) r i e in
+    let p = entry .pre .0 .1 in (
       c .cell-of .ensures
           ∙ four-lines (a .nonzero)
-          (line 0 (z .a) (a .p * 16) (c .before .before .before .before .before .before .before .before .before .before .take-line .result) (p .a) (omega arith) (c .before .before .before .before .before .before .before .before .before .before .take-line .ensures .0))
-          (line 1 (z .b) (a .p * 16 + 1) (c .before .before .before .before .before .before .before .before .take-line2 .result) (p .b) (omega arith) (c .before .before .before .before .before .before .before .before .take-line2 .ensures .0))
-          (line 2 (z .c) (a .p * 16 + 2) (c .before .before .before .before .before .before .take-line3 .result) (p .c) (omega arith) (c .before .before .before .before .before .before .take-line3 .ensures .0))
-          (line 3 (z .d) (a .p * 16 + 3) (c .before .before .before .before .take-line4 .result) (p .d) (omega arith) (c .before .before .before .before .take-line4 .ensures .0)),
-      part-zeroed (a .sums .now) (c .before .before .zero-numbers .last .0) (a .p * 16) 16 (s .pre .0 .0) (c .before .before .zero-numbers .ensures),
+          (line 0 (z .a) (a .p * 16) (after-take-line .take-line .result) (p .a) (omega arith) (after-take-line .take-line .ensures .0))
+          (line 1 (z .b) (a .p * 16 + 1) (after-take-line2 .take-line2 .result) (p .b) (omega arith) (after-take-line2 .take-line2 .ensures .0))
+          (line 2 (z .c) (a .p * 16 + 2) (after-take-line3 .take-line3 .result) (p .c) (omega arith) (after-take-line3 .take-line3 .ensures .0))
+          (line 3 (z .d) (a .p * 16 + 3) (after-take-line4 .take-line4 .result) (p .d) (omega arith) (after-take-line4 .take-line4 .ensures .0)),
+      part-zeroed (a .sums .now) (after-zero-numbers .zero-numbers .last .0) (a .p * 16) 16 (entry .pre .0 .0) (after-zero-numbers .zero-numbers .ensures),
     )
 
 pub take-cell-spec : {M : Type 1} → statement M

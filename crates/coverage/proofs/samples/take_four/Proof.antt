@@ -5,8 +5,8 @@ use Prim.Native.Nat.{ℕ}
 use lib.IntN.{ℤ}
 use mir.Syntax.{w32}
 use Rattle.fixed.proofs.Means.{Num, need, keep, add}
-use Rattle.coverage.specs.Winding.{one, inside}
-use Rattle.coverage.specs.Engine.{takenFrom}
+use Rattle.coverage.specs.Winding.{oneIf, insideBy}
+use Rattle.coverage.specs.Scanline.{takenFrom}
 use Rattle.coverage.proofs.Begin.{sized}
 use Rattle.coverage.proofs.Tally.{four-counts}
 use Rattle.coverage.proofs.samples.take_four.Statement.{statement}
@@ -27,14 +27,14 @@ zd c = add (keep w32 (zc c) tt) (sized 1000000 (c .args .d) tt (c .pre .4))
 returns : tie.Need-returns
 unfolding takenFrom
 returns c =
-    let s = c .before .before .before .before in
-    let f : ℤ → ℕ = λ z. one (inside (s .args .nonzero) z) in (
-      ap₂ (λ (z : ℤ) (n : ℕ). record { sum = z; count = n }) (keep w32 (zd s) tt .same)
+    let entry = c .before .before .before .before in
+    let f : ℤ → ℕ = λ z. oneIf (insideBy (entry .args .nonzero) z) in (
+      ap₂ (λ (z : ℤ) (n : ℕ). record { sum = z; count = n }) (keep w32 (zd entry) tt .same)
           (four-counts
-          (c .before .before .before .one-inside .ensures .0 ∙ ap f (keep w32 (za s) tt .same))
-          (c .before .before .one-inside2 .ensures .0 ∙ ap f (keep w32 (zb s) tt .same))
-          (c .before .one-inside3 .ensures .0 ∙ ap f (keep w32 (zc s) tt .same))
-          (c .one-inside4 .ensures .0 ∙ ap f (keep w32 (zd s) tt .same))),
+          (c .before .before .before .one-inside .ensures .0 ∙ ap f (keep w32 (za entry) tt .same))
+          (c .before .before .one-inside2 .ensures .0 ∙ ap f (keep w32 (zb entry) tt .same))
+          (c .before .one-inside3 .ensures .0 ∙ ap f (keep w32 (zc entry) tt .same))
+          (c .one-inside4 .ensures .0 ∙ ap f (keep w32 (zd entry) tt .same))),
       search needs,
     )
 

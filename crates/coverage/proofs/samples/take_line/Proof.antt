@@ -5,7 +5,7 @@ use native.Mathlib.Omega.{arith}
 use lib.IntN.{natAbs}
 use mir.Syntax.{w32}
 use mir.Val.{toZ, ofZ}
-use Rattle.coverage.specs.Engine.{at}
+use Rattle.coverage.specs.Scanline.{at}
 use Rattle.coverage.proofs.Begin.{clean}
 use borrow.Author.Needs.{needs}
 use Rattle.coverage.proofs.samples.take_line.Statement.{statement}
@@ -50,17 +50,19 @@ shared-slice-copy-out-take-four-4 c = search needs
 
 take-four-requires : tie.Need-take-four-requires
 take-four-requires c κs =
-    let s = c .before .before .before .before in
-    let a = s .args in
-    let p = s .pre .1 in
-    rw (clean (a .z) (omega (arith, p .0)), read s (a .i) (p .1), read s (a .i + 4) (p .2), read s (a .i + 8) (p .3), read s (a .i + 12) (p .4)) p
+    let entry = c .before .before .before .before in
+    let a = entry .args in
+    let p = entry .pre .1 in
+    rw (clean (a .z) (omega (arith, p .0)), read entry (a .i) (p .1), read entry (a .i + 4) (p .2), read entry (a .i + 8) (p .3), read entry (a .i + 12) (p .4))
+    p
 
 returns : tie.Need-returns
 returns c =
-    let s = c .before .before .before .before .before in
-    let a = s .args in
-    let p = s .pre .1 in
-    rw (clean (a .z) (omega (arith, p .0)), read s (a .i) (p .1), read s (a .i + 4) (p .2), read s (a .i + 8) (p .3), read s (a .i + 12) (p .4)) at (c .take-four .ensures)
+    let entry = c .before .before .before .before .before in
+    let a = entry .args in
+    let p = entry .pre .1 in
+    rw (clean (a .z) (omega (arith, p .0)), read entry (a .i) (p .1), read entry (a .i + 4) (p .2), read entry (a .i + 8) (p .3), read entry (a .i + 12) (p .4))
+    at (c .take-four .ensures)
 
 pub take-line-spec : {M : Type 1} → statement M
 take-line-spec =

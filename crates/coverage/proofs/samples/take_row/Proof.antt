@@ -6,7 +6,7 @@ use lib.IntN.{ℤ, pos, natAbs}
 use lib.ListN.{length, getD, length-set}
 use Rattle.lists.specs.Lists.{tab, over}
 use Rattle.lists.proofs.Laws.{tab-length, tab-turn, tab-read, tab-all, over-all}
-use Rattle.coverage.specs.Engine.{zeros, pixelOf}
+use Rattle.coverage.specs.Scanline.{zeros, pixelOf}
 use Rattle.coverage.proofs.Cells.{Stands, stands-first, stands-bounded, next-stands, next-count, numbers-stand, turn-cell, turn-sums}
 use borrow.Author.Needs.{needs}
 use Rattle.coverage.proofs.samples.take_row.Statement.{statement}
@@ -32,11 +32,11 @@ slice-read-next-cell c = search needs
 
 next-cell-requires : tie.Need-next-cell-requires Inv-loop μ-loop
 next-cell-requires c κs =
-    let s = c .before .before .before .before .before in
+    let entry = c .before .before .before .before .before in
     let l = c .before .before .before .loop in
-    let m = s .pre .1 .1 in (
-      (omega (arith, l .inv .1, s .pre .0), stands-bounded (length (s .args .cover .now) * 4) (l .inv .3) m (omega arith)),
-      λ j. subst (λ (z : ℤ). natAbs z ≤ 1000000) (sym (numbers-stand (s .args .sums .now) (l .sums) (l .p) (l .inv .4) j)) (m .each (l .p * 16 + j)),
+    let m = entry .pre .1 .1 in (
+      (omega (arith, l .inv .1, entry .pre .0), stands-bounded (length (entry .args .cover .now) * 4) (l .inv .3) m (omega arith)),
+      λ j. subst (λ (z : ℤ). natAbs z ≤ 1000000) (sym (numbers-stand (entry .args .sums .now) (l .sums) (l .p) (l .inv .4) j)) (m .each (l .p * 16 + j)),
     )
 
 slice-write-cover : tie.Need-slice-write-cover Inv-loop μ-loop
@@ -50,20 +50,24 @@ loop-less c = search needs
 
 loop-again : tie.Need-loop-again Inv-loop μ-loop
 loop-again c =
-    let s = c .before .before .before .before .before .before .before in
-    let a = s .args in
-    let l = c .before .before .before .before .before .loop in
+    let turn = c .before .before .before .before .before in
+    let entry = turn .before .before in
+    let a = entry .args in
+    let l = turn .loop in
     let g = c .before .next-cell in
     let f = pixelOf (a .nonzero) (a .sums .now) in
     let m = getD (l .cover) (l .p) 0 in
     let e = tab-read f (l .cover) (a .cover .now) (l .p) 0 (l .inv .5) in
-    let t = turn-cell (a .sums .now) (l .sums) (l .p) (l .inv .4) (a .cover .now) (s .pre .1 .0) (omega arith) m e (a .nonzero) (l .z) (g .result) (l .inv .3) (g .ensures .0) in (
+    let t = turn-cell (a .sums .now) (l .sums) (l .p) (l .inv .4) (a .cover .now) (entry .pre .1 .0) (omega arith) m e (a .nonzero) (l .z) (g .result)
+    (l .inv .3) (g .ensures .0) in (
       search needs,
       omega (arith, g .kept .0, l .inv .1),
       simp length-set (omega arith),
       next-stands (a .nonzero) (a .sums .now) (l .p) (l .z) (l .inv .3) (g .result) t,
-      turn-sums (a .sums .now) (l .sums) (l .p) (l .inv .4) (a .cover .now) (s .pre .1 .0) (omega arith) m e (omega (arith, s .pre .0)) (g .last .0) (g .ensures .1),
-      tab-turn f (l .cover) (a .cover .now) (l .p) (g .result .count) (next-count (a .nonzero) (a .sums .now) (l .p) (l .z) (l .inv .3) (g .result) t) (l .inv .5) (omega arith),
+      turn-sums (a .sums .now) (l .sums) (l .p) (l .inv .4) (a .cover .now) (entry .pre .1 .0) (omega arith) m e (omega (arith, entry .pre .0)) (g .last .0)
+          (g .ensures .1),
+      tab-turn f (l .cover) (a .cover .now) (l .p) (g .result .count) (next-count (a .nonzero) (a .sums .now) (l .p) (l .z) (l .inv .3) (g .result) t)
+          (l .inv .5) (omega arith),
     )
 
 same-length : tie.Need-same-length Inv-loop μ-loop

@@ -15,11 +15,12 @@ cast-result c = search needs
 
 returns : tie.Need-returns
 returns c =
-    let s = c .before .before .before in
+    let after-struct-told = c .before .before in
+    let s = after-struct-told .before in
     let z = s .args .s in
     let x = s .args .x in
-    let p = le-nat w64 (z .start) x (sfits-of (c .before .before .struct-told .given .0 .1)) (omega arith) (c .if1 .taken) in
-    rw (toZ-pos w64 {n = x} (omega arith), toZ-ofZ (sfits-of (c .before .before .struct-told .given .1 .0 .1)), p)
+    let p = le-nat w64 (z .start) x (sfits-of (after-struct-told .struct-told .given .0 .1)) (omega arith) (c .if1 .taken) in
+    rw (toZ-pos w64 {n = x} (omega arith), toZ-ofZ (sfits-of (after-struct-told .struct-told .given .1 .0 .1)), p)
 
 returns-2 : tie.Need-returns-2
 returns-2 c =

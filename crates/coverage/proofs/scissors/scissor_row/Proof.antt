@@ -8,7 +8,7 @@ use lib.ListN.{length, getD, length-set}
 use Rattle.lists.specs.Lists.{tab, over}
 use Rattle.lists.proofs.Laws.{tab-turn, tab-read, tab-all}
 use Rattle.coverage.specs.Scissors.{inScissors, scissored}
-use Rattle.coverage.specs.Engine.{inSpan}
+use Rattle.coverage.specs.Scanline.{inSpan}
 use Rattle.coverage.proofs.Rectangles.{spans-are, four-same, kept-is}
 use borrow.Author.Needs.{needs}
 use Rattle.coverage.proofs.scissors.scissor_row.Statement.{statement}
@@ -19,7 +19,8 @@ abbrev pixel : List ℕ → ℕ → ℕ → ℕ → List ℕ → ℕ → ℕ
 pixel scissors n x y d i = scissored true scissors n (x + i) y (getD d i 0)
 
 abbrev Inv-loop : tie.InvT-loop
-Inv-loop scissors n x y cover₀ a b c d i₀ cover i = (i ≤ length cover₀) × (length cover ≡ length cover₀) × (cover ≡ over (tab i (pixel scissors n x y cover₀)) cover₀)
+Inv-loop scissors n x y cover₀ a b c d i₀ cover i =
+    (i ≤ length cover₀) × (length cover ≡ length cover₀) × (cover ≡ over (tab i (pixel scissors n x y cover₀)) cover₀)
 
 abbrev μ-loop : tie.MeasureT-loop
 μ-loop scissors n x y cover₀ a b c d i₀ cover i = length cover₀ - i
@@ -27,18 +28,28 @@ abbrev μ-loop : tie.MeasureT-loop
 -- the tests of a column by the four spans, and what they tell
 abbrev columns-held : tie.After-kept Inv-loop μ-loop → Bool
 columns-held c =
-    let x = c .before .before .before .before .before .before .before .before .before .before .args .x + c .before .before .before .loop .i in
-    inSpan (c .before .before .before .before .before .before .before .span .result) x || inSpan (c .before .before .before .before .before .before .span2 .result) x
-    || inSpan (c .before .before .before .before .before .span3 .result) x || inSpan (c .before .before .before .before .span4 .result) x
+    let after-span4 = c .before .before .before .before in
+    let after-span3 = after-span4 .before in
+    let after-span2 = after-span3 .before in
+    let after-span = after-span2 .before in
+    let x = after-span .before .before .before .args .x + c .before .before .before .loop .i in
+    inSpan (after-span .span .result) x || inSpan (after-span2 .span2 .result) x
+    || inSpan (after-span3 .span3 .result) x || inSpan (after-span4 .span4 .result) x
 
 held : (c : tie.After-kept Inv-loop μ-loop)
-    → columns-held c ≡ inScissors (c .before .before .before .before .before .before .before .before .before .before .args .scissors .now) (c .before .before .before .before .before .before .before .before .before .before .args .n) (c .before .before .before .before .before .before .before .before .before .before .args .x + c .before .before .before .loop .i) (c .before .before .before .before .before .before .before .before .before .before .args .y)
+    → let entry = c .before .before .before .before .before .before .before .before .before .before in
+    columns-held c ≡ inScissors (entry .args .scissors .now) (entry .args .n) (entry .args .x + c .before .before .before .loop .i) (entry .args .y)
 held c =
-    let a = c .before .before .before .before .before .before .before .before .before .before .args in
+    let after-span4 = c .before .before .before .before in
+    let after-span3 = after-span4 .before in
+    let after-span2 = after-span3 .before in
+    let after-span = after-span2 .before in
+    let entry = after-span .before .before .before in
+    let a = entry .args in
     let x = a .x + c .before .before .before .loop .i in
-    four-same x (c .before .before .before .before .before .before .before .span .ensures) (c .before .before .before .before .before .before .span2 .ensures)
-    (c .before .before .before .before .before .span3 .ensures) (c .before .before .before .before .span4 .ensures)
-    ∙ spans-are (a .scissors .now) (a .n) x (a .y) (omega arith)
+    four-same x (after-span .span .ensures) (after-span2 .span2 .ensures)
+    (after-span3 .span3 .ensures) (after-span4 .span4 .ensures)
+    ∙ spans-are (a .scissors .now) (a .n) x (a .y) (entry .pre .0 .0)
 
 span-requires : tie.Need-span-requires Inv-loop μ-loop
 span-requires c κs = search needs
@@ -94,7 +105,8 @@ same-length c = search needs
 returns : tie.Need-returns Inv-loop μ-loop
 returns c =
     let a = c .before .before .before .before .before .before .before .before .args in
-    tab-all (pixel (a .scissors .now) (a .n) (a .x) (a .y) (a .cover .now)) (c .before .loop .cover) (a .cover .now) (c .before .loop .i) (length (a .cover .now)) (c .before .loop .inv .2) (omega arith) refl
+    tab-all (pixel (a .scissors .now) (a .n) (a .x) (a .y) (a .cover .now)) (c .before .loop .cover) (a .cover .now) (c .before .loop .i)
+    (length (a .cover .now)) (c .before .loop .inv .2) (omega arith) refl
 
 pub scissor-row-spec : {M : Type 1} → statement M
 scissor-row-spec =

@@ -7,7 +7,7 @@ use mir.Syntax.{w32}
 use Rattle.fixed.specs.Little.{i32At}
 use Rattle.fixed.proofs.Signed.{back}
 use Rattle.coverage.specs.declared.Span.{Span}
-use Rattle.coverage.specs.Engine.{inSpan, runOf}
+use Rattle.coverage.specs.Scanline.{inSpan, runOf}
 use Rattle.coverage.proofs.Rectangles.{span-past, span-of}
 use borrow.Author.Needs.{needs}
 use Rattle.coverage.proofs.scissors.span.Statement.{statement}
@@ -15,13 +15,17 @@ use Rattle.coverage.proofs.scissors.span.Tie as tie
 
 -- what the test of the row tells
 row-held : (c : tie.After-in-span)
-    → c .in-span .result ≡ inSpan (runOf (i32At (c .before .before .before .before .before .before .args .scissors .now) (16 * c .before .before .before .before .before .before .args .r + 4)) (i32At (c .before .before .before .before .before .before .args .scissors .now) (16 * c .before .before .before .before .before .before .args .r + 12))) (c .before .before .before .before .before .before .args .y)
+    → let entry = c .before .before .before .before .before .before in
+    c .in-span .result
+    ≡ inSpan (runOf (i32At (entry .args .scissors .now) (16 * entry .args .r + 4)) (i32At (entry .args .scissors .now) (16 * entry .args .r + 12)))
+    (entry .args .y)
 row-held c =
     let a = c .before .before .before .before .before .before .args in
     let p = c .before .before .before .i32-at in
     let q = c .before .before .i32-at2 in
     c .in-span .ensures
-    ∙ ap (λ (s : Span). inSpan s (a .y)) (c .before .run .ensures ∙ ap₂ runOf (back w32 (p .result) (p .ok) ∙ p .ensures) (back w32 (q .result) (q .ok) ∙ q .ensures))
+    ∙ ap (λ (s : Span). inSpan s (a .y))
+    (c .before .run .ensures ∙ ap₂ runOf (back w32 (p .result) (p .ok) ∙ p .ensures) (back w32 (q .result) (q .ok) ∙ q .ensures))
 
 returns : tie.Need-returns
 returns c =
@@ -63,11 +67,12 @@ run-requires-2 c κs = search needs
 
 returns-2 : tie.Need-returns-2
 returns-2 c =
-    let a = c .before .before .before .before .before .before .before .before .before .before .args in
+    let after-in-span = c .before .before .before .before in
+    let a = after-in-span .before .before .before .before .before .before .args in
     let p = c .before .before .i32-at3 in
     let q = c .before .i32-at4 in
     c .run2 .ensures ∙ ap₂ runOf (back w32 (p .result) (p .ok) ∙ p .ensures) (back w32 (q .result) (q .ok) ∙ q .ensures)
-    ∙ span-of (a .scissors .now) (a .n) (a .r) (a .y) (omega arith) true (sym (row-held (c .before .before .before .before)) ∙ c .before .before .before .if2 .taken)
+    ∙ span-of (a .scissors .now) (a .n) (a .r) (a .y) (omega arith) true (sym (row-held (after-in-span)) ∙ c .before .before .before .if2 .taken)
 
 returns-3 : tie.Need-returns-3
 returns-3 c =

@@ -1,3 +1,4 @@
+-- `draws::paint_draw` meets its contract: the edges are laid, used and cleared.
 use mathlib.Core.Path.{ap, _∙_}
 use mathlib.Core.List.{List, _++_}
 use Prim.Native.Nat.{_*_}
@@ -7,47 +8,45 @@ use lib.ListN.{replicate, drop}
 use borrow.Author.Needs.{needs}
 use Rattle.engine.proofs.draws.paint_draw.Statement.{statement}
 use Rattle.engine.proofs.draws.paint_draw.Tie as tie
-use Rattle.engine.proofs.draws.paint_draw.Reads as reads
-use Rattle.engine.proofs.draws.paint_draw.Lts as lts
-use Rattle.engine.proofs.draws.paint_inside.Reads as paint-inside-reads
-use Rattle.engine.proofs.edges.clear_edges.Reads as clear-edges-reads
-use Rattle.engine.proofs.edges.lay_edges.Reads as lay-edges-reads
 
--- src/draws.rt:57:9
 lay-edges-requires : tie.Need-lay-edges-requires
 lay-edges-requires c κs = search needs
 
--- src/draws.rt:58:5
-paint-inside-requires : tie.Need-paint-inside-requires
-paint-inside-requires c κs = (c .before .before .before .before .before .before .before .pre .0, (c .before .before .before .lay-edges .ensures .0, c .before .before .before .before .before .before .before .pre .1 .1))
+paint-box-requires : tie.Need-paint-box-requires
+paint-box-requires c κs =
+    let after-lay-edges = c .before .before .before in
+    let entry = after-lay-edges .before .before .before .before in
+    let p = entry .pre in
+    (p .0, (after-lay-edges .lay-edges .ensures .0, p .1 .1))
 
--- src/draws.rt:59:5
 clear-edges-requires : tie.Need-clear-edges-requires
 clear-edges-requires c κs =
-    let r = c .before .before .before .before .before .before .before .before .lay-edges .ensures .0 .ready in
-    omega (arith, r .few, r .room, c .before .before .before .before .paint-inside .kept .1 .0)
+    let after-paint-box = c .before .before .before .before in
+    let after-lay-edges = after-paint-box .before .before .before .before in
+    let r = after-lay-edges .lay-edges .ensures .0 .ready in
+    omega (arith, r .few, r .room, after-paint-box .paint-box .kept .1 .0)
 
--- src/draws.rt:43:1
 same-length : tie.Need-same-length
 same-length c = search needs
 
--- src/draws.rt:43:1
 same-length-2 : tie.Need-same-length-2
 same-length-2 c = search needs
 
--- src/draws.rt:43:1
 returns : tie.Need-returns
 returns c =
-    let l = c .before .before .before .before .before .before .before .before .before .before .lay-edges in
-    let p = c .before .before .before .before .before .before .paint-inside in
-    (c .before .clear-edges .ensures ∙ ap (λ (z : List ℤ). replicate (l .result * 4) (pos 0) ++ drop (l .result * 4) z) (p .ensures .0) ∙ l .ensures .1, p .ensures .1)
+    let after-paint-box = c .before .before .before .before .before .before in
+    let after-lay-edges = after-paint-box .before .before .before .before in
+    let l = after-lay-edges .lay-edges in
+    let p = after-paint-box .paint-box in
+    let cleared = ap (λ (z : List ℤ). replicate (l .result * 4) (pos 0) ++ drop (l .result * 4) z) (p .ensures .0) in
+    (c .before .clear-edges .ensures ∙ cleared ∙ l .ensures .1, p .ensures .1)
 
 pub paint-draw-spec : {M : Type 1} → statement M
 paint-draw-spec =
     tie.close
     (tie.spec
     lay-edges-requires
-    paint-inside-requires
+    paint-box-requires
     clear-edges-requires
     same-length
     same-length-2

@@ -8,40 +8,31 @@ use Rattle.lists.proofs.Laws.{part-length}
 use borrow.Author.Needs.{needs}
 use Rattle.engine.proofs.edges.clear_edges.Statement.{statement}
 use Rattle.engine.proofs.edges.clear_edges.Tie as tie
-use Rattle.engine.proofs.edges.clear_edges.Reads as reads
-use Rattle.engine.proofs.edges.clear_edges.Lts as lts
-use Rattle.engine.proofs.edges.clear.Reads as clear-reads
 
--- src/edges.rt:31:13
 mul-e : tie.Need-mul-e
 mul-e c = search needs
 
--- src/edges.rt:32:11
 sub-clear : tie.Need-sub-clear
 sub-clear c = search needs
 
--- src/edges.rt:32:11
 part-clear-start : tie.Need-part-clear-start
 part-clear-start c = search needs
 
--- src/edges.rt:32:11
 part-clear-end : tie.Need-part-clear-end
 part-clear-end c = search needs
 
--- src/edges.rt:32:5
 clear-requires : tie.Need-clear-requires
 clear-requires c κs = search needs
 
--- src/edges.rt:27:1
 same-length : tie.Need-same-length
 same-length c = search needs
 
--- src/edges.rt:27:1
 returns : tie.Need-returns
 returns c =
-    let a = c .before .before .before .args in
+    let entry = c .before .before .before in
+    let a = entry .args in
     let k : a .n * 4 - 0 ≡ a .n * 4 = omega arith in
-    let part : length (take (a .n * 4 - 0) (drop 0 (a .scratch .now))) ≡ a .n * 4 - 0 = part-length (a .scratch .now) 0 (a .n * 4) (omega arith) (c .before .before .before .pre) in
+    let part : length (take (a .n * 4 - 0) (drop 0 (a .scratch .now))) ≡ a .n * 4 - 0 = part-length (a .scratch .now) 0 (a .n * 4) (omega arith) (entry .pre) in
     ap (λ (z : List ℤ). z ++ drop (a .n * 4 - 0) (a .scratch .now)) (c .before .clear .ensures ∙ ap (λ (n : ℕ). replicate n (pos 0)) part)
     ∙ ap (λ (n : ℕ). replicate n (pos 0) ++ drop n (a .scratch .now)) k
 

@@ -4,38 +4,33 @@ use Rattle.path.specs.Boxes.{boxOf}
 use borrow.Author.Needs.{needs}
 use Rattle.engine.proofs.edges.draw_bounds.Statement.{statement}
 use Rattle.engine.proofs.edges.draw_bounds.Tie as tie
-use Rattle.engine.proofs.edges.draw_bounds.Reads as reads
-use Rattle.engine.proofs.edges.draw_bounds.Lts as lts
-use Rattle.engine.proofs.edges.clear_edges.Reads as clear-edges-reads
-use Rattle.engine.proofs.edges.lay_edges.Reads as lay-edges-reads
-use Rattle.outline.proofs.bounds.bounds.Reads as bounds-reads
 
--- src/edges.rt:58:9
 lay-edges-requires : tie.Need-lay-edges-requires
 lay-edges-requires c κs = search needs
 
--- src/edges.rt:59:9
 bounds-requires : tie.Need-bounds-requires
 bounds-requires c κs =
+    let entry = c .before .before .before .before .before in
     let r = c .before .before .lay-edges .ensures .0 .ready in
-    (omega (arith, r .few, r .room), c .before .before .before .before .before .pre .1 .1)
+    (omega (arith, r .few, r .room), entry .pre .1 .1)
 
--- src/edges.rt:60:5
 clear-edges-requires : tie.Need-clear-edges-requires
 clear-edges-requires c κs =
-    let r = c .before .before .before .before .lay-edges .ensures .0 .ready in
+    let after-lay-edges = c .before .before .before .before in
+    let r = after-lay-edges .lay-edges .ensures .0 .ready in
     omega (arith, r .few, r .room)
 
--- src/edges.rt:51:1
 same-length : tie.Need-same-length
 same-length c = search needs
 
--- src/edges.rt:51:1
 returns : tie.Need-returns
 returns c =
-    let a = c .before .before .before .before .before .before .before .before .before .args in
-    let l = c .before .before .before .before .before .before .lay-edges in
-    (c .before .before .before .bounds .ensures ∙ ap (boxOf (a .width) (a .height)) (l .ensures .0 .edges), c .before .clear-edges .ensures ∙ l .ensures .1)
+    let after-bounds = c .before .before .before in
+    let after-lay-edges = after-bounds .before .before .before in
+    let entry = after-lay-edges .before .before .before in
+    let a = entry .args in
+    let l = after-lay-edges .lay-edges in
+    (after-bounds .bounds .ensures ∙ ap (boxOf (a .width) (a .height)) (l .ensures .0 .edges), c .before .clear-edges .ensures ∙ l .ensures .1)
 
 pub draw-bounds-spec : {M : Type 1} → statement M
 draw-bounds-spec =

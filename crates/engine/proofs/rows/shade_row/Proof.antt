@@ -1,87 +1,172 @@
-use mathlib.Core.Path.{refl, sym, ap, subst, _∙_}
-use Prim.Native.Nat.{_+_}
+-- `rows::shade_row` meets its contract: a plain colour is blended as it is, a gradient's row is made behind the coverage first.
+use mathlib.Core.List.{List}
+use mathlib.Core.Path.{_≡_, sym, ap, subst, _∙_}
+use Prim.Native.Nat.{ℕ, _-_, _*_}
 use native.Mathlib.Omega.{arith}
-use lib.ListN.{length}
-use Rattle.blend.specs.Rows.{compositeRow}
+use lib.ListN.{length, take}
+use Rattle.lists.proofs.Laws.{part-length}
+use Rattle.blend.specs.Rows.{Coverage}
 use Rattle.engine.specs.declared.Shade.{Shade}
-use Rattle.engine.specs.Rows.{shadeAt, Shaded}
-use Rattle.engine.proofs.RowLaws.{row-painted}
+use Rattle.engine.specs.Rows.{Shaded}
+use Rattle.engine.proofs.RowLaws.{covered-length, first-of, cover-part, paint-part, solid-row, linear-row}
 use borrow.Author.Needs.{needs}
 use Rattle.engine.proofs.rows.shade_row.Statement.{statement}
 use Rattle.engine.proofs.rows.shade_row.Tie as tie
-use Rattle.engine.proofs.rows.shade_row.Reads as reads
-use Rattle.engine.proofs.rows.shade_row.Lts as lts
-use Rattle.blend.proofs.composite_row.Reads as composite-row-reads
-use Rattle.blend.proofs.composite_run.Reads as composite-run-reads
-use Rattle.paint.proofs.row.linear_row.Reads as linear-row-reads
 
--- src/rows.rt:59:22
+-- k of each pixel, at the start of the buffer
+covered : (c : tie.Start) → let s = c .args .strip in length (take (s .length) (c .args .buffer .now)) ≡ s .length
+covered c = covered-length (c .args .buffer .now) (c .args .strip .length) (omega arith)
+
+-- the paint that is given back
+painted : (c : tie.After-linear-row)
+    → let entry = c .before .before .before .before .before .before .before .before in
+    let n = entry .args .strip .length in length (c .linear-row .last .1 .1 .1 .1 .1 .0) ≡ n * 5 - n
+painted c =
+    let entry = c .before .before .before .before .before .before .before .before in
+    let a = entry .args in
+    let n = a .strip .length in
+    c .linear-row .kept .1 .1 .1 .1 .1 .0 ∙ part-length (a .buffer .now) n (n * 5) (omega arith) (omega (arith, entry .pre .1 .0 .2))
+
+mul-m : tie.Need-mul-m
+mul-m c = search needs
+
 enum-known-shade : tie.Need-enum-known-shade
 enum-known-shade c = search needs
 
--- src/rows.rt:60:13
-composite-run-requires : tie.Need-composite-run-requires
-composite-run-requires c κs = search needs
+sub-composite-run : tie.Need-sub-composite-run
+sub-composite-run c = search needs
 
--- src/rows.rt:62:23
+part-composite-run-start : tie.Need-part-composite-run-start
+part-composite-run-start c = search needs
+
+part-composite-run-end : tie.Need-part-composite-run-end
+part-composite-run-end c = search needs
+
+composite-run-requires : tie.Need-composite-run-requires
+composite-run-requires c κs =
+    let entry = c .before .before .before .before .before .before .before .before .before in
+    let a = entry .args in
+    let p = entry .pre in
+    let e = first-of (a .buffer .now) (a .strip .length) in
+    (p .1 .0 .1 ∙ ap (λ (k : ℕ). k * 4) (sym (ap length e ∙ covered entry)), subst Coverage (sym e) (p .1 .1))
+
 enum-known-shade-2 : tie.Need-enum-known-shade-2
 enum-known-shade-2 c = search needs
 
--- src/rows.rt:64:13
+sub-linear-row : tie.Need-sub-linear-row
+sub-linear-row c = search needs
+
+part-linear-row-start : tie.Need-part-linear-row-start
+part-linear-row-start c = search needs
+
+part-linear-row-end : tie.Need-part-linear-row-end
+part-linear-row-end c = search needs
+
 linear-row-requires : tie.Need-linear-row-requires
 linear-row-requires c κs =
-    let s = c .before .before .before .before .before .before .before .before .before in
-    let o = s .pre .1 .0 in
-    (subst (λ (z : Shade). Shaded z (s .args .offsets .now) (s .args .colors .now)) (c .before .before .shade2 .given .1) (s .pre .0), (o .1, omega (arith, o .0), o .3))
+    let entry = c .before .before .before .before .before .before .before in
+    let a = entry .args in
+    let p = entry .pre in
+    let o = p .1 .0 in
+    let n = a .strip .length in
+    let long = part-length (a .buffer .now) n (n * 5) (omega arith) (omega (arith, o .2)) in
+    (subst (λ (z : Shade). Shaded z (a .ramp .now)) (c .before .before .shade2 .given .1) (p .0), (o .0 .1, omega (arith, o .0 .0), long ∙ omega arith))
 
--- src/rows.rt:65:13
+sub-composite-row : tie.Need-sub-composite-row
+sub-composite-row c = search needs
+
+part-composite-row-start : tie.Need-part-composite-row-start
+part-composite-row-start c = search needs
+
+part-composite-row-end : tie.Need-part-composite-row-end
+part-composite-row-end c = search needs
+
+sub-composite-row-2 : tie.Need-sub-composite-row-2
+sub-composite-row-2 c = search needs
+
+part-composite-row-start-2 : tie.Need-part-composite-row-start-2
+part-composite-row-start-2 c = search needs
+
+part-composite-row-end-2 : tie.Need-part-composite-row-end-2
+part-composite-row-end-2 c = search needs
+
 composite-row-requires : tie.Need-composite-row-requires
 composite-row-requires c κs =
-    let s = c .before .before .before .before .before .before .before .before .before .before .before .before .before .before in
-    let o = s .pre .1 .0 in
-    ((c .before .before .before .before .linear-row .kept .1 .1 .1 .1 .1 .1 .0 ∙ o .3, o .2), s .pre .1 .1)
+    let after-linear-row = c .before .before .before .before .before .before in
+    let entry = after-linear-row .before .before .before .before .before .before .before .before in
+    let a = entry .args in
+    let p = entry .pre in
+    let o = p .1 .0 in
+    let n = a .strip .length in
+    let q = after-linear-row .linear-row .last .1 .1 .1 .1 .1 .0 in
+    let cover = cover-part (a .buffer .now) q _ n (omega (arith, o .2)) in
+    let paint = paint-part (a .buffer .now) q _ n (n * 5) (omega (arith, o .2)) (painted after-linear-row) in
+    let long = ap length cover ∙ covered entry in
+    let times = ap (λ (k : ℕ). k * 4) (sym long) in
+    ((ap length paint ∙ painted after-linear-row ∙ omega arith ∙ times, o .1 ∙ times), subst Coverage (sym cover) (p .1 .1))
 
--- src/rows.rt:42:1
 same-length : tie.Need-same-length
 same-length c = search needs
 
--- src/rows.rt:42:1
-returns : tie.Need-returns
-unfolding shadeAt
-returns c =
-    let a = c .before .before .before .before .before .before .before .before .before .before .before .before .args in
-    c .before .before .composite-run .ensures
-    ∙ ap (λ (s : Shade). compositeRow (a .mode) (a .cover .now) (λ i. shadeAt s (a .offsets .now) (a .colors .now) (a .x + i) (a .y)) (a .row .now)) (sym (c .before .before .before .before .before .shade .given .1))
-
--- src/rows.rt:42:1
 same-length-2 : tie.Need-same-length-2
 same-length-2 c = search needs
 
--- src/rows.rt:42:1
+returns : tie.Need-returns
+returns c =
+    let after-shade = c .before .before .before .before .before .before .before in
+    let entry = after-shade .before .before .before .before .before in
+    let a = entry .args in
+    let s = a .strip in
+    let call = c .before .before .composite-run in
+    let arm = after-shade .shade .given in
+    solid-row (a .style .mode) (s .length) (s .x) (s .y) (a .buffer .now) (a .row .now) (a .ramp .now) (call .last .1 .1 .1 .0) (a .style .shade)
+    (arm .0 .0) (arm .1) (call .ensures)
+
 same-length-3 : tie.Need-same-length-3
 same-length-3 c = search needs
 
--- src/rows.rt:42:1
+same-length-4 : tie.Need-same-length-4
+same-length-4 c = search needs
+
 returns-2 : tie.Need-returns-2
-unfolding shadeAt
 returns-2 c =
-    let a = c .before .before .before .before .before .before .before .before .before .before .before .before .before .before .before .before .before .args in
-    let g = c .before .before .before .before .before .before .before .before .before .before .shade2 .given in
-    c .before .before .composite-row .ensures
-    ∙ row-painted (a .mode) (length (a .cover .now)) (a .cover .now) (a .row .now) _ _ refl (c .before .before .before .before .before .before .before .linear-row .ensures)
-    ∙ ap (λ (s : Shade). compositeRow (a .mode) (a .cover .now) (λ i. shadeAt s (a .offsets .now) (a .colors .now) (a .x + i) (a .y)) (a .row .now)) (sym (g .1))
+    let after-linear-row = c .before .before .before .before .before .before .before .before .before in
+    let after-shade2 = after-linear-row .before .before .before in
+    let entry = after-shade2 .before .before .before .before .before in
+    let a = entry .args in
+    let s = a .strip in
+    let paint = after-linear-row .linear-row in
+    let call = c .before .before .composite-row in
+    let arm = after-shade2 .shade2 .given in
+    linear-row (a .style .mode) (s .length) (s .x) (s .y) (a .buffer .now) (a .row .now) (a .ramp .now) (call .last .1 .1 .1 .0) (a .style .shade)
+    (arm .0 .0) (paint .last .1 .1 .1 .1 .1 .0) _ (s .length * 5) (arm .1) (omega (arith, entry .pre .1 .0 .2)) (painted after-linear-row)
+    (paint .ensures) (call .ensures)
 
 pub shade-row-spec : {M : Type 1} → statement M
 shade-row-spec =
     tie.close
     (tie.spec
+    mul-m
     enum-known-shade
+    sub-composite-run
+    part-composite-run-start
+    part-composite-run-end
     composite-run-requires
     enum-known-shade-2
+    sub-linear-row
+    part-linear-row-start
+    part-linear-row-end
     linear-row-requires
+    sub-composite-row
+    part-composite-row-start
+    part-composite-row-end
+    sub-composite-row-2
+    part-composite-row-start-2
+    part-composite-row-end-2
     composite-row-requires
     same-length
-    returns
     same-length-2
+    returns
     same-length-3
+    same-length-4
     returns-2)

@@ -39,25 +39,33 @@ minus c = sub (lit 0) (keep w64 (twice c) tt)
 held-small : (r : Num) → T (ltb (r .bound) (2 ^ 63)) → T (leb (r .bound) 2199023255552) → natAbs (toZ w64 (ofZ w64 (r .read))) ≤ 2199023255552
 held-small r t u = subst (λ (z : ℤ). natAbs z ≤ 2199023255552) (sym (keep w64 r t .same)) (within-widen u (r .size) .size)
 
+returns : tie.Need-returns
+returns c =
+    let s = c .before in
+    let a = s .args in
+    nearest-zero (a .neg) (a .scale * a .m) (2 ^ a .s) (small (a .m) (a .scale) (a .s) (s .pre .0) (s .pre .1) (c .if1 .taken))
+
 below : tie.Need-returns-2
 below c =
-    let a = c .before .before .before .args in
+    let s = c .before .before .before in
+    let a = s .args in
     toZ-ofZ (sfits-of (c .half-up .ok)) ∙ c .half-up .ensures
-    ∙ ap (λ (z : ℤ). floorDiv (z +ℤ pos (2 ^ a .s)) (2 * 2 ^ a .s)) (keep w64 (minus (c .before .before .before)) tt .same ∙ neg-is (2 * (a .scale * a .m)))
+    ∙ ap (λ (z : ℤ). floorDiv (z +ℤ pos (2 ^ a .s)) (2 * 2 ^ a .s)) (keep w64 (minus s) tt .same ∙ neg-is (2 * (a .scale * a .m)))
     ∙ ap (λ (b : Bool). nearestOf b (a .scale * a .m) (2 ^ a .s)) (sym (c .before .if2 .taken))
 
 above : tie.Need-returns-3
 above c =
-    let a = c .before .before .before .args in
+    let s = c .before .before .before in
+    let a = s .args in
     toZ-ofZ (sfits-of (c .half-up2 .ok)) ∙ c .half-up2 .ensures
-    ∙ ap (λ (z : ℤ). floorDiv (z +ℤ pos (2 ^ a .s)) (2 * 2 ^ a .s)) (keep w64 (twice (c .before .before .before)) tt .same)
+    ∙ ap (λ (z : ℤ). floorDiv (z +ℤ pos (2 ^ a .s)) (2 * 2 ^ a .s)) (keep w64 (twice s) tt .same)
     ∙ ap (λ (b : Bool). nearestOf b (a .scale * a .m) (2 ^ a .s)) (sym (c .before .if2 .left))
 
 pub nearest-spec : {M : Type 1} → statement M
 nearest-spec =
     tie.close
     (tie.spec
-    (λ c. let a = c .before .args in nearest-zero (a .neg) (a .scale * a .m) (2 ^ a .s) (small (a .m) (a .scale) (a .s) (c .before .pre .0) (c .before .pre .1) (c .if1 .taken)))
+    returns
     (λ c. search needs)
     (λ c. search needs)
     (λ c. need (product (c .before)) tt)

@@ -33,7 +33,9 @@ below c =
     said (sub (neglit 0) (keep w64 (over c) tt)) (negsuc q) (flip-pos q)
 
 below-fits : (c : tie.Then1) → SFits w64 (below c .int)
-below-fits c = record { sfits = omega (arith, c .before .fits .a .sfits, div-le-self (mag (c .before .args .a)) (natAbs (c .before .args .b))) }
+below-fits c =
+    let a = c .before .args in
+    record { sfits = omega (arith, c .before .fits .a .sfits, div-le-self (mag (a .a)) (natAbs (a .b))) }
 
 returns : tie.Need-returns
 returns c = keep-as w64 (below c) (below-fits c) .same ∙ ap (λ (z : ℤ). floorDiv z (natAbs (c .before .args .b))) (sym (neg c))

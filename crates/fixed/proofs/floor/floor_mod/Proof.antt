@@ -39,7 +39,8 @@ abbrev up : tie.Then1 → Num
 up c =
     let r = mag (c .before .args .a) % d (c .before) in
     said (sub (keep w64 (last (c .before)) tt) (keep w64 (rem (keep w64 (n c) tt) (b (c .before))) tt)) (pos (d (c .before) - suc r))
-    (P.eq (P.num (d (c .before) - 1) ⊖ P.num r) (P.num (d (c .before) - suc r)) (omega (arith, mod-lt (mag (c .before .args .a)) (above-zero (c .before .pre)))))
+    (P.eq (P.num (d (c .before) - 1) ⊖ P.num r) (P.num (d (c .before) - suc r))
+    (omega (arith, mod-lt (mag (c .before .args .a)) (above-zero (c .before .pre)))))
 
 up-fits : (c : tie.Then1) → SFits w64 (up c .int)
 up-fits c = record { sfits = omega (arith, b (c .before) .size .size) }
@@ -55,7 +56,9 @@ abbrev a : tie.Else1 → Num
 a c = plain (c .before .args .a) (c .before .fits .a) (nonneg c)
 
 returns-2 : tie.Need-returns-2
-returns-2 c = keep w64 (rem (a c) (b (c .before))) tt .same ∙ ap (λ (z : ℤ). pos (floorMod z (d (c .before)))) (sym (nonneg c))
+returns-2 c =
+    let s = c .before in
+    keep w64 (rem (a c) (b s)) tt .same ∙ ap (λ (z : ℤ). pos (floorMod z (d s))) (sym (nonneg c))
 
 pub floor-mod-spec : {M : Type 1} → statement M
 floor-mod-spec =

@@ -10,10 +10,13 @@ use Rattle.fixed.proofs.little.i16_at.Statement.{statement}
 use Rattle.fixed.proofs.little.i16_at.Tie as tie
 
 abbrev number : tie.After-twos-complement → Num
-number c = said (param w64 (c .twos-complement .result) (sfits-of (c .twos-complement .ok))) (signed 32768 (c .before .u16-at .result)) (c .twos-complement .ensures)
+number c =
+    said (param w64 (c .twos-complement .result) (sfits-of (c .twos-complement .ok))) (signed 32768 (c .before .u16-at .result)) (c .twos-complement .ensures)
 
 number-fits : (c : tie.After-twos-complement) → SFits w16 (number c .int)
-number-fits c = signed-fits w16 (c .before .u16-at .result) (c .before .u16-at .ensures .1)
+number-fits c =
+    let u16-at = c .before .u16-at in
+    signed-fits w16 (u16-at .result) (u16-at .ensures .1)
 
 returns : tie.Need-returns
 returns c = keep-as w16 (number c) (number-fits c) .same ∙ ap (signed 32768) (c .before .u16-at .ensures .0)

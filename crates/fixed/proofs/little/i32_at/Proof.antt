@@ -11,7 +11,9 @@ use Rattle.fixed.proofs.little.i32_at.Statement.{statement}
 use Rattle.fixed.proofs.little.i32_at.Tie as tie
 
 abbrev number : tie.After-twos-complement → Num
-number c = said (param w64 (c .twos-complement .result) (sfits-of (c .twos-complement .ok))) (signed 2147483648 (c .before .u32-at .result)) (c .twos-complement .ensures)
+number c =
+    said (param w64 (c .twos-complement .result) (sfits-of (c .twos-complement .ok))) (signed 2147483648 (c .before .u32-at .result))
+    (c .twos-complement .ensures)
 
 number-fits : (c : tie.After-twos-complement) → SFits w32 (number c .int)
 number-fits c = signed-fits w32 (c .before .u32-at .result) (omega arith)

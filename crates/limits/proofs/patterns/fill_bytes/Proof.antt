@@ -18,38 +18,30 @@ Inv-loop s₀ phase i₀ s i = (i ≤ length s₀) × (length s ≡ length s₀)
 abbrev μ-loop : tie.MeasureT-loop
 μ-loop s₀ phase i₀ s i = length s₀ - i
 
--- src/patterns.rt:6:5
 loop-holds : tie.Need-loop-holds Inv-loop μ-loop
 loop-holds c = (search needs, refl, refl)
 
--- src/patterns.rt:7:16
 byte-at-requires : tie.Need-byte-at-requires Inv-loop μ-loop
 byte-at-requires c κs = search needs
 
--- src/patterns.rt:7:9
 slice-write-s : tie.Need-slice-write-s Inv-loop μ-loop
 slice-write-s c = search needs
 
--- src/patterns.rt:8:9
 add-i : tie.Need-add-i Inv-loop μ-loop
 add-i c = search needs
 
--- src/patterns.rt:6:5
 loop-less : tie.Need-loop-less Inv-loop μ-loop
 loop-less c = search needs
 
--- src/patterns.rt:6:5
 loop-again : tie.Need-loop-again Inv-loop μ-loop
 loop-again c =
     let l = c .before .before .loop in
     let a = c .before .before .before .before .args in
     (search needs, simp length-set (omega arith), tab-turn (patternByte (a .phase)) (l .s) (a .s .now) (l .i) _ (c .byte-at .ensures) (l .inv .2) (omega arith))
 
--- src/patterns.rt:4:1
 same-length : tie.Need-same-length Inv-loop μ-loop
 same-length c = search needs
 
--- src/patterns.rt:4:1
 returns : tie.Need-returns Inv-loop μ-loop
 returns c =
     let l = c .before .loop in

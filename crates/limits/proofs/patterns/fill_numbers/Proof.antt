@@ -20,43 +20,37 @@ Inv-loop s₀ i₀ s i = (i ≤ length s₀) × (length s ≡ length s₀) × (s
 abbrev μ-loop : tie.MeasureT-loop
 μ-loop s₀ i₀ s i = length s₀ - i
 
--- src/patterns.rt:33:5
 loop-holds : tie.Need-loop-holds Inv-loop μ-loop
 loop-holds c = (search needs, refl, refl)
 
--- src/patterns.rt:34:16
 number-at-requires : tie.Need-number-at-requires Inv-loop μ-loop
 number-at-requires c κs = search needs
 
--- src/patterns.rt:34:9
 mul-t3 : tie.Need-mul-t3 Inv-loop μ-loop
 mul-t3 c = search needs
 
--- src/patterns.rt:34:9
 slice-set-from-s : tie.Need-slice-set-from-s Inv-loop μ-loop
 slice-set-from-s c = search needs
 
--- src/patterns.rt:35:9
 add-i : tie.Need-add-i Inv-loop μ-loop
 add-i c = search needs
 
--- src/patterns.rt:33:5
 loop-less : tie.Need-loop-less Inv-loop μ-loop
 loop-less c = search needs
 
--- src/patterns.rt:33:5
 loop-again : tie.Need-loop-again Inv-loop μ-loop
 loop-again c =
     let l = c .before .before .loop in
     let a = c .before .before .before .args in
-    let n = c .number-at in
-    (search needs, simp length-set (omega arith), tab-turn patternNumber (l .s) (a .s .now) (l .i) _ (back w32 (n .result) (n .ok) ∙ n .ensures) (l .inv .2) (omega arith))
+    let n = c .number-at in (
+      search needs,
+      simp length-set (omega arith),
+      tab-turn patternNumber (l .s) (a .s .now) (l .i) _ (back w32 (n .result) (n .ok) ∙ n .ensures) (l .inv .2) (omega arith),
+    )
 
--- src/patterns.rt:31:1
 same-length : tie.Need-same-length Inv-loop μ-loop
 same-length c = search needs
 
--- src/patterns.rt:31:1
 returns : tie.Need-returns Inv-loop μ-loop
 returns c =
     let l = c .before .loop in

@@ -21,46 +21,41 @@ Inv-loop s i₀ i = (i ≤ length s) × ((k : ℕ) → k < i → getD s k (pos 0
 abbrev μ-loop : tie.MeasureT-loop
 μ-loop s i₀ i = length s - i
 
--- src/patterns.rt:45:5
 loop-holds : tie.Need-loop-holds Inv-loop μ-loop
 loop-holds c = (search needs, λ k h. absurd (not-suc-le-zero h))
 
--- src/patterns.rt:46:12
 mul-if1 : tie.Need-mul-if1 Inv-loop μ-loop
 mul-if1 c = search needs
 
--- src/patterns.rt:46:12
 shared-slice-copy-out-if1 : tie.Need-shared-slice-copy-out-if1 Inv-loop μ-loop
 shared-slice-copy-out-if1 c = search needs
 
--- src/patterns.rt:46:20
 number-at-requires : tie.Need-number-at-requires Inv-loop μ-loop
 number-at-requires c κs = search needs
 
--- src/patterns.rt:47:13
 returns : tie.Need-returns Inv-loop μ-loop
 returns c =
-    let a = c .before .before .before .before .before .args in
+    let turn = c .before .before .before .before in
+    let a = turn .before .args in
     let n = c .before .number-at in
-    other-bits patternNumber (a .s .now) (c .before .before .before .before .loop .i) (n .result) (n .ensures) (omega arith) (c .if1 .taken)
+    other-bits patternNumber (a .s .now) (turn .loop .i) (n .result) (n .ensures) (omega arith) (c .if1 .taken)
 
--- src/patterns.rt:49:9
 add-i : tie.Need-add-i Inv-loop μ-loop
 add-i c = search needs
 
--- src/patterns.rt:45:5
 loop-less : tie.Need-loop-less Inv-loop μ-loop
 loop-less c = search needs
 
--- src/patterns.rt:45:5
 loop-again : tie.Need-loop-again Inv-loop μ-loop
 loop-again c =
     let l = c .before .before .before .before .loop in
     let a = c .before .before .before .before .before .args in
-    let n = c .before .number-at in
-    (search needs, below-more (λ k. getD (a .s .now) k (pos 0) ≡ patternNumber k) (l .i) (l .inv .1) (same-bits _ (n .result) (c .before .before .if12 .given) (n .ok) (c .if1 .left) ∙ n .ensures))
+    let n = c .before .number-at in (
+      search needs,
+      below-more (λ k. getD (a .s .now) k (pos 0) ≡ patternNumber k) (l .i) (l .inv .1)
+          (same-bits _ (n .result) (c .before .before .if12 .given) (n .ok) (c .if1 .left) ∙ n .ensures),
+    )
 
--- src/patterns.rt:43:1
 returns-2 : tie.Need-returns-2 Inv-loop μ-loop
 returns-2 c =
     let l = c .before .loop in

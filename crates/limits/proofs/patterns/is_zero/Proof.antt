@@ -19,40 +19,34 @@ Inv-loop s i₀ i = (i ≤ length s) × ((k : ℕ) → k < i → getD s k (pos 0
 abbrev μ-loop : tie.MeasureT-loop
 μ-loop s i₀ i = length s - i
 
--- src/patterns.rt:56:5
 loop-holds : tie.Need-loop-holds Inv-loop μ-loop
 loop-holds c = (search needs, λ k h. absurd (not-suc-le-zero h))
 
--- src/patterns.rt:57:12
 mul-if1 : tie.Need-mul-if1 Inv-loop μ-loop
 mul-if1 c = search needs
 
--- src/patterns.rt:57:12
 shared-slice-copy-out-if1 : tie.Need-shared-slice-copy-out-if1 Inv-loop μ-loop
 shared-slice-copy-out-if1 c = search needs
 
--- src/patterns.rt:58:13
 returns : tie.Need-returns Inv-loop μ-loop
 returns c =
     let a = c .before .before .before .before .args in
     other-bits (λ k. pos 0) (a .s .now) (c .before .before .before .loop .i) (pos 0) refl (omega arith) (c .if1 .taken)
 
--- src/patterns.rt:60:9
 add-i : tie.Need-add-i Inv-loop μ-loop
 add-i c = search needs
 
--- src/patterns.rt:56:5
 loop-less : tie.Need-loop-less Inv-loop μ-loop
 loop-less c = search needs
 
--- src/patterns.rt:56:5
 loop-again : tie.Need-loop-again Inv-loop μ-loop
 loop-again c =
     let l = c .before .before .before .loop in
-    let a = c .before .before .before .before .args in
-    (search needs, below-more (λ k. getD (a .s .now) k (pos 0) ≡ pos 0) (l .i) (l .inv .1) (same-bits _ (pos 0) (c .before .if12 .given) (omega arith) (c .if1 .left)))
+    let a = c .before .before .before .before .args in (
+      search needs,
+      below-more (λ k. getD (a .s .now) k (pos 0) ≡ pos 0) (l .i) (l .inv .1) (same-bits _ (pos 0) (c .before .if12 .given) (omega arith) (c .if1 .left)),
+    )
 
--- src/patterns.rt:54:1
 returns-2 : tie.Need-returns-2 Inv-loop μ-loop
 returns-2 c =
     let l = c .before .loop in

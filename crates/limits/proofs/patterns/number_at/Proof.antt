@@ -7,15 +7,12 @@ use Rattle.limits.proofs.patterns.number_at.Tie as tie
 use Rattle.limits.proofs.patterns.number_at.Reads as reads
 use Rattle.limits.proofs.patterns.number_at.Lts as lts
 
--- src/patterns.rt:39:6
 add-result : tie.Need-add-result
 add-result c = search needs
 
--- src/patterns.rt:39:5
 cast-result : tie.Need-cast-result
 cast-result c = search needs
 
--- src/patterns.rt:36:1
 returns : tie.Need-returns
 returns c = toZ-pos w32 (omega arith)
 

@@ -17,42 +17,35 @@ Inv-loop a b i₀ i = (i ≤ length a) × ((k : ℕ) → k < i → getD a k 0 �
 abbrev μ-loop : tie.MeasureT-loop
 μ-loop a b i₀ i = length a - i
 
--- src/patterns.rt:18:9
 returns : tie.Need-returns Inv-loop μ-loop
 returns c = λ e. c .if1 .taken (ap length e)
 
--- src/patterns.rt:21:5
 loop-holds : tie.Need-loop-holds Inv-loop μ-loop
 loop-holds c = (search needs, λ k h. absurd (not-suc-le-zero h))
 
--- src/patterns.rt:22:12
 shared-slice-read-if2 : tie.Need-shared-slice-read-if2 Inv-loop μ-loop
 shared-slice-read-if2 c = search needs
 
--- src/patterns.rt:22:20
 shared-slice-read-if2-2 : tie.Need-shared-slice-read-if2-2 Inv-loop μ-loop
 shared-slice-read-if2-2 c = search needs
 
--- src/patterns.rt:23:13
 returns-2 : tie.Need-returns-2 Inv-loop μ-loop
-returns-2 c = λ e. c .if2 .taken (ap (λ s. getD s (c .before .before .before .before .loop .i) 0) e)
+returns-2 c =
+    let turn = c .before .before .before .before in
+    λ e. c .if2 .taken (ap (λ s. getD s (turn .loop .i) 0) e)
 
--- src/patterns.rt:25:9
 add-i : tie.Need-add-i Inv-loop μ-loop
 add-i c = search needs
 
--- src/patterns.rt:21:5
 loop-less : tie.Need-loop-less Inv-loop μ-loop
 loop-less c = search needs
 
--- src/patterns.rt:21:5
 loop-again : tie.Need-loop-again Inv-loop μ-loop
 loop-again c =
     let l = c .before .before .before .before .loop in
     let a = c .before .before .before .before .before .before .args in
     (search needs, below-more (λ k. getD (a .a .now) k 0 ≡ getD (a .b .now) k 0) (l .i) (l .inv .1) (c .if2 .left))
 
--- src/patterns.rt:16:1
 returns-3 : tie.Need-returns-3 Inv-loop μ-loop
 returns-3 c =
     let l = c .before .loop in

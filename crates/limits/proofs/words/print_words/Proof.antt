@@ -13,43 +13,33 @@ Inv-loop i e j₀ t4 j = j ≤ e
 abbrev μ-loop : tie.MeasureT-loop
 μ-loop i e j₀ t4 j = e - j
 
--- src/words.rt:43:5
 print-word-requires : tie.Need-print-word-requires Inv-loop μ-loop
 print-word-requires c κs = search needs
 
--- src/words.rt:44:17
 add-j : tie.Need-add-j Inv-loop μ-loop
 add-j c = search needs
 
--- src/words.rt:45:5
 loop-holds : tie.Need-loop-holds Inv-loop μ-loop
 loop-holds c = search needs
 
--- src/words.rt:46:38
 slice-aggregate-write-all : tie.Need-slice-aggregate-write-all Inv-loop μ-loop
 slice-aggregate-write-all c = search needs
 
--- src/words.rt:46:9
 write-all-requires : tie.Need-write-all-requires Inv-loop μ-loop
 write-all-requires c κs = search needs
 
--- src/words.rt:47:9
 print-word-requires-2 : tie.Need-print-word-requires-2 Inv-loop μ-loop
 print-word-requires-2 c κs = search needs
 
--- src/words.rt:48:9
 add-j-2 : tie.Need-add-j-2 Inv-loop μ-loop
 add-j-2 c = search needs
 
--- src/words.rt:45:5
 loop-less : tie.Need-loop-less Inv-loop μ-loop
 loop-less c = search needs
 
--- src/words.rt:45:5
 loop-again : tie.Need-loop-again Inv-loop μ-loop
 loop-again c = search needs
 
--- src/words.rt:40:1
 returns : tie.Need-returns Inv-loop μ-loop
 returns c = search needs
 

@@ -17,11 +17,14 @@ returns c =
 
 returns-2 : tie.Need-returns-2
 returns-2 c =
+    let first-pixel2 = c .before .before .first-pixel2 in
+    let first-pixel = c .before .before .before .first-pixel in
+    let if1 = c .before .before .before .before .if1 in
     let s = c .before .before .before .before .before in
     let a = s .args in
-    let some : 0 < a .n = omega (arith, c .before .before .before .before .if1 .left) in
-    let x0 = c .before .before .before .first-pixel .ensures in
-    let y0 = c .before .before .first-pixel2 .ensures in
+    let some : 0 < a .n = omega (arith, if1 .left) in
+    let x0 = first-pixel .ensures in
+    let y0 = first-pixel2 .ensures in
     let x1 = c .before .past-pixel .ensures in
     let y1 = c .past-pixel2 .ensures in
     (λ i. record { x0 = x0 i; y0 = y0 i; x1 = x1 i; y1 = y1 i }) ∙ sym (box-some (a .width) (a .height) (a .edges .now) (a .n) some)

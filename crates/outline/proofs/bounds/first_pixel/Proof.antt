@@ -10,8 +10,9 @@ use Rattle.outline.proofs.bounds.first_pixel.Tie as tie
 
 returns : tie.Need-returns
 returns c =
+    let a = c .before .before .args in
     let o = c .before .outer-end in
-    c .within .ensures ∙ ap (within (c .before .before .args .size)) (pixel (o .result) (sfits-of (o .ok)) .same ∙ ap (λ (z : ℤ). floorDiv z 256) (o .ensures))
+    c .within .ensures ∙ ap (within (a .size)) (pixel (o .result) (sfits-of (o .ok)) .same ∙ ap (λ (z : ℤ). floorDiv z 256) (o .ensures))
 
 pub first-pixel-spec : {M : Type 1} → statement M
 first-pixel-spec = tie.close (tie.spec (λ c κs. search needs) (λ c κs. search needs) returns)

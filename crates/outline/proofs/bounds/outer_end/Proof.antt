@@ -26,21 +26,23 @@ loop-holds c =
 
 loop-again : tie.Need-loop-again Inv-loop μ-loop
 loop-again c =
+    let load2 = c .before .before .load2 in
     let a = c .before .before .before .before .before .before .before .args in
     let l = c .before .before .before .before .loop in
     let f = c .before .end-of2 in (
       search needs,
       search needs,
       toZ-ofZ (sfits-of (c .outer-of .ok)) ∙ c .outer-of .ensures
-          ∙ ap₂ (outer (a .greater)) (l .inv .2) (toZ-ofZ (sfits-of (f .ok)) ∙ f .ensures ∙ ap (endOf (a .greater) (a .axis)) (c .before .before .load2 .ensures))
+          ∙ ap₂ (outer (a .greater)) (l .inv .2) (toZ-ofZ (sfits-of (f .ok)) ∙ f .ensures ∙ ap (endOf (a .greater) (a .axis)) (load2 .ensures))
           ∙ sym (outer-next (a .greater) (a .axis) (a .edges .now) (l .i) (omega arith)),
     )
 
 returns : tie.Need-returns Inv-loop μ-loop
 returns c =
+    let loop = c .before .loop in
     let a = c .before .before .before .before .args in
-    let e : c .before .loop .i ≡ a .n = omega arith in
-    c .before .loop .inv .2 ∙ ap (λ (k : ℕ). outerOf (a .greater) (a .axis) (edgesOf (a .edges .now) k)) e
+    let e : loop .i ≡ a .n = omega arith in
+    loop .inv .2 ∙ ap (λ (k : ℕ). outerOf (a .greater) (a .axis) (edgesOf (a .edges .now) k)) e
 
 pub outer-end-spec : {M : Type 1} → statement M
 outer-end-spec =

@@ -15,8 +15,9 @@ next c = add (pixel (c .outer-end .result) (sfits-of (c .outer-end .ok))) (lit 1
 
 returns : tie.Need-returns
 returns c =
+    let a = c .before .before .args in
     let o = c .before .outer-end in
-    c .within .ensures ∙ ap (within (c .before .before .args .size)) (keep w32 (next (c .before)) tt .same ∙ ap (λ (z : ℤ). floorDiv z 256 +ℤ pos 1) (o .ensures))
+    c .within .ensures ∙ ap (within (a .size)) (keep w32 (next (c .before)) tt .same ∙ ap (λ (z : ℤ). floorDiv z 256 +ℤ pos 1) (o .ensures))
 
 pub past-pixel-spec : {M : Type 1} → statement M
 past-pixel-spec = tie.close (tie.spec (λ c κs. search needs) (λ c. need (next c) tt) (λ c κs. search needs) returns)

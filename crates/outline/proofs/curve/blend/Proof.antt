@@ -13,7 +13,8 @@ use Rattle.outline.proofs.Bezier.{weights-most, summed-most, blended-si
 use Rattle.outline.proofs.curve.blend.Statement.{statement}
 use Rattle.outline.proofs.curve.blend.Tie as tie
 
-told : (c : tie.After-weigh) → c .weigh .result ≡ summed (c .before .args .w) (c .before .args .a) (c .before .args .b) (c .before .args .c) (c .before .args .d)
+told : (c : tie.After-weigh)
+    → c .weigh .result ≡ summed (c .before .args .w) (c .before .args .a) (c .before .args .b) (c .before .args .c) (c .before .args .d)
 told c =
     let s = c .before in
     rw (toZ-ofZ (s .fits .a), toZ-ofZ (s .fits .b), toZ-ofZ (s .fits .c), toZ-ofZ (s .fits .d)) at (c .weigh .ensures)
@@ -47,13 +48,19 @@ size-of : (c : tie.Start) (n : ℕ) → c .args .degree ≡ n → Within 8388608
 size-of s n e = let a = s .args in subst (λ (m : ℕ). Within 8388608 (blended m (a .w) (a .a) (a .b) (a .c) (a .d))) e (size s)
 
 abbrev quad : (c : tie.Then1) → Num
-quad c = keep w64 (tight 8388608 (shr (keep w64 (add (sum (c .before)) (lit 128)) tt) 256) (size-of (c .before .before) 2 (c .if1 .taken))) tt
+quad c =
+    let s = c .before .before in
+    keep w64 (tight 8388608 (shr (keep w64 (add (sum (c .before)) (lit 128)) tt) 256) (size-of s 2 (c .if1 .taken))) tt
 
 three : (c : tie.Else1) → c .before .before .args .degree ≡ 3
-three c = let f = c .before .before .pre .0 in omega (arith, f .some, f .most)
+three c =
+    let pre = c .before .before .pre in
+    let f = pre .0 in omega (arith, f .some, f .most)
 
 abbrev cubic : (c : tie.Else1) → Num
-cubic c = keep w64 (tight 8388608 (shr (keep w64 (add (sum (c .before)) (lit 2048)) tt) 4096) (size-of (c .before .before) 3 (three c))) tt
+cubic c =
+    let s = c .before .before in
+    keep w64 (tight 8388608 (shr (keep w64 (add (sum (c .before)) (lit 2048)) tt) 4096) (size-of s 3 (three c))) tt
 
 -- what is returned, from the degree that it was computed by
 returned : (s : tie.Start) (n : ℕ) → s .args .degree ≡ n → (r : ℤ) → r ≡ blended n (s .args .w) (s .args .a) (s .args .b) (s .args .c) (s .args .d)

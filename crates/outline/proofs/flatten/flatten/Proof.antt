@@ -47,8 +47,10 @@ store-segment-requires c κs =
       (
         limited,
         (
-          subst (λ (w : Walk). PenPlaced (a .m) (w .pen)) (sym (l .inv .2)) (pen-placed (a .m) (a .segments .now) (a .coordinates .now) limited (l .i) (a .n) (omega arith) accepted),
-          subst (λ (v : Curve). CurvePlaced (a .m) v) (sym (traced-curve (a .m) (a .segments .now) (a .coordinates .now) (l .i) (l .walk) (l .inv .2) (t .result) (t .ensures)))
+          subst (λ (w : Walk). PenPlaced (a .m) (w .pen)) (sym (l .inv .2))
+              (pen-placed (a .m) (a .segments .now) (a .coordinates .now) limited (l .i) (a .n) (omega arith) accepted),
+          subst (λ (v : Curve). CurvePlaced (a .m) v)
+              (sym (traced-curve (a .m) (a .segments .now) (a .coordinates .now) (l .i) (l .walk) (l .inv .2) (t .result) (t .ensures)))
               (curve-placed (a .m) (a .segments .now) (a .coordinates .now) limited (l .i) (a .n) (omega arith) accepted),
         ),
       ),
@@ -79,7 +81,8 @@ store-closing-requires c κs =
       omega (arith, edges-count (a .m) (a .segments .now) (a .coordinates .now) (l .i)),
       (
         limited,
-        subst (λ (w : Walk). PenPlaced (a .m) (w .pen)) (sym (l .inv .2)) (pen-placed (a .m) (a .segments .now) (a .coordinates .now) limited (l .i) (a .n) (l .inv .0) (s .pre .1 .0 .1)),
+        subst (λ (w : Walk). PenPlaced (a .m) (w .pen)) (sym (l .inv .2))
+            (pen-placed (a .m) (a .segments .now) (a .coordinates .now) limited (l .i) (a .n) (l .inv .0) (s .pre .1 .0 .1)),
       ),
     )
 
@@ -91,7 +94,8 @@ returns c =
     let cs = a .coordinates .now in
     let last : l .i ≡ a .n = omega arith in
     let drawn = drawnEdges (a .m) (l .walk .pen) (lineTo (l .walk .pen .start)) in
-    let all = puts-more (edgesTo (a .m) ss cs (l .i)) drawn (a .edges .now) 0 (edges-all (a .m) ss cs (l .i) (l .walk) (l .inv .2) (a .n) last) (l .inv .3) (c .before .store-closing .ensures) in
+    let all = puts-more (edgesTo (a .m) ss cs (l .i)) drawn (a .edges .now) 0 (edges-all (a .m) ss cs (l .i) (l .walk) (l .inv .2) (a .n) last) (l .inv .3)
+    (c .before .store-closing .ensures) in
     (all .0, all .1 ∙ zero-add (length (pathEdges (a .m) ss cs (a .n))))
 
 pub flatten-spec : {M : Type 1} → statement M

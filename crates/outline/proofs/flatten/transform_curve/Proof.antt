@@ -9,11 +9,13 @@ use Rattle.outline.proofs.flatten.transform_curve.Tie as tie
 
 returns : tie.Need-returns
 returns c =
+    let apply2 = c .before .apply2 in
+    let apply = c .before .before .apply in
     let s = c .before .before .before in
-    let a = c .before .before .apply .ensures in
-    let b = c .before .apply2 .ensures in
+    let a = apply .ensures in
+    let b = apply2 .ensures in
     let d = c .apply3 .ensures in
-    let r : Curve = record { degree = s .args .c .degree; p1 = c .before .before .apply .result; p2 = c .before .apply2 .result; p3 = c .apply3 .result } in
+    let r : Curve = record { degree = s .args .c .degree; p1 = apply .result; p2 = apply2 .result; p3 = c .apply3 .result } in
     let e : r ≡ transformCurve (s .args .m) (s .args .c) = λ i. record { degree = s .args .c .degree; p1 = a i; p2 = b i; p3 = d i } in
     (e, subst (λ (v : Curve). Drawable v) (sym e) (curve-drawable (s .args .m) (s .args .c) (s .pre .1)))
 

@@ -18,12 +18,13 @@ told c =
 
 returns : tie.Need-returns
 returns c =
+    let if1 = c .before .before .before .if1 in
     let m = c .before .before .before .before in
     let s = m .before .before .before in
     let f : SFits w32 (s .args .a .y) = search needs in
     let g : SFits w32 (s .args .b .y) = search needs in
     let e : c .same2 .result ≡ equal (s .args .a .y) (s .args .b .y) = rw (toZ-ofZ f, toZ-ofZ g) at (c .same2 .ensures) in
-    e ∙ ap (λ (t : Bool). t && equal (s .args .a .y) (s .args .b .y)) (sym (sym (told m) ∙ c .before .before .before .if1 .taken))
+    e ∙ ap (λ (t : Bool). t && equal (s .args .a .y) (s .args .b .y)) (sym (sym (told m) ∙ if1 .taken))
 
 returns-2 : tie.Need-returns-2
 returns-2 c =

@@ -22,8 +22,9 @@ abbrev μ-loop : tie.MeasureT-loop
 
 returns : tie.Need-returns Inv-loop μ-loop
 returns c =
+    let if1 = c .before .before .before .if1 in
     let a = c .before .before .before .before .before .args in
-    puts-same (a .edges .now) (a .n) (sym (curve-line (a .o) (a .c) (c .before .before .before .if1 .taken))) (c .before .store-edge .ensures)
+    puts-same (a .edges .now) (a .n) (sym (curve-line (a .o) (a .c) (if1 .taken))) (c .before .store-edge .ensures)
 
 cut-point-requires : tie.Need-cut-point-requires Inv-loop μ-loop
 cut-point-requires c κs =
@@ -31,12 +32,15 @@ cut-point-requires c κs =
     (s .pre .1, (omega (arith, s .pre .1 .1 .some, c .if1 .left), omega arith))
 
 loop-holds : tie.Need-loop-holds Inv-loop μ-loop
-loop-holds c = (search needs, search needs, c .cut-point .ensures .0, (search needs, sym (add-zero (c .before .before .before .args .n))))
+loop-holds c =
+    let a = c .before .before .before .args in
+    (search needs, search needs, c .cut-point .ensures .0, (search needs, sym (add-zero (a .n))))
 
 cut-point-requires-2 : tie.Need-cut-point-requires-2 Inv-loop μ-loop
 cut-point-requires-2 c κs =
+    let if1 = c .before .before .before .if1 in
     let s = c .before .before .before .before .before in
-    (s .pre .1, (omega (arith, s .pre .1 .1 .some, c .before .before .before .if1 .left), omega arith))
+    (s .pre .1, (omega (arith, s .pre .1 .1 .some, if1 .left), omega arith))
 
 store-edge-requires-2 : tie.Need-store-edge-requires-2 Inv-loop μ-loop
 store-edge-requires-2 c κs =
@@ -50,15 +54,21 @@ loop-again c =
     let l = c .before .before .before .before .before .loop in
     let e = c .before .store-edge2 in
     let to = c .before .before .before .cut-point2 in
-    let more = pieces-more (a .o) (a .c) (l .k) (l .from) (to .result) (l .inv .2) (to .ensures .0) in
-    (search needs, e .kept .0 ∙ l .inv .1, to .ensures .0, puts-more (pieces (a .o) (a .c) (l .k)) (edgeBetween (l .from) (to .result)) (a .edges .now) (a .n) more (l .inv .3) (e .ensures))
+    let more = pieces-more (a .o) (a .c) (l .k) (l .from) (to .result) (l .inv .2) (to .ensures .0) in (
+      search needs,
+      e .kept .0 ∙ l .inv .1,
+      to .ensures .0,
+      puts-more (pieces (a .o) (a .c) (l .k)) (edgeBetween (l .from) (to .result)) (a .edges .now)
+          (a .n) more (l .inv .3) (e .ensures),
+    )
 
 returns-2 : tie.Need-returns-2 Inv-loop μ-loop
 returns-2 c =
+    let if1 = c .before .before .before .if1 in
     let a = c .before .before .before .before .before .args in
     let l = c .before .loop in
     let last : l .k ≡ 16 = omega arith in
-    puts-same (a .edges .now) (a .n) (ap (pieces (a .o) (a .c)) last ∙ sym (curve-pieces (a .o) (a .c) (c .before .before .before .if1 .left))) (l .inv .3)
+    puts-same (a .edges .now) (a .n) (ap (pieces (a .o) (a .c)) last ∙ sym (curve-pieces (a .o) (a .c) (if1 .left))) (l .inv .3)
 
 pub store-curve-spec : {M : Type 1} → statement M
 store-curve-spec =

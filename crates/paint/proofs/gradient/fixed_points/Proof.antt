@@ -7,7 +7,8 @@ use Rattle.paint.proofs.gradient.fixed_points.Tie as tie
 
 returns : tie.Need-returns
 returns c =
-    let x0 = c .before .before .before .coordinate in
+    let after-coordinate = c .before .before .before in
+    let x0 = after-coordinate .coordinate in
     let y0 = c .before .before .coordinate2 in
     let x1 = c .before .coordinate3 in
     let y1 = c .coordinate4 in

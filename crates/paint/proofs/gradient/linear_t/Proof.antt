@@ -16,8 +16,9 @@ apart c e = zero-no w64 (c .before .squared-length .result) (c .if1 .left) (ap n
 
 floor-div-requires : tie.Need-floor-div-requires
 floor-div-requires c κs =
+    let entry = c .before .before .before in
     let d = c .before .before .squared-length in
-    rw (back w64 (d .result) (d .ok), d .ensures) (above (squared-is (c .before .before .before .args .p)) (apart (c .before)))
+    rw (back w64 (d .result) (d .ok), d .ensures) (above (squared-is (entry .args .p)) (apart (c .before)))
 
 returns : tie.Need-returns
 unfolding linearT
@@ -28,7 +29,8 @@ returns c =
 returns-2 : tie.Need-returns-2
 unfolding linearT
 returns-2 c =
-    let d = c .before .before .before .squared-length in
+    let after-squared-length = c .before .before .before in
+    let d = after-squared-length .squared-length in
     let n = c .before .numerator in
     rw (ne-eqb _ _ (apart (c .before .before)))
     (back w64 (c .floor-div .result) (c .floor-div .ok) ∙ c .floor-div .ensures

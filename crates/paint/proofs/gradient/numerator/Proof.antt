@@ -4,7 +4,7 @@ use lib.IntN.{ℤ, pos, _+ℤ_, _*ℤ_}
 use mir.Syntax.{w64}
 use Rattle.fixed.proofs.Means.{Num, need, keep, lit, add, mul}
 use Rattle.fixed.proofs.Signed.{clean}
-use Rattle.paint.specs.Gradient.{one}
+use Rattle.paint.specs.Gradient.{rampUnit}
 use Rattle.paint.proofs.Sizes.{sized}
 use Rattle.paint.proofs.gradient.numerator.Statement.{statement}
 use Rattle.paint.proofs.gradient.numerator.Tie as tie
@@ -22,24 +22,27 @@ product c = mul (lit 65536) (keep w64 (sum c) tt)
 
 along-requires : tie.Need-along-requires
 along-requires c κs =
-    let p = c .before .before .args .p in
-    let near = c .before .before .pre .0 in
-    (rw (clean w64 1048576 (p .x0) tt (near .x0)) (near .x0), rw (clean w64 1048576 (p .x1) tt (near .x1)) (near .x1), c .before .before .pre .1 .0)
+    let entry = c .before .before in
+    let p = entry .args .p in
+    let near = entry .pre .0 in
+    (rw (clean w64 1048576 (p .x0) tt (near .x0)) (near .x0), rw (clean w64 1048576 (p .x1) tt (near .x1)) (near .x1), entry .pre .1 .0)
 
 along-requires-2 : tie.Need-along-requires-2
 along-requires-2 c κs =
-    let p = c .before .before .before .before .before .args .p in
-    let near = c .before .before .before .before .before .pre .0 in
-    (rw (clean w64 1048576 (p .y0) tt (near .y0)) (near .y0), rw (clean w64 1048576 (p .y1) tt (near .y1)) (near .y1), c .before .before .before .before .before .pre .1 .1)
+    let entry = c .before .before .before .before .before in
+    let p = entry .args .p in
+    let near = entry .pre .0 in
+    (rw (clean w64 1048576 (p .y0) tt (near .y0)) (near .y0), rw (clean w64 1048576 (p .y1) tt (near .y1)) (near .y1), entry .pre .1 .1)
 
 returns : tie.Need-returns
 returns c =
+    let after-along = c .before .before .before in
     let p = start c .args .p in
     let near = start c .pre .0 in
     keep w64 (product c) tt .same
-    ∙ ap (λ (z : ℤ). pos one *ℤ z)
+    ∙ ap (λ (z : ℤ). pos rampUnit *ℤ z)
     (ap₂ _+ℤ_
-    (rw (clean w64 1048576 (p .x0) tt (near .x0), clean w64 1048576 (p .x1) tt (near .x1)) at (c .before .before .before .along .ensures .0))
+    (rw (clean w64 1048576 (p .x0) tt (near .x0), clean w64 1048576 (p .x1) tt (near .x1)) at (after-along .along .ensures .0))
     (rw (clean w64 1048576 (p .y0) tt (near .y0), clean w64 1048576 (p .y1) tt (near .y1)) at (c .along2 .ensures .0)))
 
 pub numerator-spec : {M : Type 1} → statement M

@@ -10,9 +10,9 @@ use Rattle.paint.proofs.gradient.quotient.Tie as tie
 
 returns : tie.Need-returns
 returns c =
-    let s = c .before .before in
-    let n = toZ-ofZ (s .fits .n) in
-    let d = toZ-ofZ (s .fits .d) in
+    let entry = c .before .before in
+    let n = toZ-ofZ (entry .fits .n) in
+    let d = toZ-ofZ (entry .fits .d) in
     let f = c .before .floor-div in
     let m = c .floor-mod in
     let whole = back w64 (f .result) (f .ok) ∙ f .ensures ∙ ap₂ (λ (a b : ℤ). floorDiv a (natAbs b)) n d in
@@ -20,4 +20,5 @@ returns c =
     λ i. record { whole = whole i; rest = rest i }
 
 pub quotient-spec : {M : Type 1} → statement M
-quotient-spec = tie.close (tie.spec (λ c κs. rw (toZ-ofZ (c .fits .d)) (c .pre)) (λ c κs. rw (toZ-ofZ (c .before .fits .d)) (c .before .pre)) returns)
+quotient-spec = tie.close (tie.spec (λ c κs. rw (toZ-ofZ (c .fits .d)) (c .pre))
+    (λ c κs. let entry = c .before in rw (toZ-ofZ (entry .fits .d)) (entry .pre)) returns)

@@ -10,9 +10,9 @@ use Rattle.paint.proofs.gradient.quotient_at.Tie as tie
 
 quotient-requires : tie.Need-quotient-requires
 quotient-requires c κs =
+    let entry = c .before .before in
     let d = c .squared-length in
-    let s = c .before .before in
-    rw (back w64 (d .result) (d .ok), d .ensures) (above (squared-is (s .args .p)) (s .pre .0 .1))
+    rw (back w64 (d .result) (d .ok), d .ensures) (above (squared-is (entry .args .p)) (entry .pre .0 .1))
 
 returns : tie.Need-returns
 unfolding quotientAt

@@ -18,16 +18,17 @@ product c = mul (lit 16777216) (keep w64 (apart c) tt)
 
 quotient-requires : tie.Need-quotient-requires
 quotient-requires c κs =
+    let entry = c .before .before .before in
     let d = c .squared-length in
-    let s = c .before .before .before in
-    rw (back w64 (d .result) (d .ok), d .ensures) (above (squared-is (s .args .p)) (s .pre .1))
+    rw (back w64 (d .result) (d .ok), d .ensures) (above (squared-is (entry .args .p)) (entry .pre .1))
 
 returns : tie.Need-returns
 unfolding rowStep
 returns c =
+    let entry = c .before .before .before .before in
     let d = c .before .squared-length in
     c .quotient .ensures
-    ∙ ap₂ (λ (a b : ℤ). quotientOf a (natAbs b)) (keep w64 (product (c .before .before .before .before)) tt .same) (back w64 (d .result) (d .ok) ∙ d .ensures)
+    ∙ ap₂ (λ (a b : ℤ). quotientOf a (natAbs b)) (keep w64 (product entry) tt .same) (back w64 (d .result) (d .ok) ∙ d .ensures)
 
 pub row-step-spec : {M : Type 1} → statement M
 row-step-spec =

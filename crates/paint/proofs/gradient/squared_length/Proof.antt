@@ -18,23 +18,26 @@ sum c =
 
 square-requires : tie.Need-square-requires
 square-requires c κs =
-    let p = c .before .before .args .p in
-    let near = c .before .before .pre in
+    let entry = c .before .before in
+    let p = entry .args .p in
+    let near = entry .pre in
     (rw (clean w64 1048576 (p .x1) tt (near .x1)) (near .x1), rw (clean w64 1048576 (p .x0) tt (near .x0)) (near .x0))
 
 square-requires-2 : tie.Need-square-requires-2
 square-requires-2 c κs =
-    let p = c .before .before .before .before .before .args .p in
-    let near = c .before .before .before .before .before .pre in
+    let entry = c .before .before .before .before .before in
+    let p = entry .args .p in
+    let near = entry .pre in
     (rw (clean w64 1048576 (p .y1) tt (near .y1)) (near .y1), rw (clean w64 1048576 (p .y0) tt (near .y0)) (near .y0))
 
 returns : tie.Need-returns
 returns c =
+    let after-square = c .before .before .before in
     let p = start c .args .p in
     let near = start c .pre in
     keep w64 (sum c) tt .same
     ∙ ap₂ _+ℤ_
-    (rw (clean w64 1048576 (p .x1) tt (near .x1), clean w64 1048576 (p .x0) tt (near .x0)) at (c .before .before .before .square .ensures .0))
+    (rw (clean w64 1048576 (p .x1) tt (near .x1), clean w64 1048576 (p .x0) tt (near .x0)) at (after-square .square .ensures .0))
     (rw (clean w64 1048576 (p .y1) tt (near .y1), clean w64 1048576 (p .y0) tt (near .y0)) at (c .square2 .ensures .0))
 
 pub squared-length-spec : {M : Type 1} → statement M

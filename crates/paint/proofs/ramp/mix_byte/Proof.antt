@@ -16,13 +16,15 @@ right c = mul-le-mul {n₁ = c .args .cj} {m₁ = c .args .t - c .args .xi} {n�
 
 returns : tie.Need-returns
 returns c =
-    let a = c .before .args in
-    sym (mix-same (a .xi) (a .xj) (a .t) (a .ci) (a .cj) (c .before .pre .0) (c .before .pre .1) (c .if1 .taken))
+    let entry = c .before in
+    let a = entry .args in
+    sym (mix-same (a .xi) (a .xj) (a .t) (a .ci) (a .cj) (entry .pre .0) (entry .pre .1) (c .if1 .taken))
 
 cast-result : tie.Need-cast-result
 cast-result c =
-    let a = c .before .args in
-    omega (arith, mix-below (a .xi) (a .xj) (a .t) (a .ci) (a .cj) (c .before .pre .0) (c .before .pre .1) 255 (omega arith) (omega arith))
+    let entry = c .before in
+    let a = entry .args in
+    omega (arith, mix-below (a .xi) (a .xj) (a .t) (a .ci) (a .cj) (entry .pre .0) (entry .pre .1) 255 (omega arith) (omega arith))
 
 pub mix-byte-spec : {M : Type 1} → statement M
 mix-byte-spec =
@@ -33,9 +35,9 @@ mix-byte-spec =
     (λ c. omega (arith, left (c .before)))
     (λ c. search needs)
     (λ c. omega (arith, right (c .before)))
-    (λ c. omega (arith, left (c .before), right (c .before)))
+    (λ c. let entry = c .before in omega (arith, left entry, right entry))
     (λ c. search needs)
-    (λ c. omega (arith, left (c .before), right (c .before)))
+    (λ c. let entry = c .before in omega (arith, left entry, right entry))
     (λ c. search needs)
     (λ c. search needs)
     cast-result

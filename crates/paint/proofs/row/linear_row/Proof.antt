@@ -13,30 +13,35 @@ use Rattle.paint.proofs.row.linear_row.Tie as tie
 
 linear-pixel-requires : tie.Need-linear-pixel-requires
 linear-pixel-requires c κs =
-    let s = c .before .before .before .before .before .before .before in
-    (s .pre .0, (omega arith, s .pre .1 .1))
+    let entry = c .before .before .before .before .before .before in
+    (entry .pre .0, (omega arith, entry .pre .1 .1))
 
 fill-row-requires : tie.Need-fill-row-requires
-fill-row-requires c κs = c .before .before .before .before .before .before .before .before .before .pre .1 .2
+fill-row-requires c κs =
+    let entry = c .before .before .before .before .before .before .before .before in
+    entry .pre .1 .2
 
 same-length : tie.Need-same-length
 same-length c = search needs
 
 returns : tie.Need-returns
 returns c =
-    let s = c .before .before .before .before .before .before .before .before .before .before .before .before in
-    let a = s .args in
+    let after-linear-pixel = c .before .before .before .before in
+    let then1 = after-linear-pixel .before in
+    let entry = then1 .before .before .before .before .before .before in
+    let a = entry .args in
     let p = a .g .points in
-    let near = s .pre .0 .0 in
+    let limited = entry .pre .0 .0 in
+    let pixel = after-linear-pixel .linear-pixel in
     c .before .before .fill-row .ensures
-    ∙ flat-run (a .g) (stopsIn (a .offsets .now) (a .colors .now) (a .g .count)) (a .x) (a .y) (a .n) (c .before .before .before .before .linear-pixel .result)
-    (same-bits 1048576 (p .x0) (p .x1) tt (near .x0) (near .x1) (c .before .before .before .before .before .if1 .taken))
-    (c .before .before .before .before .linear-pixel .ensures)
+    ∙ flat-run (a .g) (stopsIn (a .ramp .now) (a .g .count)) (a .x) (a .y) (a .n) (pixel .result)
+    (same-bits 1048576 (p .x0) (p .x1) tt (limited .x0) (limited .x1) (then1 .if1 .taken))
+    (pixel .ensures)
 
 sloped-row-requires : tie.Need-sloped-row-requires
 sloped-row-requires c κs =
-    let s = c .before .before .before .before .before .before .before .before in
-    (s .pre .0, (s .pre .1, λ e. c .before .if1 .left (ap (ofZ w64) (one-x (s .args .g .points) e))))
+    let entry = c .before .before .before .before .before .before .before in
+    (entry .pre .0, (entry .pre .1, λ e. c .before .if1 .left (ap (ofZ w64) (one-x (entry .args .g .points) e))))
 
 same-length-2 : tie.Need-same-length-2
 same-length-2 c = search needs

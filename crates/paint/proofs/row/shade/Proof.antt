@@ -13,15 +13,14 @@ use Rattle.paint.proofs.row.shade.Tie as tie
 
 -- the ramp's colour
 found : (c : tie.After-ramp-color)
-    → c .ramp-color .result
-    ≡ rampAt (stopsIn (c .before .before .before .before .args .offsets .now) (c .before .before .before .before .args .colors .now) (c .before .before .before .before .args .g .count))
-    (mapped (c .before .before .before .before .args .g .spread) (c .before .before .before .before .args .t))
+    → let entry = c .before .before .before in
+    let a = entry .args in c .ramp-color .result ≡ rampAt (stopsIn (a .ramp .now) (a .g .count)) (mapped (a .g .spread) (a .t))
 found c =
-    let s = c .before .before .before .before in
+    let entry = c .before .before .before in
+    let a = entry .args in
     let m = c .before .spread in
     c .ramp-color .ensures
-    ∙ ap (rampAt (stopsIn (s .args .offsets .now) (s .args .colors .now) (s .args .g .count)))
-    (back w64 (m .result) (m .ok) ∙ m .ensures ∙ ap (mapped (s .args .g .spread)) (toZ-ofZ (s .fits .t)))
+    ∙ ap (rampAt (stopsIn (a .ramp .now) (a .g .count))) (back w64 (m .result) (m .ok) ∙ m .ensures ∙ ap (mapped (a .g .spread)) (toZ-ofZ (entry .fits .t)))
 
 returns : tie.Need-returns
 unfolding gradientColor
@@ -32,4 +31,4 @@ unfolding gradientColor
 returns-2 c = rw (c .before .if1 .left) (c .premultiplied .ensures ∙ ap premultiplied (found (c .before .before)))
 
 pub shade-spec : {M : Type 1} → statement M
-shade-spec = tie.close (tie.spec (λ c κs. tt) (λ c κs. c .before .before .before .pre) (λ c κs. tt) returns returns-2)
+shade-spec = tie.close (tie.spec (λ c κs. tt) (λ c κs. c .before .before .pre) (λ c κs. tt) returns returns-2)

@@ -1,15 +1,13 @@
--- `row::sloped_row` meets its contract.
-use mathlib.Core.Path.{_≡_, refl, sym, ap, _∙_}
-use Prim.Native.Nat.{ℕ, _+_, _-_, _*_, _≤_}
+-- `row::sloped_row` meets its contract: the pixels before i are stored, and q is t at the pixel i.
+use mathlib.Core.Path.{_≡_, refl, ap, _∙_}
+use Prim.Native.Nat.{ℕ, _+_, _-_, _≤_}
 use native.Mathlib.Omega.{arith}
-use lib.ListN.{length, length-set}
 use mir.Syntax.{w64}
 use mir.Val.{toZ, ofZ}
 use Rattle.fixed.proofs.Signed.{back, clean}
-use Rattle.lists.specs.Lists.{over}
-use Rattle.lists.proofs.Laws.{emit-four, emit-all}
-use Rattle.raster.specs.Surface.{bytesOf, run}
-use Rattle.paint.specs.Buffers.{Moderate, stopsIn, quotientAt, linearAt}
+use Rattle.raster.specs.Rows.{Stored}
+use Rattle.raster.proofs.Runs.{stored-none, stored-turn, stored-all}
+use Rattle.paint.specs.Buffers.{Moderate, stopsIn, quotientAt, gradientAt}
 use Rattle.paint.specs.Gradient.{squaredLength}
 use Rattle.paint.specs.Paints.{gradientColor}
 use Rattle.paint.specs.declared.Quotient.{Quotient}
@@ -19,87 +17,117 @@ use Rattle.paint.proofs.row.sloped_row.Statement.{statement}
 use Rattle.paint.proofs.row.sloped_row.Tie as tie
 
 abbrev Inv-loop : tie.InvT-loop
-Inv-loop g offsets colors x y n row₀ d step q₀ i₀ row q i =
-    (i ≤ n)
-    × (length row ≡ length row₀)
-    × (q ≡ quotientAt (g .points) (x + i) y)
-    × (row ≡ over (run i (λ k. linearAt g (stopsIn offsets colors (g .count)) (x + k) y)) row₀)
+Inv-loop g ramp x y n row₀ d step q₀ i₀ row q i =
+    (i ≤ n) × (q ≡ quotientAt (g .points) (x + i) y) × Stored (λ k. gradientAt g (stopsIn ramp (g .count)) (x + k) y) row₀ i row
 
 abbrev μ-loop : tie.MeasureT-loop
-μ-loop g offsets colors x y n row₀ d step q₀ i₀ row q i = n - i
+μ-loop g ramp x y n row₀ d step q₀ i₀ row q i = n - i
 
-abbrev start : tie.After-shade Inv-loop μ-loop → tie.Start Inv-loop μ-loop
-start c = c .before .before .before .before .before .before .before .before .before .before .before
-
-abbrev at : tie.After-shade Inv-loop μ-loop → ℕ
-at c = start c .args .x + c .before .before .before .loop .i
-
-moderate : (c : tie.After-shade Inv-loop μ-loop) → Moderate (c .before .before .before .loop .q)
+moderate : (c : tie.In-loop Inv-loop μ-loop) → Moderate (c .before .loop .q)
 moderate c =
-    let s = start c in
-    rw (c .before .before .before .loop .inv .2) (at-moderate (s .args .g .points) (s .pre .1 .1) (s .pre .0 .0) (at c) (s .args .y) (omega arith) (s .pre .1 .0 .1))
+    let entry = c .before .before .before .before .before .before .before .before in
+    let a = entry .args in
+    let p = entry .pre in
+    let l = c .before .loop in
+    rw (l .inv .1) (at-moderate (a .g .points) (p .1 .1) (p .0 .0) (a .x + l .i) (a .y) (omega arith) (p .1 .0 .1))
 
 shaded : (c : tie.After-shade Inv-loop μ-loop)
-    → c .shade .result ≡ linearAt (start c .args .g) (stopsIn (start c .args .offsets .now) (start c .args .colors .now) (start c .args .g .count)) (at c) (start c .args .y)
+    → let at-loop = c .before .before .before in
+    let entry = at-loop .before .before .before .before .before .before .before in
+    let a = entry .args in c .shade .result ≡ gradientAt (a .g) (stopsIn (a .ramp .now) (a .g .count)) (a .x + at-loop .loop .i) (a .y)
 shaded c =
-    let s = start c in
-    let a = s .args in
-    let q = c .before .before .before .loop .q in
+    let at-loop = c .before .before .before in
+    let entry = at-loop .before .before .before .before .before .before .before in
+    let a = entry .args in
+    let l = at-loop .loop in
     c .shade .ensures
-    ∙ ap (gradientColor (a .g .spread) (a .g .premultiply) (stopsIn (a .offsets .now) (a .colors .now) (a .g .count)))
-    (clean w64 1152921504606846976 (q .whole) tt (moderate c .whole)
-    ∙ ap (λ (r : Quotient). r .whole) (c .before .before .before .loop .inv .2)
-    ∙ whole-is-t (a .g .points) (s .pre .1 .1) (at c) (a .y))
+    ∙ ap (gradientColor (a .g .spread) (a .g .premultiply) (stopsIn (a .ramp .now) (a .g .count)))
+    (clean w64 1152921504606846976 (l .q .whole) tt (moderate (c .before .before) .whole)
+    ∙ ap (λ (r : Quotient). r .whole) (l .inv .1)
+    ∙ whole-is-t (a .g .points) (entry .pre .1 .1) (a .x + l .i) (a .y))
 
-length-is : (c : tie.After-shade Inv-loop μ-loop)
-    → toZ w64 (ofZ w64 (c .before .before .before .before .before .before .squared-length .result)) ≡ squaredLength (start c .args .g .points)
+length-is : (c : tie.After-squared-length Inv-loop μ-loop)
+    → let entry = c .before .before .before .before in
+    toZ w64 (ofZ w64 (c .squared-length .result)) ≡ squaredLength (entry .args .g .points)
 length-is c =
-    let d = c .before .before .before .before .before .before .squared-length in
+    let d = c .squared-length in
     back w64 (d .result) (d .ok) ∙ d .ensures
+
+squared-length-requires : tie.Need-squared-length-requires Inv-loop μ-loop
+squared-length-requires c κs =
+    let entry = c .before .before .before in
+    entry .pre .0 .0
+
+row-step-requires : tie.Need-row-step-requires Inv-loop μ-loop
+row-step-requires c κs =
+    let entry = c .before .before .before .before in
+    (entry .pre .0 .0, entry .pre .1 .1)
+
+quotient-at-requires : tie.Need-quotient-at-requires Inv-loop μ-loop
+quotient-at-requires c κs =
+    let entry = c .before .before .before .before .before in
+    ((entry .pre .0 .0, entry .pre .1 .1), (omega arith, omega arith))
 
 loop-holds : tie.Need-loop-holds Inv-loop μ-loop
 loop-holds c =
-    let a = c .before .before .before .before .before .before .before .args in
+    let entry = c .before .before .before .before .before .before in
+    let a = entry .args in
     let e : a .x + 0 ≡ a .x = omega arith in
-    (omega arith, refl, rw e (c .quotient-at .ensures), refl)
+    (omega arith, rw e (c .quotient-at .ensures), stored-none _ _)
+
+shade-requires : tie.Need-shade-requires Inv-loop μ-loop
+shade-requires c κs =
+    let entry = c .before .before .before .before .before .before .before .before .before in
+    entry .pre .0 .1
+
+put-pixel-requires : tie.Need-put-pixel-requires Inv-loop μ-loop
+put-pixel-requires c κs = search needs
 
 add-quotients-requires : tie.Need-add-quotients-requires Inv-loop μ-loop
 add-quotients-requires c κs =
-    let s = start c in
-    let p = s .args .g .points in (
-      moderate c,
-      rw (c .before .before .before .before .before .row-step .ensures) (step-moderate p (s .pre .1 .1) (s .pre .0 .0)),
-      rw (length-is c) (length-moderate p (s .pre .1 .1) (s .pre .0 .0)),
+    let in-loop = c .before .before .before .before .before .before in
+    let after-row-step = in-loop .before .before .before in
+    let after-squared-length = after-row-step .before in
+    let entry = after-squared-length .before .before .before .before in
+    let p = entry .args .g .points in
+    let r = entry .pre in (
+      moderate in-loop,
+      rw (after-row-step .row-step .ensures) (step-moderate p (r .1 .1) (r .0 .0)),
+      rw (length-is after-squared-length) (length-moderate p (r .1 .1) (r .0 .0)),
     )
+
+add-i : tie.Need-add-i Inv-loop μ-loop
+add-i c = search needs
+
+loop-less : tie.Need-loop-less Inv-loop μ-loop
+loop-less c = search needs
 
 loop-again : tie.Need-loop-again Inv-loop μ-loop
 loop-again c =
-    let l = c .before .before .before .before .loop in
-    let s = start (c .before) in
-    let a = s .args in
-    let e : a .x + (l .i + 1) ≡ at (c .before) + 1 = omega arith in (
+    let after-put-pixel = c .before .before .before in
+    let after-shade = after-put-pixel .before .before in
+    let at-loop = after-shade .before .before .before in
+    let after-row-step = at-loop .before .before in
+    let after-squared-length = after-row-step .before in
+    let entry = after-squared-length .before .before .before .before in
+    let a = entry .args in
+    let l = at-loop .loop in
+    let put = after-put-pixel .put-pixel in
+    let e : a .x + (l .i + 1) ≡ a .x + l .i + 1 = omega arith in (
       search needs,
-      simp length-set (omega arith),
       c .add-quotients .ensures
-          ∙ rw (l .inv .2, c .before .before .before .before .before .before .row-step .ensures, length-is (c .before), e) (next-pixel (a .g .points) (s .pre .1 .1) (at (c .before)) (a .y)),
-      emit-four (λ k. bytesOf (linearAt (a .g) (stopsIn (a .offsets .now) (a .colors .now) (a .g .count)) (a .x + k) (a .y))) (l .row) (a .row .now) (l .i) (l .i * 4) (l .i + 1) _ _ _ _
-          (λ n. refl)
-          (sym (ap bytesOf (shaded (c .before))))
-          (l .inv .3)
-          (omega arith)
-          (omega arith)
-          (omega arith),
+          ∙ rw (l .inv .1, after-row-step .row-step .ensures, length-is after-squared-length, e)
+          (next-pixel (a .g .points) (entry .pre .1 .1) (a .x + l .i) (a .y)),
+      stored-turn (l .inv .2) (put .last .0) (after-shade .shade .result) (put .ensures) (shaded after-shade) (omega (arith, entry .pre .1 .0 .2)),
     )
+
+same-length : tie.Need-same-length Inv-loop μ-loop
+same-length c = c .before .loop .inv .2 .long
 
 returns : tie.Need-returns Inv-loop μ-loop
 returns c =
-    let l = c .before .loop in
-    let a = c .before .before .before .before .before .before .before .before .before .args in
-    emit-all 4 (λ k. bytesOf (linearAt (a .g) (stopsIn (a .offsets .now) (a .colors .now) (a .g .count)) (a .x + k) (a .y))) (l .row) (a .row .now) (l .i) (a .n)
-    (λ n. refl)
-    (l .inv .3)
-    (omega arith)
-    (omega arith)
+    let entry = c .before .before .before .before .before .before .before .before in
+    stored-all (c .before .loop .inv .2) (entry .args .n) (omega arith) (entry .pre .1 .0 .2)
 
 pub sloped-row-spec : {M : Type 1} → statement M
 sloped-row-spec =
@@ -107,22 +135,15 @@ sloped-row-spec =
     (tie.spec
     Inv-loop
     μ-loop
-    (λ c κs. c .before .before .before .before .pre .0 .0)
-    (λ c κs. (c .before .before .before .before .before .pre .0 .0, c .before .before .before .before .before .pre .1 .1))
-    (λ c κs. ((c .before .before .before .before .before .before .pre .0 .0, c .before .before .before .before .before .before .pre .1 .1), (omega arith, omega arith)))
+    squared-length-requires
+    row-step-requires
+    quotient-at-requires
     loop-holds
-    (λ c κs. c .before .before .before .before .before .before .before .before .before .before .pre .0 .1)
-    (λ c. search needs)
-    (λ c. search needs)
-    (λ c. search needs)
-    (λ c. simp length-set (omega arith))
-    (λ c. search needs)
-    (λ c. simp length-set (omega arith))
-    (λ c. search needs)
-    (λ c. simp length-set (omega arith))
+    shade-requires
+    put-pixel-requires
     add-quotients-requires
-    (λ c. search needs)
-    (λ c. search needs)
+    add-i
+    loop-less
     loop-again
-    (λ c. search needs)
+    same-length
     returns)

@@ -8,10 +8,19 @@ use Rattle.paint.proofs.stops.color_at.Statement.{statement}
 use Rattle.paint.proofs.stops.color_at.Tie as tie
 
 read : (c : tie.After-channel-at4)
-    → _≡_ {A = Pixel}
-    (record { r = c .before .before .before .channel-at .result; g = c .before .before .channel-at2 .result; b = c .before .channel-at3 .result; a = c .channel-at4 .result })
-    (colorAt (c .before .before .before .before .before .args .stops .now) (c .before .before .before .before .before .args .i))
-read c = rw (c .before .before .before .channel-at .ensures, c .before .before .channel-at2 .ensures, c .before .channel-at3 .ensures, c .channel-at4 .ensures)
+    → let after-channel-at = c .before .before .before in
+    let entry = after-channel-at .before .before in
+    _≡_ {A = Pixel}
+    (record {
+      r = after-channel-at .channel-at .result;
+      g = c .before .before .channel-at2 .result;
+      b = c .before .channel-at3 .result;
+      a = c .channel-at4 .result;
+    })
+    (colorAt (entry .args .stops .now) (entry .args .i))
+read c =
+    let after-channel-at = c .before .before .before in
+    rw (after-channel-at .channel-at .ensures, c .before .before .channel-at2 .ensures, c .before .channel-at3 .ensures, c .channel-at4 .ensures)
 
 returns : tie.Need-returns
 returns c = rw (c .before .if1 .taken) (c .premultiplied .ensures ∙ ap premultiplied (read (c .before .before)))

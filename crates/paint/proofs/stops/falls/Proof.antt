@@ -31,25 +31,35 @@ or-false : (a : Bool) → (a || false) ≡ a
 or-false true = refl
 or-false false = refl
 
-fell : (c : tie.Joined1 Inv-loop μ-loop) → c .if1 .fell ≡ fallsIn (c .before .before .before .before .before .args .stops .now) (c .before .before .before .loop .i)
+fell : (c : tie.Joined1 Inv-loop μ-loop)
+    → let at-loop = c .before .before .before in
+    let entry = at-loop .before .before in
+    c .if1 .fell ≡ fallsIn (entry .args .stops .now) (at-loop .loop .i)
 fell c =
-    let l = c .before .before .before .loop in
-    let stops = c .before .before .before .before .before .args .stops .now in
+    let at-loop = c .before .before .before in
+    let entry = at-loop .before .before in
+    let l = at-loop .loop in
+    let stops = entry .args .stops .now in
     let e = c .before .falls-at .ensures in
     ⊎-elim
-    (λ w. w .1 ∙ sym (more stops (l .i) (omega arith) ∙ ap (λ (b : Bool). fallsIn stops (l .i - 1) || b) (sym e ∙ w .0 .taken) ∙ or-true (fallsIn stops (l .i - 1))))
-    (λ w. w .1 ∙ l .inv .1 ∙ sym (more stops (l .i) (omega arith) ∙ ap (λ (b : Bool). fallsIn stops (l .i - 1) || b) (sym e ∙ w .0 .left) ∙ or-false (fallsIn stops (l .i - 1))))
+    (λ w. w .1 ∙ sym (more stops (l .i) (omega arith) ∙ ap (λ (b : Bool). fallsIn stops (l .i - 1) || b) (sym e ∙ w .0 .taken)
+    ∙ or-true (fallsIn stops (l .i - 1))))
+    (λ w. w .1 ∙ l .inv .1 ∙ sym (more stops (l .i) (omega arith) ∙ ap (λ (b : Bool). fallsIn stops (l .i - 1) || b) (sym e ∙ w .0 .left)
+    ∙ or-false (fallsIn stops (l .i - 1))))
     (c .if1 .came)
 
 loop-again : tie.Need-loop-again Inv-loop μ-loop
 loop-again c =
-    let e : c .before .before .before .loop .i + 1 - 1 ≡ c .before .before .before .loop .i = omega arith in
+    let at-loop = c .before .before .before in
+    let e : at-loop .loop .i + 1 - 1 ≡ at-loop .loop .i = omega arith in
     (omega arith, rw e (fell c), omega arith)
 
 returns : tie.Need-returns Inv-loop μ-loop
 returns c =
-    let e : c .before .loop .i - 1 ≡ c .before .before .before .args .n - 1 = omega arith in
-    c .before .loop .inv .1 ∙ rw e
+    let at-loop = c .before in
+    let entry = at-loop .before .before in
+    let e : at-loop .loop .i - 1 ≡ entry .args .n - 1 = omega arith in
+    at-loop .loop .inv .1 ∙ rw e
 
 pub falls-spec : {M : Type 1} → statement M
 falls-spec =

@@ -8,7 +8,8 @@ use Rattle.paint.proofs.stops.falls_at.Tie as tie
 
 returns : tie.Need-returns
 returns c =
-    let a = c .before .before .before .before .args in
+    let entry = c .before .before .before .before in
+    let a = entry .args in
     c .less .ensures ∙ rw (c .before .before .f32-at .ensures, c .before .f32-at2 .ensures) (less-read (a .stops .now) (20 * a .i) (20 * (a .i - 1)))
 
 pub falls-at-spec : {M : Type 1} → statement M

@@ -21,11 +21,14 @@ right-none (Number x) Nan h = refl
 right-none Nan b h = refl
 
 returns : tie.Need-returns
-returns c = sym (ap₂ lessReal (c .before .before .before .before .a .given .1) (c .before .b .given .1))
+returns c =
+    let after-a = c .before .before .before .before in
+    sym (ap₂ lessReal (after-a .a .given .1) (c .before .b .given .1))
 
 returns-2 : tie.Need-returns-2
 returns-2 c =
-    let a = c .before .before .before .before .before .args in
+    let entry = c .before .before .before .before .before in
+    let a = entry .args in
     right-none (a .a) (a .b) (no-number-arm (a .b) (c .before .match2 .keys2))
 
 returns-3 : tie.Need-returns-3

@@ -13,7 +13,8 @@ returns : tie.Need-returns
 returns c =
     let s = c .before .before .before .before .before .before in
     let m = s .args .self in
-    axis-told (m .sx) (m .shx) (m .tx) (s .args .p) (s .pre .0 .sx) (s .pre .0 .shx) (s .pre .0 .tx) (s .pre .1) (c .axis .result) (c .axis .ok) (c .axis .ensures)
+    axis-told (m .sx) (m .shx) (m .tx) (s .args .p) (s .pre .0 .sx) (s .pre .0 .shx) (s .pre .0 .tx) (s .pre .1) (c .axis .result) (c .axis .ok)
+    (c .axis .ensures)
 
 pub across-spec : {M : Type 1} → statement M
 across-spec = tie.close (tie.spec axis-requires returns)

@@ -32,13 +32,16 @@ up-requires : tie.Need-up-requires
 up-requires c κs = c .before .pre .0
 
 cast-t6 : tie.Need-cast-t6
-cast-t6 c = landed _ (c .up .result) (on-y (c .before .before)) (c .up .ok) (c .up .ensures)
+cast-t6 c =
+    let s = c .before .before in
+    landed _ (c .up .result) (on-y s) (c .up .ok) (c .up .ensures)
 
 returns : tie.Need-returns
 returns c =
+    let s = c .before .before in
     let a = c .before .across in
-    let e = landed-there _ (a .result) (on-x (c .before .before)) (a .ok) (a .ensures) in
-    let f = landed-there _ (c .up .result) (on-y (c .before .before)) (c .up .ok) (c .up .ensures) in
+    let e = landed-there _ (a .result) (on-x s) (a .ok) (a .ensures) in
+    let f = landed-there _ (c .up .result) (on-y s) (c .up .ok) (c .up .ensures) in
     λ i. record { x = e i; y = f i }
 
 pub apply-spec : {M : Type 1} → statement M

@@ -17,7 +17,9 @@ on-grid-requires : tie.Need-on-grid-requires
 on-grid-requires c κs = search needs
 
 up-requires : tie.Need-up-requires
-up-requires c κs = c .before .before .before .pre
+up-requires c κs =
+    let pre = c .before .before .before .pre in
+    pre
 
 on-grid-requires-2 : tie.Need-on-grid-requires-2
 on-grid-requires-2 c κs = search needs
@@ -29,9 +31,11 @@ across-small c =
 
 returns : tie.Need-returns
 returns c =
+    let if1 = c .before .before .if1 in
+    let at-on-grid = c .before .before .before in
     let s = c .before .before .before .before .before in
     let u = c .before .up in
-    and-on _ (leb (natAbs (transform (s .args .self) (s .args .p) .y)) 8388608) (across-small (c .before .before .before)) (c .before .before .if1 .taken)
+    and-on _ (leb (natAbs (transform (s .args .self) (s .args .p) .y)) 8388608) (across-small at-on-grid) (if1 .taken)
     (c .on-grid2 .ensures ∙ ap (λ (z : ℤ). leb (natAbs z) 8388608) (back w64 (u .result) (u .ok) ∙ u .ensures))
 
 returns-2 : tie.Need-returns-2

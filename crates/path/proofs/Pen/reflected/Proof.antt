@@ -1,5 +1,5 @@
 -- `path::Pen::reflected` meets its contract. Assumes nothing.
-use Rattle.path.proofs.Mirrors.{mirror-asked, mirror-told}
+use Rattle.path.proofs.Axes.{mirror-asked, mirror-told}
 use Rattle.path.proofs.Pen.reflected.Statement.{statement}
 use Rattle.path.proofs.Pen.reflected.Tie as tie
 

@@ -18,8 +18,9 @@ curve-reached-requires c κs =
 
 returns : tie.Need-returns
 returns c =
+    let curve-in-range = c .before .before .curve-in-range in
     let a = c .before .before .before .args in
-    and-on (curveInRange (a .c)) (curveOnGrid (a .m) (a .c)) (c .before .before .curve-in-range .ensures) (c .before .if1 .taken) (c .curve-reached .ensures)
+    and-on (curveInRange (a .c)) (curveOnGrid (a .m) (a .c)) (curve-in-range .ensures) (c .before .if1 .taken) (c .curve-reached .ensures)
 
 returns-2 : tie.Need-returns-2
 returns-2 c =

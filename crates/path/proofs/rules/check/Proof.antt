@@ -23,59 +23,44 @@ abbrev μ-loop : tie.MeasureT-loop
 μ-loop m segments coordinates n walk₀ i₀ walk i = n - i
 
 -- what the segment makes of the walk over those before it
-stepped : (c : tie.After-step Inv-loop μ-loop)
-    → c .step .result ≡ stepOf (c .before .before .before .before .before .before .before .args .m) (c .before .before .before .before .before .before .before .args .coordinates .now)
-    (walkTo (c .before .before .before .before .before .before .before .args .segments .now) (c .before .before .before .before .before .before .before .args .coordinates .now) (c .before .before .before .loop .i))
-    (getD (c .before .before .before .before .before .before .before .args .segments .now) (c .before .before .before .loop .i) 0)
-stepped c =
-    let a = c .before .before .before .before .before .before .before .args in
-    let l = c .before .before .before .loop in
-    c .step .ensures ∙ ap (λ (w : Walk). stepOf (a .m) (a .coordinates .now) w (getD (a .segments .now) (l .i) 0)) (l .inv .1)
+abbrev entry : tie.After-step Inv-loop μ-loop → tie.Start Inv-loop μ-loop
+entry step = step .before .before .before .before .before .before .before
 
-new-requires : tie.Need-new-requires Inv-loop μ-loop
-new-requires c κs = search needs
-
-loop-holds : tie.Need-loop-holds Inv-loop μ-loop
-loop-holds c = (search needs, c .new .ensures, refl)
-
-shared-slice-read-step : tie.Need-shared-slice-read-step Inv-loop μ-loop
-shared-slice-read-step c = omega arith
+stepped : (step : tie.After-step Inv-loop μ-loop) → let a = entry step .args in let i = step .before .before .before .loop .i in
+    step .step .result ≡ stepOf (a .m) (a .coordinates .now) (walkTo (a .segments .now) (a .coordinates .now) i) (getD (a .segments .now) i 0)
+stepped step =
+    let a = entry step .args in
+    let l = step .before .before .before .loop in
+    step .step .ensures ∙ ap (λ (w : Walk). stepOf (a .m) (a .coordinates .now) w (getD (a .segments .now) (l .i) 0)) (l .inv .1)
 
 step-requires : tie.Need-step-requires Inv-loop μ-loop
 step-requires c κs =
-    let s = c .before .before .before .before .before .before in
     let l = c .before .before .loop in
-    (s .pre .0, subst (Ready (s .args .coordinates .now)) (sym (l .inv .1)) (accepted-ready (s .args .m) (s .args .segments .now) (s .args .coordinates .now) (l .i) (l .inv .2)))
-
-enum-known-s : tie.Need-enum-known-s Inv-loop μ-loop
-enum-known-s c = search needs
-
-enum-known-s-2 : tie.Need-enum-known-s-2 Inv-loop μ-loop
-enum-known-s-2 c = search needs
+    let s = c .before .before .before .before .before .before in
+    let a = s .args in
+    let ready = accepted-ready (a .m) (a .segments .now) (a .coordinates .now) (l .i) (l .inv .2) in
+    (s .pre .0, subst (Ready (a .coordinates .now)) (sym (l .inv .1)) ready)
 
 returns : tie.Need-returns Inv-loop μ-loop
 returns c =
-    let a = c .before .before .before .before .before .before .before .before .before .before .args in
-    let l = c .before .before .before .before .before .before .loop in
     let g = c .before .s2 .given in
+    let step = c .before .before .before in
+    let l = step .before .before .before .loop in
+    let test = step .before .before .loop-test in
+    let a = entry step .args in
     let r = from-refused (a .m) (a .coordinates .now) (walkTo (a .segments .now) (a .coordinates .now) (l .i)) (getD (a .segments .now) (l .i) 0) (g .0 .0)
-    (sym (g .1) ∙ stepped (c .before .before .before)) in
-    checked-refused (a .m) (a .segments .now) (a .coordinates .now) (l .i) (g .0 .0) (a .n) (c .before .before .before .before .before .loop-test .taken) (l .inv .2) (r .0) (r .1)
-
-add-i : tie.Need-add-i Inv-loop μ-loop
-add-i c = omega arith
-
-loop-less : tie.Need-loop-less Inv-loop μ-loop
-loop-less c = omega arith
+    (sym (g .1) ∙ stepped step) in
+    checked-refused (a .m) (a .segments .now) (a .coordinates .now) (l .i) (g .0 .0) (a .n) (test .taken) (l .inv .2) (r .0) (r .1)
 
 loop-again : tie.Need-loop-again Inv-loop μ-loop
 unfolding tracedBy
 loop-again c =
-    let a = c .before .before .before .before .before .before .before .before .before .before .before .args in
-    let l = c .before .before .before .before .before .before .before .loop in
     let g = c .before .before .s .given in
+    let step = c .before .before .before .before in
+    let l = step .before .before .before .loop in
+    let a = entry step .args in
     let r = from-drawn (a .m) (a .coordinates .now) (walkTo (a .segments .now) (a .coordinates .now) (l .i)) (getD (a .segments .now) (l .i) 0) (g .0 .0)
-    (sym (g .1) ∙ stepped (c .before .before .before .before)) in (
+    (sym (g .1) ∙ stepped step) in (
       omega arith,
       ap (λ (t : Traced). t .walk) (r .1) ∙ ap (walkTo (a .segments .now) (a .coordinates .now)) (sym (add-one (l .i))),
       ap (λ (n : ℕ). faultTo (a .m) (a .segments .now) (a .coordinates .now) n .code) (add-one (l .i))
@@ -84,8 +69,8 @@ loop-again c =
 
 returns-2 : tie.Need-returns-2 Inv-loop μ-loop
 returns-2 c =
-    let a = c .before .before .before .before .before .args in
     let l = c .before .loop in
+    let a = c .before .before .before .before .before .args in
     let e : l .i ≡ a .n = omega arith in
     checked-accepted (a .m) (a .segments .now) (a .coordinates .now) (a .n) (l .walk)
     (ap (λ (n : ℕ). faultTo (a .m) (a .segments .now) (a .coordinates .now) n .code) (sym e) ∙ l .inv .2)
@@ -97,14 +82,14 @@ check-spec =
     (tie.spec
     Inv-loop
     μ-loop
-    new-requires
-    loop-holds
-    shared-slice-read-step
+    (λ c κs. search needs)
+    (λ c. (search needs, c .new .ensures, refl))
+    (λ c. omega arith)
     step-requires
-    enum-known-s
-    enum-known-s-2
+    (λ c. search needs)
+    (λ c. search needs)
     returns
-    add-i
-    loop-less
+    (λ c. omega arith)
+    (λ c. omega arith)
     loop-again
     returns-2)

@@ -17,19 +17,27 @@ in-range-requires-3 c κs = search needs
 
 returns : tie.Need-returns
 returns c =
-    let d = c .before .before .before .before .before .args .c in
-    and-on (inRange (d .p1)) (inRange (d .p2) && inRange (d .p3)) (c .before .before .before .before .in-range .ensures) (c .before .before .before .if1 .taken)
-    (and-on (inRange (d .p2)) (inRange (d .p3)) (c .before .before .in-range2 .ensures) (c .before .if2 .taken) (c .in-range3 .ensures))
+    let in-range2 = c .before .before .in-range2 in
+    let if1 = c .before .before .before .if1 in
+    let in-range = c .before .before .before .before .in-range in
+    let a = c .before .before .before .before .before .args in
+    let d = a .c in
+    and-on (inRange (d .p1)) (inRange (d .p2) && inRange (d .p3)) (in-range .ensures) (if1 .taken)
+    (and-on (inRange (d .p2)) (inRange (d .p3)) (in-range2 .ensures) (c .before .if2 .taken) (c .in-range3 .ensures))
 
 returns-2 : tie.Need-returns-2
 returns-2 c =
-    let d = c .before .before .before .before .args .c in
-    and-on (inRange (d .p1)) (inRange (d .p2) && inRange (d .p3)) (c .before .before .before .in-range .ensures) (c .before .before .if1 .taken)
+    let if1 = c .before .before .if1 in
+    let in-range = c .before .before .before .in-range in
+    let a = c .before .before .before .before .args in
+    let d = a .c in
+    and-on (inRange (d .p1)) (inRange (d .p2) && inRange (d .p3)) (in-range .ensures) (if1 .taken)
     (and-off (inRange (d .p2)) (inRange (d .p3)) (c .before .in-range2 .ensures) (c .if2 .left))
 
 returns-3 : tie.Need-returns-3
 returns-3 c =
-    let d = c .before .before .args .c in
+    let a = c .before .before .args in
+    let d = a .c in
     and-off (inRange (d .p1)) (inRange (d .p2) && inRange (d .p3)) (c .before .in-range .ensures) (c .if1 .left)
 
 pub curve-in-range-spec : {M : Type 1} → statement M

@@ -22,18 +22,23 @@ reaches-requires-3 c κs = let s = c .before .before .before .before in (s .pre 
 
 returns : tie.Need-returns
 returns c =
+    let reaches2 = c .before .before .reaches2 in
+    let if1 = c .before .before .before .if1 in
+    let reaches = c .before .before .before .before .reaches in
     let a = c .before .before .before .before .before .args in
     let d = a .c in
     let m = a .m in
-    and-on (on m (d .p1)) (on m (d .p2) && on m (d .p3)) (c .before .before .before .before .reaches .ensures) (c .before .before .before .if1 .taken)
-    (and-on (on m (d .p2)) (on m (d .p3)) (c .before .before .reaches2 .ensures) (c .before .if2 .taken) (c .reaches3 .ensures))
+    and-on (on m (d .p1)) (on m (d .p2) && on m (d .p3)) (reaches .ensures) (if1 .taken)
+    (and-on (on m (d .p2)) (on m (d .p3)) (reaches2 .ensures) (c .before .if2 .taken) (c .reaches3 .ensures))
 
 returns-2 : tie.Need-returns-2
 returns-2 c =
+    let if1 = c .before .before .if1 in
+    let reaches = c .before .before .before .reaches in
     let a = c .before .before .before .before .args in
     let d = a .c in
     let m = a .m in
-    and-on (on m (d .p1)) (on m (d .p2) && on m (d .p3)) (c .before .before .before .reaches .ensures) (c .before .before .if1 .taken)
+    and-on (on m (d .p1)) (on m (d .p2) && on m (d .p3)) (reaches .ensures) (if1 .taken)
     (and-off (on m (d .p2)) (on m (d .p3)) (c .before .reaches2 .ensures) (c .if2 .left))
 
 returns-3 : tie.Need-returns-3

@@ -17,19 +17,24 @@ in-sixteen-bits-requires-2 c κs = search needs
 
 first : (c : tie.After-in-sixteen-bits) → c .in-sixteen-bits .result ≡ inSixteenBits (c .before .before .args .p .x)
 first c =
-    let x : SFits w32 (c .before .before .args .p .x) = search needs in
+    let a = c .before .before .args in
+    let x : SFits w32 (a .p .x) = search needs in
     rw (toZ-ofZ x) at (c .in-sixteen-bits .ensures)
 
 returns : tie.Need-returns
 returns c =
-    let p = c .before .before .before .before .before .args .p in
+    let if1 = c .before .before .if1 in
+    let at-in-sixteen-bits = c .before .before .before in
+    let a = at-in-sixteen-bits .before .before .args in
+    let p = a .p in
     let y : SFits w32 (p .y) = search needs in
-    and-on (inSixteenBits (p .x)) (inSixteenBits (p .y)) (first (c .before .before .before)) (c .before .before .if1 .taken)
+    and-on (inSixteenBits (p .x)) (inSixteenBits (p .y)) (first at-in-sixteen-bits) (if1 .taken)
     (rw (toZ-ofZ y) at (c .in-sixteen-bits2 .ensures))
 
 returns-2 : tie.Need-returns-2
 returns-2 c =
-    let p = c .before .before .before .args .p in
+    let a = c .before .before .before .args in
+    let p = a .p in
     and-off (inSixteenBits (p .x)) (inSixteenBits (p .y)) (first (c .before)) (c .if1 .left)
 
 pub in-range-spec : {M : Type 1} → statement M

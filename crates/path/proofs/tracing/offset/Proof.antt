@@ -33,7 +33,9 @@ add-result : tie.Need-add-result
 add-result c = need (sum c) tt
 
 returns : tie.Need-returns
-returns c = keep w32 (sum c) tt .same ∙ ap (λ (z : ℤ). c .before .before .args .o +ℤ z) (c .i16-at .ensures)
+returns c =
+    let a = c .before .before .args in
+    keep w32 (sum c) tt .same ∙ ap (λ (z : ℤ). a .o +ℤ z) (c .i16-at .ensures)
 
 pub offset-spec : {M : Type 1} → statement M
 offset-spec = tie.close (tie.spec add-i16-at mul-i16-at i16-at-requires cast-result add-result returns)

@@ -14,10 +14,14 @@ taken-requires : tie.Need-taken-requires
 taken-requires c κs = c .before .pre .0 .segment
 
 add-next : tie.Need-add-next
-add-next c = omega (arith, c .before .before .before .pre .0 .enough)
+add-next c =
+    let pre = c .before .before .before .pre in
+    omega (arith, pre .0 .enough)
 
 line-pen-requires : tie.Need-line-pen-requires
-line-pen-requires c κs = c .before .before .before .pre
+line-pen-requires c κs =
+    let pre = c .before .before .before .pre in
+    pre
 
 line-requires : tie.Need-line-requires
 line-requires c κs = search needs
@@ -28,10 +32,11 @@ traced-requires c κs = search needs
 returns : tie.Need-returns
 unfolding tracedBy
 returns c =
+    let taken = c .before .before .before .before .before .taken in
     let s = c .before .before .before .before .before .before .before in
     let a = s .args in
     let p = c .before .before .before .line-pen in
-    let u = c .before .before .before .before .before .taken .ensures .0 in
+    let u = taken .ensures .0 in
     let e = line-end (a .walk .pen) (a .byte) (coordinateFrom (a .coordinates .now) (a .walk .used)) (s .pre .1) in
     let d = c .before .line .ensures ∙ ap (λ (q : Pen). lineTo (q .current)) (p .ensures) ∙ e in
     c .traced .ensures ∙ (λ i. tracedAs (a .walk .used + u i) (p .ensures i) (d i))

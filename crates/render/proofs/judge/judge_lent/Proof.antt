@@ -16,43 +16,35 @@ product w h a b =
     let d : h ≤ 65535 = omega arith in
     mul-le-mul c d
 
--- src/judge.rt:74:24
 mul-if1 : tie.Need-mul-if1
 mul-if1 c =
     let a = c .args in
     omega (arith, product (a .width) (a .height) (c .pre .0) (c .pre .1))
 
--- src/judge.rt:74:19
 mul-if1-2 : tie.Need-mul-if1-2
 mul-if1-2 c =
     let a = c .args in
     omega (arith, product (a .width) (a .height) (c .pre .0) (c .pre .1))
 
--- src/judge.rt:75:9
 refusal-requires : tie.Need-refusal-requires
 refusal-requires c κs = search needs
 
--- src/judge.rt:75:9
 returns : tie.Need-returns
 returns c =
     let a = c .before .before .args in
     c .refusal .ensures ∙ sym (lent-wrong (a .width) (a .height) (a .surface) (a .scratch) (c .before .if1 .taken))
 
--- src/judge.rt:78:9
 refusal-requires-2 : tie.Need-refusal-requires-2
 refusal-requires-2 c κs = search needs
 
--- src/judge.rt:78:9
 returns-2 : tie.Need-returns-2
 returns-2 c =
     let a = c .before .before .before .args in
     c .refusal2 .ensures ∙ sym (lent-short (a .width) (a .height) (a .surface) (a .scratch) (c .before .before .if1 .left) (c .before .if2 .taken))
 
--- src/judge.rt:80:5
 refusal-requires-3 : tie.Need-refusal-requires-3
 refusal-requires-3 c κs = search needs
 
--- src/judge.rt:70:1
 returns-3 : tie.Need-returns-3
 returns-3 c =
     let a = c .before .before .before .args in

@@ -9,53 +9,53 @@ use Rattle.render.proofs.judge.refusal.Reads as refusal-reads
 use Rattle.scene.proofs.header.height.Reads as height-reads
 use Rattle.scene.proofs.header.width.Reads as width-reads
 
--- src/judge.rt:88:8
 width-requires : tie.Need-width-requires
 width-requires c κs = search needs
 
--- src/judge.rt:88:37
 width-requires-2 : tie.Need-width-requires-2
 width-requires-2 c κs = search needs
 
--- src/judge.rt:89:9
 refusal-requires : tie.Need-refusal-requires
 refusal-requires c κs = search needs
 
--- src/judge.rt:89:9
 returns : tie.Need-returns
 returns c =
     let a = c .before .before .before .before .before .before .args in
-    c .refusal .ensures ∙ sym (size-width (a .old .now) (a .new .now) (λ e. c .before .if1 .taken (c .before .before .before .width .ensures .0 ∙ e ∙ sym (c .before .before .width2 .ensures .0))))
+    c .refusal .ensures
+    ∙ sym (size-width (a .old .now) (a .new .now)
+    (λ e. c .before .if1 .taken (c .before .before .before .width .ensures .0 ∙ e ∙ sym (c .before .before .width2 .ensures .0))))
 
--- src/judge.rt:91:8
 height-requires : tie.Need-height-requires
 height-requires c κs = search needs
 
--- src/judge.rt:91:38
 height-requires-2 : tie.Need-height-requires-2
 height-requires-2 c κs = search needs
 
--- src/judge.rt:92:9
 refusal-requires-2 : tie.Need-refusal-requires-2
 refusal-requires-2 c κs = search needs
 
--- src/judge.rt:92:9
 returns-2 : tie.Need-returns-2
 returns-2 c =
-    let a = c .before .before .before .before .before .before .before .before .before .args in
+    let branch = c .before .before .before .before in
+    let after-width2 = branch .before in
+    let after-width = after-width2 .before in
+    let a = after-width .before .before .before .args in
     c .refusal2 .ensures
-    ∙ sym (size-height (a .old .now) (a .new .now) (sym (c .before .before .before .before .before .before .width .ensures .0) ∙ c .before .before .before .before .if1 .left ∙ c .before .before .before .before .before .width2 .ensures .0) (λ e. c .before .if2 .taken (c .before .before .before .height .ensures .0 ∙ e ∙ sym (c .before .before .height2 .ensures .0))))
+    ∙ sym (size-height (a .old .now) (a .new .now) (sym (after-width .width .ensures .0) ∙ branch .if1 .left ∙ after-width2 .width2 .ensures .0)
+    (λ e. c .before .if2 .taken (c .before .before .before .height .ensures .0 ∙ e ∙ sym (c .before .before .height2 .ensures .0))))
 
--- src/judge.rt:94:5
 refusal-requires-3 : tie.Need-refusal-requires-3
 refusal-requires-3 c κs = search needs
 
--- src/judge.rt:84:1
 returns-3 : tie.Need-returns-3
 returns-3 c =
-    let a = c .before .before .before .before .before .before .before .before .before .args in
+    let branch = c .before .before .before .before in
+    let after-width2 = branch .before in
+    let after-width = after-width2 .before in
+    let a = after-width .before .before .before .args in
     c .refusal3 .ensures
-    ∙ sym (size-passes (a .old .now) (a .new .now) (sym (c .before .before .before .before .before .before .width .ensures .0) ∙ c .before .before .before .before .if1 .left ∙ c .before .before .before .before .before .width2 .ensures .0) (sym (c .before .before .before .height .ensures .0) ∙ c .before .if2 .left ∙ c .before .before .height2 .ensures .0))
+    ∙ sym (size-passes (a .old .now) (a .new .now) (sym (after-width .width .ensures .0) ∙ branch .if1 .left ∙ after-width2 .width2 .ensures .0)
+    (sym (c .before .before .before .height .ensures .0) ∙ c .before .if2 .left ∙ c .before .before .height2 .ensures .0))
 
 pub judge-sizes-spec : {M : Type 1} → statement M
 judge-sizes-spec =
@@ -63,12 +63,10 @@ judge-sizes-spec =
     (tie.spec
     width-requires
     width-requires-2
-    (λ c. search needs)
     refusal-requires
     returns
     height-requires
     height-requires-2
-    (λ c. search needs)
     refusal-requires-2
     returns-2
     refusal-requires-3

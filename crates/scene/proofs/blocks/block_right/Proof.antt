@@ -6,6 +6,7 @@ use mathlib.Core.List.{List}
 use borrow.Author.Tests.{eq-eqb, ne-eqb}
 use Rattle.fixed.specs.Little.{u16At}
 use Rattle.scene.specs.declared.Checksum.{Checksum}
+use Rattle.scene.specs.Layout.{blockBytes, payloadBytes}
 use Rattle.scene.specs.Blocks.{checksumOf, blockRight}
 use borrow.Author.Needs.{needs}
 use Rattle.scene.proofs.blocks.block_right.Statement.{statement}
@@ -13,27 +14,31 @@ use Rattle.scene.proofs.blocks.block_right.Tie as tie
 
 -- the first number as it should be: the second decides
 module _ (s : List ℕ) (b : ℕ) (k : Checksum) where
-  right : (p q : ℕ) → k ≡ checksumOf 0 s (512 * b) → p ≡ u16At s (512 * b + 508) → q ≡ u16At s (512 * b + 508 + 2) → p ≡ k .plain
+  right : (p q : ℕ) → k ≡ checksumOf 0 s (blockBytes * b) → p ≡ u16At s (blockBytes * b + payloadBytes) → q ≡ u16At s (blockBytes * b + payloadBytes + 2)
+      → p ≡ k .plain
       → eqb q (k .weighted) ≡ blockRight s b
   unfolding blockRight
   right p q e f g h = rw (← e, ← f, ← g, eq-eqb p (k .plain) h)
 
-  wrong : (p : ℕ) → k ≡ checksumOf 0 s (512 * b) → p ≡ u16At s (512 * b + 508) → (p ≡ k .plain → ⊥) → eqb p (k .plain) ≡ blockRight s b
+  wrong : (p : ℕ) → k ≡ checksumOf 0 s (blockBytes * b) → p ≡ u16At s (blockBytes * b + payloadBytes) → (p ≡ k .plain → ⊥) → eqb p (k .plain) ≡ blockRight s b
   unfolding blockRight
   wrong p e f h = rw (← e, ← f, ne-eqb p (k .plain) h)
 
 returns : tie.Need-returns
 returns c =
-    let s = c .before .before .before .before .before .before .before in
-    let k = c .before .before .before .before .before .checksum in
-    right (s .args .s .now) (s .args .b) (k .result) (c .before .before .before .before .u16-at .result) (c .before .u16-at2 .result)
-    (k .ensures) (c .before .before .before .before .u16-at .ensures .0) (c .before .u16-at2 .ensures .0) (c .before .before .if1 .taken)
+    let second = c .before .u16-at2 in
+    let test = c .before .before in
+    let first = test .before .before .u16-at in
+    let sums = test .before .before .before .checksum in
+    let a = test .before .before .before .before .before .args in
+    right (a .s .now) (a .b) (sums .result) (first .result) (second .result) (sums .ensures) (first .ensures .0) (second .ensures .0) (test .if1 .taken)
 
 returns-2 : tie.Need-returns-2
 returns-2 c =
-    let s = c .before .before .before .before .before in
-    let k = c .before .before .before .checksum in
-    wrong (s .args .s .now) (s .args .b) (k .result) (c .before .before .u16-at .result) (k .ensures) (c .before .before .u16-at .ensures .0) (c .if1 .left)
+    let first = c .before .before .u16-at in
+    let sums = c .before .before .before .checksum in
+    let a = c .before .before .before .before .before .args in
+    wrong (a .s .now) (a .b) (sums .result) (first .result) (sums .ensures) (first .ensures .0) (c .if1 .left)
 
 pub block-right-spec : {M : Type 1} → statement M
 block-right-spec =

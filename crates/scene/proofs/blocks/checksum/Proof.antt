@@ -6,6 +6,7 @@ use native.Mathlib.Numerals.{add-one}
 use native.Mathlib.Omega.{arith}
 use Rattle.lists.specs.Lists.{total}
 use Rattle.fixed.specs.Little.{u16At}
+use Rattle.scene.specs.Layout.{payloadWords}
 use Rattle.scene.specs.Blocks.{checksumOf}
 use Rattle.scene.proofs.Sums.{sum-turn}
 use borrow.Author.Needs.{needs}
@@ -14,11 +15,11 @@ use Rattle.scene.proofs.blocks.checksum.Tie as tie
 
 abbrev Inv-loop : tie.InvT-loop
 Inv-loop start s at plain₀ weighted₀ place₀ i₀ plain weighted place i =
-    (i ≤ 254) × (place ≡ at + 2 * i) × (plain ≤ start + i * 65535) × (weighted ≤ start + i * 16645890)
+    (i ≤ payloadWords) × (place ≡ at + 2 * i) × (plain ≤ start + i * 65535) × (weighted ≤ start + i * 16645890)
     × (plain ≡ start + total i (λ k. u16At s (at + 2 * k))) × (weighted ≡ start + total i (λ k. suc k * u16At s (at + 2 * k)))
 
 abbrev μ-loop : tie.MeasureT-loop
-μ-loop start s at plain₀ weighted₀ place₀ i₀ plain weighted place i = 254 - i
+μ-loop start s at plain₀ weighted₀ place₀ i₀ plain weighted place i = payloadWords - i
 
 -- a word's share of the second sum
 product : (c : tie.After-u16-at Inv-loop μ-loop) → (c .before .before .loop .i + 1) * c .u16-at .result ≤ 254 * 65535
@@ -47,7 +48,7 @@ returns : tie.Need-returns Inv-loop μ-loop
 unfolding checksumOf
 returns c =
     let l = c .before .loop in
-    let e : l .i ≡ 254 = omega arith in
+    let e : l .i ≡ payloadWords = omega arith in
     rw (l .inv .4, l .inv .5, e)
 
 pub checksum-spec : {M : Type 1} → statement M

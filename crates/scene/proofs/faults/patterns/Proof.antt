@@ -1,18 +1,19 @@
 -- `scene::faults::patterns` meets its contract.
 use mathlib.Core.Path.{_≡_, sym, _∙_}
-use Prim.Native.Nat.{_+_, _-_, _*_, _%_, _≤_}
+use Prim.Native.Nat.{_+_, _-_, _*_, _≤_}
 use lib.Dec.{leb}
 use borrow.Author.Tests.{le-leb, lt-leb}
 use native.Mathlib.Omega.{arith}
 use Rattle.scene.specs.Faults.{fine, firstOf, must}
 use Rattle.scene.proofs.First.{rules-turn, rules-hit}
 use Rattle.fixed.specs.Little.{u32At}
+use Rattle.fixed.specs.Patterns.{sizeBits}
 use borrow.Author.Needs.{needs}
 use Rattle.scene.proofs.faults.patterns.Statement.{statement}
 use Rattle.scene.proofs.faults.patterns.Tie as tie
 
 abbrev Inv-loop : tie.InvT-loop
-Inv-loop d limit at n i₀ i = (i ≤ n) × (firstOf i (λ k. must (leb (u32At d (at + 4 * k) % 2147483648) limit) (at + 4 * k)) ≡ fine)
+Inv-loop d limit at n i₀ i = (i ≤ n) × (firstOf i (λ k. must (leb (sizeBits (u32At d (at + 4 * k))) limit) (at + 4 * k)) ≡ fine)
 
 abbrev μ-loop : tie.MeasureT-loop
 μ-loop d limit at n i₀ i = n - i
@@ -23,8 +24,8 @@ returns c =
     let a = c .before .before .before .before .before .before .args in
     let u = c .before .before .u32-at in
     c .must .ensures
-    ∙ sym (rules-hit (λ k. leb (u32At (a .d .now) (a .at + 4 * k) % 2147483648) (a .limit)) (λ k. a .at + 4 * k) (l .i) (a .n) (omega arith) (l .inv .1)
-    (rw (← u .ensures) (lt-leb (u .result % 2147483648) (a .limit) (c .before .if1 .taken))))
+    ∙ sym (rules-hit (λ k. leb (sizeBits (u32At (a .d .now) (a .at + 4 * k))) (a .limit)) (λ k. a .at + 4 * k) (l .i) (a .n) (omega arith) (l .inv .1)
+    (rw (← u .ensures) (lt-leb (sizeBits (u .result)) (a .limit) (c .before .if1 .taken))))
 
 loop-again : tie.Need-loop-again Inv-loop μ-loop
 loop-again c =
@@ -32,8 +33,8 @@ loop-again c =
     let a = c .before .before .before .before .before .args in
     let u = c .before .u32-at in (
       search needs,
-      rules-turn (λ k. leb (u32At (a .d .now) (a .at + 4 * k) % 2147483648) (a .limit)) (λ k. a .at + 4 * k) (l .i) (l .inv .1)
-          (rw (← u .ensures) (le-leb (u .result % 2147483648) (a .limit) (c .if1 .left))),
+      rules-turn (λ k. leb (sizeBits (u32At (a .d .now) (a .at + 4 * k))) (a .limit)) (λ k. a .at + 4 * k) (l .i) (l .inv .1)
+          (rw (← u .ensures) (le-leb (sizeBits (u .result)) (a .limit) (c .if1 .left))),
     )
 
 returns-2 : tie.Need-returns-2 Inv-loop μ-loop

@@ -4,13 +4,7 @@ use Rattle.scene.proofs.fields.color.Statement.{statement}
 use Rattle.scene.proofs.fields.color.Tie as tie
 
 returns : tie.Need-returns
-returns c =
-    rw (
-      c .float-at4 .ensures,
-      c .before .float-at3 .ensures,
-      c .before .before .float-at2 .ensures,
-      c .before .before .before .float-at .ensures,
-    )
+returns c = cc
 
 pub color-spec : {M : Type 1} → statement M
 color-spec =

@@ -30,15 +30,23 @@ not-out OutOfLimits h f e = let z : _≡_ {A = ℕ} 0 1 = cc in omega arith
 within : (m : Matrix) (f : FixedMatrix) → matrixInLimits m ≡ true → converted m ≡ Within f → f ≡ fixedMatrix m
 within m f h e = let w = is-within m h in cc
 
+-- the answer on the draw's matrix
+told : (converted-at : tie.After-from-floats) → converted-at .from-floats .result ≡ converted (matrixOf (converted-at .before .before .before .args .d .now))
+told converted-at = converted-at .from-floats .ensures ∙ ap converted (converted-at .before .matrix .ensures)
+
 returns : tie.Need-returns
-returns c = within (matrixOf (c .before .before .before .before .before .before .args .d .now)) (c .before .c .given .0 .0) (c .before .before .before .before .before .before .pre .1) (sym (c .before .before .before .from-floats .ensures ∙ ap converted (c .before .before .before .before .matrix .ensures)) ∙ c .before .c .given .1)
+returns c =
+    let value = c .before .c .given in
+    let answer = c .before .before .before in
+    let s = answer .before .before .before in
+    within (matrixOf (s .args .d .now)) (value .0 .0) (s .pre .1) (sym (told answer) ∙ value .1)
 
 returns-2 : tie.Need-returns-2
 returns-2 c =
-    let s = c .before .before .before .before .before in
-    let e = is-within (matrixOf (s .args .d .now)) (s .pre .1) in
-    absurd (not-out (c .before .before .from-floats .result) (c .before .match .keys2)
-    (fixedMatrix (matrixOf (s .args .d .now))) (c .before .before .from-floats .ensures ∙ ap converted (c .before .before .before .matrix .ensures) ∙ e))
+    let answer = c .before .before in
+    let s = answer .before .before .before in
+    let m = matrixOf (s .args .d .now) in
+    absurd (not-out (answer .from-floats .result) (c .before .match .keys2) (fixedMatrix m) (told answer ∙ is-within m (s .pre .1)))
 
 pub fixed-matrix-spec : {M : Type 1} → statement M
 fixed-matrix-spec =

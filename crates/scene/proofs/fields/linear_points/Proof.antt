@@ -4,13 +4,7 @@ use Rattle.scene.proofs.fields.linear_points.Statement.{statement}
 use Rattle.scene.proofs.fields.linear_points.Tie as tie
 
 returns : tie.Need-returns
-returns c =
-    rw (
-      c .float-at4 .ensures,
-      c .before .float-at3 .ensures,
-      c .before .before .float-at2 .ensures,
-      c .before .before .before .float-at .ensures,
-    )
+returns c = cc
 
 pub linear-points-spec : {M : Type 1} → statement M
 linear-points-spec =

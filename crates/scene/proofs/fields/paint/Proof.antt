@@ -21,12 +21,21 @@ other t h n =
 returns : tie.Need-returns
 unfolding paintOf
 returns c =
-    (rw (← c .before .before .paint-type .ensures, eq-eqb (c .before .before .paint-type .result) 0x1B01 (c .before .if1 .taken), c .linear-points .ensures), sym (c .before .if1 .taken) ∙ c .before .before .paint-type .ensures)
+    let test = c .before in
+    let type = test .before .paint-type in (
+      rw (← type .ensures, eq-eqb (type .result) paintLinear (test .if1 .taken), c .linear-points .ensures),
+      sym (test .if1 .taken) ∙ type .ensures,
+    )
 
 returns-2 : tie.Need-returns-2
 unfolding paintOf
 returns-2 c =
-    (rw (← c .before .before .paint-type .ensures, ne-eqb (c .before .before .paint-type .result) 0x1B01 (c .before .if1 .left), c .color .ensures), other (paintTypeOf (c .before .before .before .before .args .d .now)) (c .before .before .before .before .pre .1) (λ e. c .before .if1 .left (c .before .before .paint-type .ensures ∙ e)))
+    let test = c .before in
+    let type = test .before .paint-type in
+    let s = test .before .before .before in (
+      rw (← type .ensures, ne-eqb (type .result) paintLinear (test .if1 .left), c .color .ensures),
+      other (paintTypeOf (s .args .d .now)) (s .pre .1) (λ e. test .if1 .left (type .ensures ∙ e)),
+    )
 
 pub paint-spec : {M : Type 1} → statement M
 paint-spec =

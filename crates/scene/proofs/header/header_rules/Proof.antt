@@ -7,32 +7,31 @@ use Rattle.scene.proofs.header.header_rules.Tie as tie
 returns : tie.Need-returns
 unfolding headerRules
 returns c =
+    let from-height = c .before in
+    let height = from-height .before in
+    let width = height .before in
+    let from-count = width .before in
+    let count = from-count .before in
+    let from-reserved = count .before .before in
+    let reserved = from-reserved .before in
     rw (
       c .or-else4 .ensures,
-      c .before .must4 .ensures,
-      c .before .before .is-side2 .ensures,
-      c .before .before .before .or-else3 .ensures,
-      c .before .before .before .before .must3 .ensures,
-      c .before .before .before .before .before .is-side .ensures,
-      c .before .before .before .before .before .before .or-else2 .ensures,
-      c .before .before .before .before .before .before .before .must2 .ensures,
-      c .before .before .before .before .before .before .before .before .u16-at4 .ensures .0,
-      c .before .before .before .before .before .before .before .before .before .or-else .ensures,
-      c .before .before .before .before .before .before .before .before .before .before .must .ensures,
-      c .before .before .before .before .before .before .before .before .before .before .before .u16-at3 .ensures .0,
-      c .before .before .before .before .before .before .before .before .before .before .before .before .unused .ensures,
-      c .before .before .before .before .before .before .before .before .before .before .before .before .before .u16-at2 .ensures .0,
-      c .before .before .before .before .before .before .before .before .before .before .before .before .before .before .u16-at .ensures .0,
+      width .side-rule .ensures,
+      from-height .or-else3 .ensures,
+      height .side-rule2 .ensures,
+      from-count .or-else2 .ensures,
+      count .must2 .ensures,
+      count .before .u16-at2 .ensures .0,
+      from-reserved .or-else .ensures,
+      reserved .must .ensures,
+      reserved .before .u16-at .ensures .0,
+      reserved .before .before .unused .ensures,
     )
 
 pub header-rules-spec : {M : Type 1} → statement M
 header-rules-spec =
     tie.close
     (tie.spec
-    (λ c κs. search needs)
-    (λ c κs. search needs)
-    (λ c κs. search needs)
-    (λ c κs. search needs)
     (λ c κs. search needs)
     (λ c κs. search needs)
     (λ c κs. search needs)

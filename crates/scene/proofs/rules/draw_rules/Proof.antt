@@ -1,55 +1,69 @@
--- `scene::rules::draw_rules` meets its contract.
-use mathlib.Core.Path.{sym, ap, _∙_}
-use borrow.Author.Tests.{eq-eqb, ne-eqb}
+-- `scene::rules::draw_rules` meets its contract: rule after rule, the first that is broken.
+use mathlib.Core.Path.{_≡_, sym, ap, _∙_}
+use mathlib.Core.Bool.{true}
+use mathlib.Core.List.{List}
+use Prim.Native.Nat.{ℕ}
+use Rattle.codes.proofs.First.{sooner-first, sooner-second}
+use Rattle.path.specs.Matrices.{matrixInLimits}
+use Rattle.scene.specs.declared.FieldFault.{FieldFault}
+use Rattle.scene.specs.Fields.{matrixOf}
 use Rattle.scene.specs.Rules.{drawRules}
-use Rattle.scene.proofs.Accepted.{head-counted, matrix-within}
+use Rattle.scene.proofs.Accepted.{Counted, head-counted, matrix-within}
 use borrow.Author.Needs.{needs}
 use Rattle.scene.proofs.rules.draw_rules.Statement.{statement}
 use Rattle.scene.proofs.rules.draw_rules.Tie as tie
 
+abbrev code : FieldFault → ℕ
+code f = f .code
+
+abbrev draw : tie.Else1 → List ℕ
+draw headed = headed .before .before .before .before .args .d .now
+
+-- what the rules before tell
+counted : (headed : tie.Else1) → Counted (draw headed)
+counted headed = head-counted (draw headed) (sym (ap code (headed .before .before .head-rules .ensures)) ∙ headed .if1 .left)
+
+within : (measured : tie.Else2) → matrixInLimits (matrixOf (draw (measured .before .before .before))) ≡ true
+within measured =
+    matrix-within (draw (measured .before .before .before)) (sym (ap code (measured .before .before .float-rules .ensures)) ∙ measured .if2 .left)
+
 returns : tie.Need-returns
 unfolding drawRules
-returns c = rw (← (c .before .before .head-rules .ensures), ne-eqb (c .before .before .head-rules .result .code) 0 (c .if1 .taken))
+returns c = let head = c .before .before .head-rules in sooner-first code (head .result) _ _ (head .ensures) (c .if1 .taken)
 
 returns-2 : tie.Need-returns-2
 unfolding drawRules
-returns-2 c = rw (← (c .before .before .before .before .before .head-rules .ensures), eq-eqb (c .before .before .before .before .before .head-rules .result .code) 0 (c .before .before .before .if1 .left), ← (c .before .before .float-rules .ensures), ne-eqb (c .before .before .float-rules .result .code) 0 (c .if2 .taken))
-
-list-rules-requires : tie.Need-list-rules-requires
-list-rules-requires c κs =
-    (search needs, head-counted (c .before .before .before .before .before .before .before .args .d .now) (sym (ap (λ f. f .code) (c .before .before .before .before .before .head-rules .ensures)) ∙ c .before .before .before .if1 .left) .stops)
+returns-2 c =
+    let floats = c .before .before .float-rules in
+    let headed = c .before .before .before in
+    let head = headed .before .before .head-rules in
+    sooner-second code (head .result) _ _ _ (head .ensures) (headed .if1 .left)
+    (sooner-first code (floats .result) _ _ (floats .ensures) (c .if2 .taken))
 
 returns-3 : tie.Need-returns-3
 unfolding drawRules
 returns-3 c =
-    rw (
-      ← (c .before .before .before .before .before .before .before .before .head-rules .ensures),
-      eq-eqb (c .before .before .before .before .before .before .before .before .head-rules .result .code) 0 (c .before .before .before .before .before .before .if1 .left),
-      ← (c .before .before .before .before .before .float-rules .ensures),
-      eq-eqb (c .before .before .before .before .before .float-rules .result .code) 0 (c .before .before .before .if2 .left),
-      ← (c .before .before .list-rules .ensures),
-      ne-eqb (c .before .before .list-rules .result .code) 0 (c .if3 .taken),
-    )
-
-path-rules-requires : tie.Need-path-rules-requires
-path-rules-requires c κs =
-    let d = c .before .before .before .before .before .before .before .before .before .before .args .d .now in (
-      (search needs, head-counted d (sym (ap (λ f. f .code) (c .before .before .before .before .before .before .before .before .head-rules .ensures)) ∙ c .before .before .before .before .before .before .if1 .left) .segments),
-      matrix-within d (sym (ap (λ f. f .code) (c .before .before .before .before .before .float-rules .ensures)) ∙ c .before .before .before .if2 .left),
-    )
+    let lists = c .before .before .list-rules in
+    let measured = c .before .before .before in
+    let floats = measured .before .before .float-rules in
+    let headed = measured .before .before .before in
+    let head = headed .before .before .head-rules in
+    sooner-second code (head .result) _ _ _ (head .ensures) (headed .if1 .left)
+    (sooner-second code (floats .result) _ _ _ (floats .ensures) (measured .if2 .left)
+    (sooner-first code (lists .result) _ _ (lists .ensures) (c .if3 .taken)))
 
 returns-4 : tie.Need-returns-4
 unfolding drawRules
 returns-4 c =
-    rw (
-      ← (c .before .before .before .before .before .before .before .before .before .head-rules .ensures),
-      eq-eqb (c .before .before .before .before .before .before .before .before .before .head-rules .result .code) 0 (c .before .before .before .before .before .before .before .if1 .left),
-      ← (c .before .before .before .before .before .before .float-rules .ensures),
-      eq-eqb (c .before .before .before .before .before .before .float-rules .result .code) 0 (c .before .before .before .before .if2 .left),
-      ← (c .before .before .before .list-rules .ensures),
-      eq-eqb (c .before .before .before .list-rules .result .code) 0 (c .before .if3 .left),
-    )
-    (c .path-rules .ensures)
+    let listed = c .before in
+    let lists = listed .before .before .list-rules in
+    let measured = listed .before .before .before in
+    let floats = measured .before .before .float-rules in
+    let headed = measured .before .before .before in
+    let head = headed .before .before .head-rules in
+    sooner-second code (head .result) _ _ _ (head .ensures) (headed .if1 .left)
+    (sooner-second code (floats .result) _ _ _ (floats .ensures) (measured .if2 .left)
+    (sooner-second code (lists .result) _ _ _ (lists .ensures) (listed .if3 .left) (c .path-rules .ensures)))
 
 pub draw-rules-spec : {M : Type 1} → statement M
 draw-rules-spec =
@@ -59,7 +73,7 @@ draw-rules-spec =
     returns
     (λ c κs. search needs)
     returns-2
-    list-rules-requires
+    (λ c κs. (search needs, counted (c .before .before .before) .stops))
     returns-3
-    path-rules-requires
+    (λ c κs. let measured = c .before .before .before in ((search needs, counted (measured .before .before .before) .segments), within measured))
     returns-4)

@@ -6,16 +6,7 @@ use Rattle.scene.proofs.rules.float_rules.Tie as tie
 
 returns : tie.Need-returns
 unfolding floatRules
-returns c =
-    rw (
-      c .or-else3 .ensures,
-      c .before .limited3 .ensures,
-      c .before .before .or-else2 .ensures,
-      c .before .before .before .limited2 .ensures,
-      c .before .before .before .before .or-else .ensures,
-      c .before .before .before .before .before .numbers .ensures,
-      c .before .before .before .before .before .before .limited .ensures,
-    )
+returns c = cc
 
 pub float-rules-spec : {M : Type 1} → statement M
 float-rules-spec =

@@ -7,14 +7,18 @@ use Rattle.scene.proofs.rules.list_rules.Tie as tie
 returns : tie.Need-returns
 unfolding listRules
 returns c =
+    let scissors = c .before in
+    let from-stops = scissors .before in
+    let stops = from-stops .before in
+    let past = stops .before in
     rw (
       c .or-else2 .ensures,
-      c .before .unused2 .ensures,
-      c .before .before .or-else .ensures,
-      c .before .before .before .numbers .ensures,
-      c .before .before .before .before .unused .ensures,
-      c .before .before .before .before .before .stop-count .ensures .0,
-      c .before .before .before .before .before .before .scissor-count .ensures .0,
+      scissors .unused2 .ensures,
+      from-stops .or-else .ensures,
+      stops .numbers .ensures,
+      past .unused .ensures,
+      past .before .stop-count .ensures .0,
+      past .before .before .scissor-count .ensures .0,
     )
 
 pub list-rules-spec : {M : Type 1} → statement M

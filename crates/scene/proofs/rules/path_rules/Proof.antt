@@ -1,67 +1,74 @@
 -- `scene::rules::path_rules` meets its contract.
 use mathlib.Core.Path.{_≡_, _∙_}
-use Prim.Native.Nat.{_*_, _≤_}
+use mathlib.Core.List.{List}
+use Prim.Native.Nat.{ℕ, _*_, _-_, _≤_}
 use native.Mathlib.Omega.{arith}
 use Rattle.lists.proofs.Laws.{part-length}
 use Rattle.path.specs.Matrices.{fixedMatrix}
 use Rattle.path.specs.Answers.{checkedTo}
 use Rattle.path.proofs.Entries.{matrix-limited}
+use Rattle.scene.specs.Layout.{segmentLimit, segmentsAt, coordinatesAt, drawBytes}
 use Rattle.scene.specs.Fields.{matrixOf, segmentsOf, coordinatesOf, segmentCount}
-use Rattle.scene.proofs.Paths.{path-segment, path-refused, path-used, path-accepted}
+use Rattle.scene.proofs.Paths.{checked-of, path-segment, path-refused, path-used, path-accepted}
 use borrow.Author.Needs.{needs}
 use Rattle.scene.proofs.rules.path_rules.Statement.{statement}
 use Rattle.scene.proofs.rules.path_rules.Tie as tie
 
--- what the walk over the draw's path answers
-answer : (c : tie.After-check)
-    → c .check .result
-    ≡ checkedTo (fixedMatrix (matrixOf (c .before .before .before .before .before .before .args .d .now))) (segmentsOf (c .before .before .before .before .before .before .args .d .now)) (coordinatesOf (c .before .before .before .before .before .before .args .d .now)) (segmentCount (c .before .before .before .before .before .before .args .d .now))
-answer c =
-    c .check .ensures
-    ∙ rw (c .before .before .before .fixed-matrix .ensures, c .before .before .segments .ensures, c .before .coordinates .ensures, c .before .before .before .before .segment-count .ensures .0)
+-- ---- what the walk over the draw's path answers
+module _ (walked : tie.After-check) where
+  abbrev entry : tie.Start
+  entry = walked .before .before .before .before .before .before
 
--- the segment of a fault
-segment : (c : tie.After-check) → c .check .result .fault .segment ≤ 128
-segment c = omega (arith, path-segment (c .before .before .before .before .before .before .args .d .now) (c .check .result) (answer c), c .before .before .before .before .before .before .pre .0 .1)
+  abbrev draw : List ℕ
+  draw = entry .args .d .now
+
+  answer : walked .check .result ≡ checkedTo (fixedMatrix (matrixOf draw)) (segmentsOf draw) (coordinatesOf draw) (segmentCount draw)
+  answer =
+      let coordinates = walked .before in
+      let segments = coordinates .before in
+      let matrix = segments .before in
+      checked-of draw _ _ _ _ (walked .check .result)
+      (matrix .fixed-matrix .ensures) (segments .segments .ensures) (coordinates .coordinates .ensures) (matrix .before .segment-count .ensures .0)
+      (walked .check .ensures)
+
+  -- the segment of a fault
+  segment : walked .check .result .fault .segment ≤ segmentLimit
+  segment = omega (arith, path-segment draw (walked .check .result) answer, entry .pre .0 .1)
 
 -- the coordinates used, where there is none
-used : (c : tie.Else1) → 2 * c .before .before .before .check .result .used ≤ 1132
-used c =
-    let k = c .before .before .before in
-    let d = k .before .before .before .before .before .before .args .d .now in
-    rw (part-length d 900 2032 (omega arith) (omega (arith, k .before .before .before .before .before .before .pre .0 .0))) at (path-used d (k .check .result) (answer k) (c .if1 .left))
+used : (accepted : tie.Else1) → 2 * accepted .before .before .before .check .result .used ≤ drawBytes - coordinatesAt
+used accepted =
+    let walked = accepted .before .before .before in
+    let d = draw walked in
+    rw (part-length d coordinatesAt drawBytes (omega arith) (omega (arith, entry walked .pre .0 .0)))
+    at (path-used d (walked .check .result) (answer walked) (accepted .if1 .left))
 
 check-requires : tie.Need-check-requires
 check-requires c κs =
-    let s = c .before .before .before .before .before in (
-      rw (c .before .before .fixed-matrix .ensures) (matrix-limited (matrixOf (s .args .d .now)) (s .pre .1)),
-      rw (c .before .segments .ensures, part-length (s .args .d .now) 772 900 (omega arith) (omega arith)) (omega (arith, c .before .before .before .segment-count .ensures .0, s .pre .0 .1)),
+    let segments = c .before in
+    let matrix = segments .before in
+    let s = matrix .before .before .before in
+    let d = s .args .d .now in (
+      rw (matrix .fixed-matrix .ensures) (matrix-limited (matrixOf d) (s .pre .1)),
+      rw (segments .segments .ensures, part-length d segmentsAt coordinatesAt (omega arith) (omega arith))
+          (omega (arith, matrix .before .segment-count .ensures .0, s .pre .0 .1)),
     )
-
-add-t10 : tie.Need-add-t10
-add-t10 c = omega (arith, segment (c .before .before .before .before))
-
-cast-t11 : tie.Need-cast-t11
-cast-t11 c = omega (arith, segment (c .before .before .before .before))
 
 returns : tie.Need-returns
 returns c =
-    let k = c .before .before .before .before in
-    path-refused (k .before .before .before .before .before .before .args .d .now) (k .check .result) (answer k) (c .before .if1 .taken)
-
-mul-unused : tie.Need-mul-unused
-mul-unused c = omega (arith, used (c .before))
-
-add-unused : tie.Need-add-unused
-add-unused c = omega (arith, used (c .before))
+    let walked = c .before .before .before .before in
+    path-refused (draw walked) (walked .check .result) (answer walked) (c .before .if1 .taken)
 
 returns-2 : tie.Need-returns-2
 returns-2 c =
-    let k = c .before .before .before .before .before .before .before in
-    let d = k .before .before .before .before .before .before .args .d .now in
+    let past-segments = c .before in
+    let past-coordinates = past-segments .before in
+    let accepted = past-coordinates .before .before in
+    let walked = accepted .before .before .before in
+    let count = walked .before .before .before .before .segment-count in
     c .or-else .ensures
-    ∙ rw (c .before .unused2 .ensures, c .before .before .unused .ensures, k .before .before .before .before .segment-count .ensures .0)
-    (path-accepted d (k .check .result) (answer k) (c .before .before .before .before .if1 .left))
+    ∙ rw (past-segments .unused2 .ensures, past-coordinates .unused .ensures, count .ensures .0)
+    (path-accepted (draw walked) (walked .check .result) (answer walked) (accepted .if1 .left))
 
 pub path-rules-spec : {M : Type 1} → statement M
 path-rules-spec =
@@ -72,11 +79,11 @@ path-rules-spec =
     (λ c κs. search needs)
     (λ c κs. search needs)
     check-requires
-    add-t10
-    cast-t11
+    (λ c. omega (arith, segment (c .before .before .before .before)))
+    (λ c. omega (arith, segment (c .before .before .before .before)))
     returns
-    mul-unused
-    add-unused
+    (λ c. omega (arith, used (c .before)))
+    (λ c. omega (arith, used (c .before)))
     (λ c κs. search needs)
     (λ c. search needs)
     (λ c κs. search needs)

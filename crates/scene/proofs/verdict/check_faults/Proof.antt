@@ -1,8 +1,14 @@
 -- `scene::verdict::check_faults` meets its contract.
-use borrow.Author.Tests.{eqb-false, not-true, not-false}
+use borrow.Author.Tests.{not-true, not-false}
 use mathlib.Core.Path.{_≡_, refl, sym, _∙_}
-use Prim.Native.Nat.{_+_, _-_, _*_, _≤_}
+use mathlib.Core.Bool.{Bool}
+use mathlib.Core.List.{List}
+use Prim.Native.Nat.{ℕ, _+_, _-_, _*_, _≤_}
 use native.Mathlib.Omega.{arith}
+use Rattle.codes.specs.Codes.{badChecksum}
+use Rattle.codes.proofs.Refusals.{refuses}
+use Rattle.scene.specs.declared.Fault.{Fault}
+use Rattle.scene.specs.Layout.{blockBytes, payloadBytes, drawBlocks}
 use Rattle.scene.specs.Blocks.{blockRight, blockOf}
 use Rattle.scene.specs.Faults.{accepted, fault, firstFault, demand}
 use Rattle.scene.specs.Rules.{checkFaults}
@@ -11,36 +17,42 @@ use borrow.Author.Needs.{needs}
 use Rattle.scene.proofs.verdict.check_faults.Statement.{statement}
 use Rattle.scene.proofs.verdict.check_faults.Tie as tie
 
+-- block j of draw i has its check, or is the fault
+abbrev right : List ℕ → ℕ → ℕ → Bool
+right s i j = blockRight s (blockOf i + j)
+
+abbrev wrong : ℕ → ℕ → Fault
+wrong i j = fault badChecksum i (blockBytes * (blockOf i + j) + payloadBytes)
+
 abbrev Inv-loop : tie.InvT-loop
-Inv-loop s i first j₀ j =
-    (j ≤ 4) × (firstFault j (λ k. demand (blockRight s (blockOf i + k)) (fault 0xB001 i (512 * (blockOf i + k) + 508))) ≡ accepted)
+Inv-loop s i first j₀ j = (j ≤ drawBlocks) × (firstFault j (λ k. demand (right s i k) (wrong i k)) ≡ accepted)
 
 abbrev μ-loop : tie.MeasureT-loop
-μ-loop s i first j₀ j = 4 - j
+μ-loop s i first j₀ j = drawBlocks - j
 
 returns : tie.Need-returns Inv-loop μ-loop
 unfolding checkFaults
 returns c =
-    let l = c .before .before .before .before .loop in
-    let a = c .before .before .before .before .before .before .args in
+    let test = c .before in
+    let l = test .before .before .before .loop in
+    let a = test .before .before .before .before .before .args in
     c .fault .ensures
-    ∙ sym (demands-hit (λ k. blockRight (a .s .now) (blockOf (a .i) + k)) (λ k. fault 0xB001 (a .i) (512 * (blockOf (a .i) + k) + 508)) (l .j) 4 (omega arith) (l .inv .1)
-    (sym (c .before .before .block-right .ensures) ∙ not-true _ (c .before .if1 .taken)) (eqb-false 0xB001 0 refl))
+    ∙ sym (demands-hit (right (a .s .now) (a .i)) (wrong (a .i)) (l .j) drawBlocks (omega arith) (l .inv .1)
+    (sym (test .before .block-right .ensures) ∙ not-true _ (test .if1 .taken)) (refuses badChecksum refl))
 
 loop-again : tie.Need-loop-again Inv-loop μ-loop
 loop-again c =
     let l = c .before .before .before .loop in
     let a = c .before .before .before .before .before .args in (
       search needs,
-      demands-turn (λ k. blockRight (a .s .now) (blockOf (a .i) + k)) (λ k. fault 0xB001 (a .i) (512 * (blockOf (a .i) + k) + 508)) (l .j) (l .inv .1)
-          (sym (c .before .block-right .ensures) ∙ not-false _ (c .if1 .left)),
+      demands-turn (right (a .s .now) (a .i)) (wrong (a .i)) (l .j) (l .inv .1) (sym (c .before .block-right .ensures) ∙ not-false _ (c .if1 .left)),
     )
 
 returns-2 : tie.Need-returns-2 Inv-loop μ-loop
 unfolding checkFaults
 returns-2 c =
     let l = c .before .before .loop in
-    let e : l .j ≡ 4 = omega arith in
+    let e : l .j ≡ drawBlocks = omega arith in
     c .fault2 .ensures ∙ sym (rw e at (l .inv .1))
 
 pub check-faults-spec : {M : Type 1} → statement M

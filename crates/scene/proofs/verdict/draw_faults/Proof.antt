@@ -4,7 +4,7 @@ use Prim.Native.Nat.{_-_, _≤_}
 use native.Mathlib.Omega.{arith}
 use Rattle.scene.specs.Faults.{accepted, firstFault}
 use Rattle.scene.specs.Rules.{drawFault}
-use Rattle.scene.proofs.First.{first-turn, first-hit}
+use Rattle.codes.proofs.First.{first-turn, first-hit}
 use Rattle.scene.proofs.Accepted.{draw-none}
 use borrow.Author.Needs.{needs}
 use Rattle.scene.proofs.verdict.draw_faults.Statement.{statement}
@@ -18,20 +18,20 @@ abbrev μ-loop : tie.MeasureT-loop
 
 returns : tie.Need-returns Inv-loop μ-loop
 returns c =
+    let f = c .before .before .draw-fault in
     let l = c .before .before .before .before .loop in
     let a = c .before .before .before .before .before .before .args in
-    let f = c .before .before .draw-fault in
+    let none = ap (λ f. f .code) (l .inv .1) in
     f .ensures
-    ∙ sym (first-hit (λ f. f .code) accepted refl (drawFault (a .s .now)) (l .i) (a .n) (omega arith) (l .inv .1) (rw (← f .ensures) (c .if1 .taken)))
+    ∙ sym (first-hit (λ f. f .code) accepted (drawFault (a .s .now)) (l .i) (a .n) (omega arith) none (rw (← f .ensures) (c .if1 .taken)))
 
 loop-again : tie.Need-loop-again Inv-loop μ-loop
 loop-again c =
+    let f = c .before .before .draw-fault in
     let l = c .before .before .before .before .loop in
     let a = c .before .before .before .before .before .before .args in
-    let f = c .before .before .draw-fault in (
-      search needs,
-      first-turn (λ f. f .code) accepted refl (drawFault (a .s .now)) (l .i) (l .inv .1) (draw-none (a .s .now) (l .i) (sym (ap (λ f. f .code) (f .ensures)) ∙ c .if1 .left) .1),
-    )
+    let none = draw-none (a .s .now) (l .i) (sym (ap (λ f. f .code) (f .ensures)) ∙ c .if1 .left) .1 in
+    (search needs, first-turn (λ f. f .code) accepted (drawFault (a .s .now)) refl (l .i) (l .inv .1) none)
 
 returns-2 : tie.Need-returns-2 Inv-loop μ-loop
 returns-2 c =

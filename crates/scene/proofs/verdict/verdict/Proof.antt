@@ -1,78 +1,86 @@
 -- `scene::verdict::verdict` meets its contract.
 use mathlib.Core.Path.{_≡_, sym, ap, _∙_}
 use mathlib.Core.List.{List}
-use mathlib.Core.Bool.{true, _&&_}
-use Prim.Native.Nat.{ℕ, _%_}
+use mathlib.Core.Bool.{true}
+use Prim.Native.Nat.{ℕ, _≤_}
 use lib.ListN.{length}
-use lib.Dec.{eqb, leb}
 use borrow.Author.Tests.{not-true, not-false}
+use Rattle.scene.specs.Layout.{blockBytes}
 use Rattle.scene.specs.Blocks.{blockRight}
-use Rattle.scene.specs.Faults.{fault, firstFault}
+use Rattle.scene.specs.Faults.{firstFault}
 use Rattle.scene.specs.Rules.{headerRules, inHeader, drawFault}
 use Rattle.scene.proofs.Accepted.{header-count}
-use Rattle.scene.proofs.Verdicts.{whole-length, bad-length, bad-check, bad-header, bad-count, by-draws}
+use Rattle.scene.proofs.Verdicts.{whole, whole-length, bad-length, bad-check, bad-header, bad-count, by-draws}
 use borrow.Author.Needs.{needs}
 use Rattle.scene.proofs.verdict.verdict.Statement.{statement}
 use Rattle.scene.proofs.verdict.verdict.Tie as tie
 
--- what the tests passed tell
+-- ---- what the tests passed tell: whole blocks, block 0's check, its fields
 abbrev scene : tie.Else1 → List ℕ
-scene c = c .before .before .before .args .s .now
+scene cut = cut .before .before .before .args .s .now
 
-whole : (c : tie.Else1) → (eqb (length (scene c) % 512) 0 && leb 512 (length (scene c))) ≡ true
-whole c = sym (c .before .whole-blocks .ensures) ∙ not-false _ (c .if1 .left)
+is-whole : (cut : tie.Else1) → whole (scene cut) ≡ true
+is-whole cut = sym (cut .before .whole-blocks .ensures) ∙ not-false _ (cut .if1 .left)
 
-right : (c : tie.Else2) → blockRight (scene (c .before .before)) 0 ≡ true
-right c = sym (c .before .block-right .ensures) ∙ not-false _ (c .if2 .left)
+abbrev first : tie.Else2 → tie.Else1
+first checked = checked .before .before
 
-calm : (c : tie.Else3) → headerRules (scene (c .before .before .before .before .before)) .code ≡ 0
-calm c = sym (ap (λ f. f .code) (c .before .before .header-rules .ensures)) ∙ c .if3 .left
+is-right : (checked : tie.Else2) → blockRight (scene (first checked)) 0 ≡ true
+is-right checked = sym (checked .before .block-right .ensures) ∙ not-false _ (checked .if2 .left)
+
+abbrev second : tie.Else3 → tie.Else2
+second read = read .before .before .before
+
+calm : (read : tie.Else3) → headerRules (scene (first (second read))) .code ≡ 0
+calm read = sym (ap (λ f. f .code) (read .before .before .header-rules .ensures)) ∙ read .if3 .left
+
+long : (cut : tie.Else1) → blockBytes ≤ length (scene cut)
+long cut = whole-length (scene cut) (is-whole cut)
 
 returns : tie.Need-returns
 returns c =
-    c .fault .ensures
-    ∙ sym (bad-length (c .before .before .before .before .args .s .now) (sym (c .before .before .whole-blocks .ensures) ∙ not-true _ (c .before .if1 .taken)))
-
-block-right-requires : tie.Need-block-right-requires
-block-right-requires c κs = whole-length (scene c) (whole c)
+    let test = c .before in
+    let s = test .before .before .before .args .s .now in
+    c .fault .ensures ∙ sym (bad-length s (sym (test .before .whole-blocks .ensures) ∙ not-true _ (test .if1 .taken)))
 
 returns-2 : tie.Need-returns-2
 returns-2 c =
-    let e = c .before .before .before in
-    c .fault2 .ensures
-    ∙ sym (bad-check (scene e) (whole e) (sym (c .before .before .block-right .ensures) ∙ not-true _ (c .before .if2 .taken)))
-
-header-rules-requires : tie.Need-header-rules-requires
-header-rules-requires c κs = whole-length (scene (c .before .before)) (whole (c .before .before))
+    let test = c .before in
+    let cut = test .before .before in
+    c .fault2 .ensures ∙ sym (bad-check (scene cut) (is-whole cut) (sym (test .before .block-right .ensures) ∙ not-true _ (test .if2 .taken)))
 
 returns-3 : tie.Need-returns-3
 returns-3 c =
-    let e = c .before .before .before .before .before .before in
-    let h = c .before .before .before .header-rules in
-    c .in-header .ensures ∙ ap inHeader (h .ensures)
-    ∙ sym (bad-header (scene e) (whole e) (right (c .before .before .before .before)) (rw (← h .ensures) (c .before .if3 .taken)))
-
-count-requires : tie.Need-count-requires
-count-requires c κs = whole-length (scene (c .before .before .before .before .before)) (whole (c .before .before .before .before .before))
+    let test = c .before in
+    let header = test .before .before .header-rules in
+    let checked = test .before .before .before in
+    let cut = first checked in
+    c .in-header .ensures ∙ ap inHeader (header .ensures)
+    ∙ sym (bad-header (scene cut) (is-whole cut) (is-right checked) (rw (← header .ensures) (test .if3 .taken)))
 
 returns-4 : tie.Need-returns-4
 returns-4 c =
-    let e = c .before .before .before .before .before .before .before .before in
+    let test = c .before in
+    let read = test .before .before in
+    let checked = second read in
+    let cut = first checked in
     c .fault3 .ensures
-    ∙ sym (bad-count (scene e) (whole e) (right (c .before .before .before .before .before .before)) (calm (c .before .before .before))
-    (rw (← c .before .before .count .ensures .0) (c .before .if4 .taken)))
+    ∙ sym (bad-count (scene cut) (is-whole cut) (is-right checked) (calm read) (rw (← test .before .count .ensures .0) (test .if4 .taken)))
 
 draw-faults-requires : tie.Need-draw-faults-requires
 draw-faults-requires c κs =
-    (c .if4 .left, rw (c .before .count .ensures .0) (header-count (scene (c .before .before .before .before .before .before .before)) (calm (c .before .before))))
+    let read = c .before .before in
+    (c .if4 .left, rw (c .before .count .ensures .0) (header-count (scene (first (second read))) (calm read)))
 
 returns-5 : tie.Need-returns-5
 returns-5 c =
-    let e = c .before .before .before .before .before .before .before .before in
-    let n = c .before .before .count in
-    c .draw-faults .ensures ∙ ap (λ (k : ℕ). firstFault k (drawFault (scene e))) (n .ensures .0)
-    ∙ sym (by-draws (scene e) (whole e) (right (c .before .before .before .before .before .before)) (calm (c .before .before .before))
-    (rw (← n .ensures .0) (c .before .if4 .left)))
+    let test = c .before in
+    let n = test .before .count in
+    let read = test .before .before in
+    let checked = second read in
+    let cut = first checked in
+    c .draw-faults .ensures ∙ ap (λ (k : ℕ). firstFault k (drawFault (scene cut))) (n .ensures .0)
+    ∙ sym (by-draws (scene cut) (is-whole cut) (is-right checked) (calm read) (rw (← n .ensures .0) (test .if4 .left)))
 
 pub verdict-spec : {M : Type 1} → statement M
 verdict-spec =
@@ -81,13 +89,13 @@ verdict-spec =
     (λ c κs. search needs)
     (λ c κs. search needs)
     returns
-    block-right-requires
+    (λ c κs. long c)
     (λ c κs. search needs)
     returns-2
-    header-rules-requires
+    (λ c κs. long (first c))
     (λ c κs. search needs)
     returns-3
-    count-requires
+    (λ c κs. long (first (second c)))
     (λ c. search needs)
     (λ c. search needs)
     (λ c. search needs)

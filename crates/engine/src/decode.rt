@@ -1,0 +1,64 @@
+// A draw's bytes, decoded once for all of its rows.
+use crate::Shade;
+use crate::Style;
+use paint::LinearGradient;
+use paint::LinearPoints;
+use paint::Paint;
+ghost use mathlib.Core.Path.{_≡_};
+ghost use Prim.Native.Nat.{_≤_};
+ghost use lib.ListN.{length};
+ghost use Rattle.paint.specs.Buffers.{rampNumbers};
+ghost use Rattle.paint.specs.declared.Paint.the-variants.{Linear};
+ghost use Rattle.scene.specs.Layout.{drawBytes};
+ghost use Rattle.scene.specs.Fields.{paintOf};
+ghost use Rattle.scene.specs.Accepted.{AcceptedDraw};
+ghost use Rattle.engine.specs.Rows.{styleOf, Shades, Gradients};
+
+// How the draw is filled, with a shade and n edges.
+pub fn style(d: &[u8], n: usize, shade: Shade) -> Style
+    requires { ⌜ length (now d) ≡ drawBytes ⌝ }
+    ensures { λ r. ⌜ r ≡ styleOf (now (d .entry)) n shade ⌝ }
+{
+    Style {
+        edges: n,
+        nonzero: scene::fields::non_zero_rule(d),
+        scissoring: scene::fields::scissoring(d),
+        scissors: scene::fields::scissor_count(d),
+        mode: scene::fields::blend_mode(d),
+        shade,
+    }
+}
+
+// What the draw paints with. A gradient's ramp is built in the run.
+pub fn shade(d: &[u8], ramp: &mut [u32]) -> Shade
+    requires { ⌜ (length (now d) ≡ drawBytes) × AcceptedDraw (now d) ⌝ }
+    requires { ⌜ rampNumbers ≤ length (now ramp) ⌝ }
+    ensures { λ r. ⌜ Shades (now (d .entry)) r (now (ramp .entry)) (now (ramp .exit)) ⌝ }
+{
+    let paint = scene::fields::paint(d);
+    match paint {
+        Paint::Solid(c) => Shade::Solid(paint::row::solid_pixel(c)),
+        Paint::Linear(p) => Shade::Linear(linear(d, p, ramp)),
+    }
+}
+
+// The draw's linear gradient.
+fn linear(d: &[u8], p: LinearPoints, ramp: &mut [u32]) -> LinearGradient
+    requires { ⌜ (length (now d) ≡ drawBytes) × AcceptedDraw (now d) × (paintOf (now d) ≡ Linear p) ⌝ }
+    requires { ⌜ rampNumbers ≤ length (now ramp) ⌝ }
+    ensures { λ r. ⌜ Gradients (now (d .entry)) p r (now (ramp .entry)) (now (ramp .exit)) ⌝ }
+{
+    let premultiply = scene::fields::ramp_premultiplied(d);
+    let count = paint::build::build_ramp(
+        scene::fields::stops(d),
+        scene::fields::stop_count(d),
+        premultiply,
+        ramp,
+    );
+    LinearGradient {
+        points: paint::gradient::fixed_points(p),
+        spread: scene::fields::spread(d),
+        premultiply,
+        count,
+    }
+}
