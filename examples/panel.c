@@ -33,10 +33,11 @@ static void put_f32(uint8_t *at, float value)
     put_u16(at + 2, bits >> 16);
 }
 
-/* Copies a payload into a block and writes the block's check. */
-static void put_block(uint8_t *block, const uint8_t *payload)
+/* Copies a payload into the block of a file and writes the block's check, both sums of which begin at its number. */
+static void put_block(uint8_t *file, uint32_t number, const uint8_t *payload)
 {
-    uint32_t sum = 0, weighted = 0;
+    uint8_t *block = file + WAYRAMESH_BLOCK_BYTES * number;
+    uint32_t sum = number, weighted = number;
     for (uint32_t i = 1; i <= PAYLOAD / 2; i++) {
         uint32_t word = (uint32_t)(payload[2 * i - 2] | payload[2 * i - 1] << 8);
         sum = (sum + word) % 65521u;
@@ -101,7 +102,7 @@ static void gauge(uint8_t *scene, int needle)
     put_u16(payload + 2, 24);
     put_u16(payload + 4, GAUGE_DRAWS);
     payload[11] = 255;
-    put_block(scene, payload);
+    put_block(scene, 0, payload);
 
     begin_draw(draws[0], 0.25f, 0.25f, 0.3f);
     polygon(draws[0], trough, 4);
@@ -123,7 +124,7 @@ static void gauge(uint8_t *scene, int needle)
 
     for (int i = 0; i < GAUGE_DRAWS; i++) {
         for (int j = 0; j < DRAW_BLOCKS; j++) {
-            put_block(scene + WAYRAMESH_BLOCK_BYTES * (size_t)(1 + DRAW_BLOCKS * i + j), draws[i] + PAYLOAD * j);
+            put_block(scene, (uint32_t)(1 + DRAW_BLOCKS * i + j), draws[i] + PAYLOAD * j);
         }
     }
 }

@@ -3,7 +3,7 @@
  *
  * A scene file goes in, and pixels come out. wayramesh_draw draws a scene in full. wayramesh_redraw takes a surface
  * from one scene to the next by drawing only the area in which they may differ. The scene file's format is paper 01's,
- * "The scene file".
+ * "The scene file", with paper 02's P8: both sums of a block's check begin at the block's number, counted from 0.
  *
  * Link with libwayramesh.a (x86-64; it needs memcpy and memset of the C library). The library allocates nothing, keeps
  * nothing between calls, and does no input or output. examples/panel.c is a whole program.
@@ -72,7 +72,7 @@ extern "C" {
 /* The scene's length is below 512, not a multiple of 512, or not 512 * (1 + 4 * draws). */
 #define WAYRAMESH_BAD_LENGTH 0xB002u
 
-/* The check of a block is not the one of its payload. */
+/* The check of a block is not the one of its payload and its number: a block is spoiled or out of its place. */
 #define WAYRAMESH_BAD_CHECKSUM 0xB001u
 
 /* A field, float, segment or coordinate breaks a rule, or the two scenes of a redraw differ in width or height. */

@@ -4,7 +4,7 @@ use mathlib.Core.Path.{_≡_, refl, sym, _∙_}
 use mathlib.Core.List.{List}
 use mathlib.Core.Bool.{true}
 use Prim.Native.Nat.{ℕ, _≤_}
-use lib.ListN.{length, drop}
+use lib.ListN.{length}
 use lib.Ieee.{lt, mul, add, ofBits, toUnsigned, isNan}
 use Rattle.rect.specs.declared.Rect.{Rect}
 use Rattle.rect.specs.Rects.{whole}
@@ -18,7 +18,7 @@ use Rattle.path.specs.Curves.{cut, curveEdges, pathEdges}
 use Rattle.path.specs.Boxes.{outer, outerOf, boxOf}
 use Rattle.coverage.specs.Winding.{upward, spans, atOrLeft, sign, weight, counts, winding, coverage}
 use Rattle.coverage.specs.Scissors.{scissored}
-use Rattle.scene.specs.Blocks.{checksumOf, blockRight, drawOf, sameDraw}
+use Rattle.scene.specs.Blocks.{checksumOf, blockRightFrom, drawOf, sameDraw}
 use Rattle.scene.specs.Fields.{paintOf}
 use Rattle.scene.specs.Rules.{countRules, headRules, floatRules, pathRules, headerRules, drawRules}
 use Rattle.engine.specs.Picture.{drawEdges, drawCoverage, drawPaint, drawStep, pixelAt, picture}
@@ -37,14 +37,14 @@ red-rules =
     (rest-judged redDraw 777 123 910 1122 refl refl refl refl refl refl)
 
 red-accepted : Accepted red
-unfolding red squareDraw checksumOf headerRules drawOf
+unfolding red squareDraw checksumOf blockRightFrom headerRules drawOf
 red-accepted =
     scene-judged red redDraw refl refl refl
-    (block-there red 0 (drop 0 red) refl refl refl)
-    (block-there red 1 (drop 512 red) refl refl refl)
-    (block-there red 2 (drop 1024 red) refl refl refl)
-    (block-there red 3 (drop 1536 red) refl refl refl)
-    (block-there red 4 (drop 2048 red) refl refl refl)
+    (block-there red 0 refl)
+    (block-there red 1 refl)
+    (block-there red 2 refl)
+    (block-there red 3 refl)
+    (block-there red 4 refl)
     refl red-rules
 
 blue-rules : drawRules blueDraw .code ≡ 0
@@ -54,14 +54,14 @@ blue-rules =
     (rest-judged blueDraw 777 123 910 1122 refl refl refl refl refl refl)
 
 blue-accepted : Accepted blue
-unfolding blue squareDraw checksumOf headerRules drawOf
+unfolding blue squareDraw checksumOf blockRightFrom headerRules drawOf
 blue-accepted =
     scene-judged blue blueDraw refl refl refl
-    (block-there blue 0 (drop 0 blue) refl refl refl)
-    (block-there blue 1 (drop 512 blue) refl refl refl)
-    (block-there blue 2 (drop 1024 blue) refl refl refl)
-    (block-there blue 3 (drop 1536 blue) refl refl refl)
-    (block-there blue 4 (drop 2048 blue) refl refl refl)
+    (block-there blue 0 refl)
+    (block-there blue 1 refl)
+    (block-there blue 2 refl)
+    (block-there blue 3 refl)
+    (block-there blue 4 refl)
     refl blue-rules
 
 curve-rules : drawRules curveDraw .code ≡ 0
@@ -71,14 +71,14 @@ curve-rules =
     (rest-judged curveDraw 775 125 912 1120 refl refl refl refl refl refl)
 
 curve-accepted : Accepted curve
-unfolding curve curveDraw checksumOf headerRules drawOf
+unfolding curve curveDraw checksumOf blockRightFrom headerRules drawOf
 curve-accepted =
     scene-judged curve curveDraw refl refl refl
-    (block-there curve 0 (drop 0 curve) refl refl refl)
-    (block-there curve 1 (drop 512 curve) refl refl refl)
-    (block-there curve 2 (drop 1024 curve) refl refl refl)
-    (block-there curve 3 (drop 1536 curve) refl refl refl)
-    (block-there curve 4 (drop 2048 curve) refl refl refl)
+    (block-there curve 0 refl)
+    (block-there curve 1 refl)
+    (block-there curve 2 refl)
+    (block-there curve 3 refl)
+    (block-there curve 4 refl)
     refl curve-rules
 
 -- ---- the pictures, and the area of the change

@@ -1,22 +1,21 @@
 -- How a scene of one draw is judged without reading each byte from the start of the file: zero bytes at once, and a block's check by the block's own bytes.
-use mathlib.Core.Path.{_≡_, refl, sym, ap, ap₂, _∙_}
-use mathlib.Core.Bool.{Bool, true, _&&_}
+use mathlib.Core.Path.{_≡_, refl, sym, ap, _∙_}
+use mathlib.Core.Bool.{true}
 use mathlib.Core.List.{List, _++_}
-use Prim.Native.Nat.{ℕ, zero, suc, _+_, _*_, _-_, _%_, _≤_, _<_}
+use Prim.Native.Nat.{ℕ, zero, suc, _+_, _*_, _-_, _≤_, _<_}
 use native.Mathlib.Omega.{arith}
 use lib.ListN.{length, getD, drop, replicate, getD-replicate, length-replicate, List·getD-append}
 use lib.Seq.{getD-drop}
 use lib.Dec.{eqb}
-use Rattle.lists.specs.Lists.{total}
-use Rattle.fixed.specs.Little.{u16At}
 use Rattle.path.specs.Segments.{walkTo}
 use Rattle.scene.specs.Layout.{scissorsAt, scissorBytes, stopsAt, stopFloats, stopBytes, segmentsAt, coordinatesAt, drawBytes}
-use Rattle.scene.specs.Blocks.{checksumOf, blockRight, drawOf}
-use Rattle.scene.specs.declared.Checksum.{Checksum}
+use Rattle.scene.specs.Blocks.{blockNumber, blockRight, drawOf}
 use Rattle.scene.specs.Header.{countOf}
 use Rattle.scene.specs.Fields.{segmentCount, scissorCount, stopCount, segmentsOf, coordinatesOf}
 use Rattle.scene.specs.Faults.{fine, firstOf, must, unused, numbers}
-use Rattle.scene.specs.Rules.{headerRules, headRules, floatRules, listRules, pathRules, restRules, drawRules, sceneFault, checkFaults, drawFault}
+use Rattle.scene.specs.Rules.{headerRules, headRules, floatRules, listRules, pathRules, restRules, drawRules}
+use Rattle.scene.specs.Rules.{checkFaultsFrom, drawFaultFrom, sceneFaultFrom, sceneFault}
+use Rattle.scene.proofs.Places.{blockAt, passesAt, block-alone}
 
 -- ---- n zero bytes from a place on
 module _ (d : List ℕ) (from n : ℕ) (zeros : drop from d ≡ replicate n 0 ++ drop (from + n) d) where
@@ -33,35 +32,8 @@ module _ (d : List ℕ) (from n : ℕ) (zeros : drop from d ≡ replicate n 0 ++
   unused-zeros to e = let m : to - from ≡ n = omega arith in rw m (none-used n (omega arith))
 
 -- ---- the check of block b
-total-same : (n : ℕ) (f g : ℕ → ℕ) → ((i : ℕ) → f i ≡ g i) → total n f ≡ total n g
-total-same zero f g h = refl
-total-same (suc n) f g h = rw (total-same n f g h, h n)
-
-abbrev checks : ℕ → ℕ → Checksum
-checks plain weighted = record { plain = plain % 65521; weighted = weighted % 65521 }
-
-word-there : (s : List ℕ) (at i : ℕ) → u16At s (at + i) ≡ u16At (drop at s) i
-word-there s at i =
-    let next : at + i + 1 ≡ at + (i + 1) = omega arith in
-    rw (next, ← getD-drop at s i 0, ← getD-drop at s (i + 1) 0)
-
-module _ (s : List ℕ) (at : ℕ) where
-  words-there : (n : ℕ) (f : ℕ → ℕ → ℕ) → total n (λ i. f i (u16At s (at + 2 * i))) ≡ total n (λ i. f i (u16At (drop at s) (0 + 2 * i)))
-  words-there n f =
-      total-same n (λ i. f i (u16At s (at + 2 * i))) (λ i. f i (u16At (drop at s) (0 + 2 * i)))
-      (λ i. ap (f i) (word-there s at (2 * i) ∙ ap (u16At (drop at s)) (omega arith)))
-
-  checksum-there : (start : ℕ) → checksumOf start s at ≡ checksumOf start (drop at s) 0
-  unfolding checksumOf
-  checksum-there start =
-      ap₂ (λ (a b : ℕ). checks (start + a) (start + b)) (words-there 254 (λ i w. w)) (words-there 254 (λ i w. suc i * w))
-
-pub block-there : (s : List ℕ) (b : ℕ) (p : List ℕ) → drop (512 * b) s ≡ p
-    → eqb (u16At p 508) (checksumOf 0 p 0 .plain) ≡ true → eqb (u16At p 510) (checksumOf 0 p 0 .weighted) ≡ true → blockRight s b ≡ true
-unfolding blockRight
-block-there s b p e h k =
-    let next : 512 * b + 508 + 2 ≡ 512 * b + 510 = omega arith in
-    rw (next, word-there s (512 * b) 508, word-there s (512 * b) 510, checksum-there s (512 * b) 0, e, h, k)
+pub block-there : (s : List ℕ) (b : ℕ) → passesAt b (blockAt s b) ≡ true → blockRight s b ≡ true
+block-there s b h = block-alone blockNumber s b ∙ h
 
 -- ---- a draw, part by part: m zero bytes from a to the stops and n from b to the segments; m from a to the coordinates and n from b to the end
 module _ (d : List ℕ) (a m b n : ℕ) (first : drop a d ≡ replicate m 0 ++ drop (a + m) d) (second : drop b d ≡ replicate n 0 ++ drop (b + n) d) where
@@ -85,5 +57,5 @@ draw-judged d head floats lists path rest = rw (head, floats, lists, path, rest)
 pub scene-judged : (s d : List ℕ) → length s ≡ 2560 → countOf s ≡ 1 → headerRules s .code ≡ 0 → blockRight s 0 ≡ true
     → blockRight s 1 ≡ true → blockRight s 2 ≡ true → blockRight s 3 ≡ true → blockRight s 4 ≡ true → drawOf s 0 ≡ d → drawRules d .code ≡ 0
     → sceneFault s .code ≡ 0
-unfolding sceneFault drawFault checkFaults
+unfolding sceneFaultFrom drawFaultFrom checkFaultsFrom
 scene-judged s d whole one header b0 b1 b2 b3 b4 bytes rules = rw (whole, b0, header, one, b1, b2, b3, b4, bytes, rules)

@@ -35,12 +35,12 @@ path place byte = numbers (inDraw 1 (pathRules (set redDraw place byte)))
 abbrev rest : ℕ → ℕ → List ℕ
 rest place byte = numbers (inDraw 1 (restRules (set redDraw place byte)))
 
--- block 0 of the red square with another byte; the checks of draw 0 in a file of zeros with a 1 at its end
+-- block 0 of the red square with another byte; the checks of draw 0 in a file that begins with these bytes and is zero behind them
 abbrev header : ℕ → ℕ → List ℕ
 header place byte = numbers (inHeader (headerRules (set red place byte)))
 
-abbrev checks : ℕ → List ℕ
-checks place = numbers (checkFaults (replicate place 0 ++ (1 ∷ [])) 0)
+abbrev checks : List ℕ → List ℕ
+checks bytes = numbers (checkFaults bytes 0)
 
 abbrev illegal : ℕ → ℕ → List ℕ
 illegal draw offset = 0x1001 ∷ draw ∷ offset ∷ []
@@ -75,13 +75,14 @@ colorAt last t = bytes (rampAt (rampOf false (stops last) 2) (pos t))
 -- ---- the table
 unfoldable pub corners : List Row
 corners =
-    -- block 0: width 0, height 1,028, count 65, the fourth number, its zeros; a wrong check in block 1
+    -- block 0: width 0, height 1,028, count 65, the fourth number, its zeros; a wrong check in block 1, which asks for 1 and 1 if all is zero, and in block 2
     row (header 0 0) (illegal 64 0)
     ∷ row (header 3 4) (illegal 64 2)
     ∷ row (header 4 65) (illegal 64 4)
     ∷ row (header 6 1) (illegal 64 6)
     ∷ row (header 12 1) (illegal 64 12)
-    ∷ row (checks 1020) (0xB001 ∷ 0 ∷ 1020 ∷ [])
+    ∷ row (checks []) (0xB001 ∷ 0 ∷ 1020 ∷ [])
+    ∷ row (checks (replicate 1020 0 ++ (1 ∷ 0 ∷ 1 ∷ 0 ∷ []))) (0xB001 ∷ 0 ∷ 1532 ∷ [])
     -- a draw's fields: flag bit 3, blend 2005, paint 0, spread 0, 129 segments, 5 scissors, 33 stops, the zero byte
     ∷ row (draw 0 8) (illegal 1 2560)
     ∷ row (draw 2 5) (illegal 1 2562)

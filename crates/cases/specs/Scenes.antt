@@ -31,7 +31,7 @@ draw head color points stops segments coordinates =
     head ++ (one ++ nought ++ nought ++ one ++ nought ++ nought) ++ color ++ points ++ replicate 64 0
     ++ padded 640 stops ++ padded 128 segments ++ padded 1132 coordinates
 
--- the two first blocks of a draw's check; the others are all zero
+-- the check of a block; that of block 3 and of block 4, which are all zero, is the number twice
 abbrev check : ℕ → ℕ → List ℕ
 check plain weighted = word plain ++ word weighted
 
@@ -40,7 +40,7 @@ abbrev file : List ℕ → List ℕ → List ℕ → List ℕ
 file d first second =
     padded 508 (word 4 ++ word 4 ++ word 1 ++ word 0 ++ (0 ∷ 0 ∷ 0 ∷ 255 ∷ [])) ++ check 0xFF09 0xFA5A
     ++ (take 508 d ++ first) ++ (take 508 (drop 508 d) ++ second)
-    ++ (take 508 (drop 1016 d) ++ check 0 0) ++ (take 508 (drop 1524 d) ++ check 0 0)
+    ++ (take 508 (drop 1016 d) ++ check 3 3) ++ (take 508 (drop 1524 d) ++ check 4 4)
 
 -- ---- the square from 0 to 2: move to 0, 0, across to 2, up to 2, back to 0, close
 unfoldable pub squareDraw : List ℕ → List ℕ
@@ -55,10 +55,10 @@ abbrev pub blueDraw : List ℕ
 blueDraw = squareDraw (nought ++ nought ++ one ++ one)
 
 unfoldable pub red : List ℕ
-red = file redDraw (check 0x5515 0xE01A) (check 0x0C0E 0x4AB2)
+red = file redDraw (check 0x5516 0xE01B) (check 0x0C10 0x4AB4)
 
 unfoldable pub blue : List ℕ
-blue = file blueDraw (check 0x5515 0xDE29) (check 0x0C0E 0x4AB2)
+blue = file blueDraw (check 0x5516 0xDE2A) (check 0x0C10 0x4AB4)
 
 -- ---- a curve from 0, 0 by 2, 8 to 4, 0, closed, under the non-zero rule; its paint goes from opaque red at x = 0 to half green at x = 4
 unfoldable pub curveDraw : List ℕ
@@ -68,7 +68,7 @@ curveDraw =
     (2 ∷ 10 ∷ 0 ∷ []) (word 0 ++ word 0 ++ word 2 ++ word 8 ++ word 4 ++ word 0)
 
 unfoldable pub curve : List ℕ
-curve = file curveDraw (check 0x53A6 0x9DA2) (check 0x0A10 0x3E47)
+curve = file curveDraw (check 0x53A7 0x9DA3) (check 0x0A12 0x3E49)
 
 -- ---- pictures, the lowest row first
 abbrev pixel : ℕ → ℕ → ℕ → List ℕ

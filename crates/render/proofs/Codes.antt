@@ -32,7 +32,7 @@ use Rattle.scene.specs.Header.{widthOf, heightOf, countOf}
 use Rattle.scene.specs.Fields.{flagsOf, blendOf, paintTypeOf, spreadOf, segmentCount, scissorCount, stopCount, matrixOf, segmentsOf, coordinatesOf}
 use Rattle.scene.specs.Faults.{fine, firstOf, must, unused, limited, numbers, accepted, fault, demand}
 use Rattle.scene.specs.Rules.{linearPointLimit, countRules, headRules, floatRules, listRules, pathRules, restRules, drawRules, headerRules}
-use Rattle.scene.specs.Rules.{inHeader, inDraw, checkFaults, drawFault, sceneFault}
+use Rattle.scene.specs.Rules.{inHeader, inDraw, checkFaultsFrom, checkFaults, drawFaultFrom, drawFault, sceneFaultFrom, sceneFault}
 use Rattle.damage.specs.Damage.{damage}
 use Rattle.render.specs.declared.Refusal.{Refusal}
 use Rattle.render.specs.declared.Answer.{Answer}
@@ -147,17 +147,17 @@ module _ (P : ℕ → Type 0) (none : P acceptedCode) (illegal : P illegalArgume
     in-draw i f a = faulty (eqb (f .code) 0) (f .code) i (fileOffset i (f .place)) (a .holds)
 
     checks-coded : (i : ℕ) → Scene (checkFaults s i)
-    unfolding checkFaults
+    unfolding checkFaultsFrom
     checks-coded i =
         first accepted drawBlocks _ none
         (λ j. faulty (blockRight s (blockOf i + j)) badChecksum i (blockBytes * (blockOf i + j) + payloadBytes) bad-check)
 
     draw-coded : (i : ℕ) → Scene (drawFault s i)
-    unfolding drawFault
+    unfolding drawFaultFrom
     draw-coded i = then (checks-coded i) (in-draw i (drawRules (drawOf s i)) (rules-coded (drawOf s i)))
 
     scene-coded : Scene (sceneFault s)
-    unfolding sceneFault
+    unfolding sceneFaultFrom
     scene-coded =
         then (faulty (eqb (length s % blockBytes) 0 && leb blockBytes (length s)) badLength noDraw 0 bad-length)
         (then (faulty (blockRight s 0) badChecksum noDraw payloadBytes bad-check)

@@ -15,7 +15,7 @@ use Rattle.scene.specs.Layout.{blockBytes, payloadBytes, noDraw}
 use Rattle.scene.specs.Blocks.{blockRight, blockOf, drawOf}
 use Rattle.scene.specs.Header.{countOf}
 use Rattle.scene.specs.Faults.{fault, orFault, firstFault, demand}
-use Rattle.scene.specs.Rules.{headerRules, drawRules, inHeader, inDraw, checkFaults, drawFault, sceneFault}
+use Rattle.scene.specs.Rules.{headerRules, drawRules, inHeader, inDraw, checkFaultsFrom, checkFaults, drawFaultFrom, drawFault, sceneFaultFrom, sceneFault}
 use Rattle.scene.proofs.Accepted.{header-count}
 
 sooner-draw : (f g : Fault) → f .draw ≤ 64 → (f .code ≡ 0 → g .draw ≤ 64) → orFault f g .draw ≤ 64
@@ -48,7 +48,7 @@ header-fine : (f : FieldFault) → inHeader f .code ≡ 0 → f .code ≡ 0
 header-fine f h = either (eqb (f .code) 0) (λ e. eqb-true _ _ e) (λ e. rw e at h)
 
 draw-number : (s : List ℕ) (i : ℕ) → i ≤ 64 → drawFault s i .draw ≤ 64
-unfolding drawFault checkFaults
+unfolding drawFaultFrom checkFaultsFrom
 draw-number s i a =
     sooner-draw (checkFaults s i) (inDraw i (drawRules (drawOf s i)))
     (first-draw 4 (λ j. demand (blockRight s (blockOf i + j)) (fault badChecksum i (blockBytes * (blockOf i + j) + payloadBytes)))
@@ -56,7 +56,7 @@ draw-number s i a =
     (λ e. in-draw i (drawRules (drawOf s i)) a)
 
 pub fault-draw : (s : List ℕ) → sceneFault s .draw ≤ 64
-unfolding sceneFault
+unfolding sceneFaultFrom
 fault-draw s =
     let draws : Fault = firstFault (countOf s) (drawFault s) in
     let whole : Bool = eqb (length s) (blockBytes * blockOf (countOf s)) in

@@ -18,12 +18,12 @@ use Rattle.path.specs.Matrices.{linearLimit, translationLimit, matrixInLimits, 
 use Rattle.path.specs.Segments.{faultTo}
 use Rattle.scene.specs.Layout.{blockBytes, payloadBytes, drawLimit, noDraw, flagsAt, flagsLimit, segmentLimit, scissorLimit, stopLimit}
 use Rattle.scene.specs.Layout.{matrixAt, translationAt, colorAt, linearPointsAt, scissorsAt, scissorBytes, stopsAt, stopBytes, stopFloats, segmentsAt}
-use Rattle.scene.specs.Blocks.{blockRight, blockOf, drawOf, fileOffset}
+use Rattle.scene.specs.Blocks.{blockNumber, blockRightFrom, blockOf, drawOf, fileOffset}
 use Rattle.scene.specs.Header.{widthOf, heightOf, countOf}
 use Rattle.scene.specs.Fields.{flagsOf, blendOf, paintTypeOf, spreadOf, segmentCount, scissorCount, stopCount, matrixOf, segmentsOf, coordinatesOf}
 use Rattle.scene.specs.Faults.{fine, must, orElse, firstOf, unused, limited, numbers, accepted, fault, demand, orFault, firstFault}
 use Rattle.scene.specs.Rules.{linearPointLimit, isPaint, isSpread, headRules, countRules, floatRules, listRules, pathRules, restRules, drawRules}
-use Rattle.scene.specs.Rules.{isSide, headerRules, located, inHeader, inDraw, checkFaults, drawFault, sceneFault}
+use Rattle.scene.specs.Rules.{isSide, headerRules, located, inHeader, inDraw, checkFaults, drawFaultFrom, drawFault, sceneFaultFrom, sceneFault}
 use Rattle.scene.specs.Accepted.{AcceptedDraw, AcceptedScene}
 use Rattle.scene.specs.declared.FieldFault.{FieldFault}
 use Rattle.scene.specs.declared.Fault.{Fault}
@@ -149,7 +149,7 @@ module _ (d : List ℕ) where
 both-none : (f g : Fault) → orFault f g .code ≡ 0 → (f .code ≡ 0) × (g .code ≡ 0)
 both-none = sooner-none (λ f. f .code)
 
-met : (t : Bool) (f : Fault) → (f .code ≡ 0 → ⊥) → demand t f .code ≡ 0 → t ≡ true
+pub met : (t : Bool) (f : Fault) → (f .code ≡ 0 → ⊥) → demand t f .code ≡ 0 → t ≡ true
 met true f b h = refl
 met false f b h = absurd (b h)
 
@@ -161,9 +161,38 @@ located-none draw offset f h = by (eqb (f .code) 0) refl
     by true e = (eqb-true (f .code) 0 e, rw e)
     by false e = absurd (eqb-false (f .code) 0 e (rw e at h))
 
+-- wherever the sums of the checks begin
+module _ (start : ℕ → ℕ) (s : List ℕ) where
+  pub record Passed : Type 0 where
+    pub whole : (eqb (length s % blockBytes) 0 && leb blockBytes (length s)) ≡ true
+    pub first : blockRightFrom start s 0 ≡ true
+    pub header : headerRules s .code ≡ 0
+    pub bytes : length s ≡ blockBytes * blockOf (countOf s)
+    pub draws : (i : ℕ) → i < countOf s → drawFaultFrom start s i .code ≡ 0
+
+  pub passed : sceneFaultFrom start s .code ≡ 0 → Passed
+  unfolding sceneFaultFrom
+  passed h =
+      let draws : Fault = firstFault (countOf s) (drawFaultFrom start s) in
+      let full : Fault = demand (eqb (length s) (blockBytes * blockOf (countOf s))) (fault badLength noDraw 0) in
+      let header : Fault = inHeader (headerRules s) in
+      let check : Fault = demand (blockRightFrom start s 0) (fault badChecksum noDraw payloadBytes) in
+      let blocks : Fault = demand (eqb (length s % blockBytes) 0 && leb blockBytes (length s)) (fault badLength noDraw 0) in
+      let p = both-none blocks (orFault check (orFault header (orFault full draws))) h in
+      let q = both-none check (orFault header (orFault full draws)) (p .1) in
+      let r = both-none header (orFault full draws) (q .1) in
+      let t = both-none full draws (r .1) in
+      record {
+        whole = met _ (fault badLength noDraw 0) (refuses badLength refl) (p .0);
+        first = met _ (fault badChecksum noDraw payloadBytes) (refuses badChecksum refl) (q .0);
+        header = located-none noDraw (headerRules s .place) (headerRules s) (r .0) .0;
+        bytes = eqb-true _ _ (met _ (fault badLength noDraw 0) (refuses badLength refl) (t .0));
+        draws = soonest-none (λ f. f .code) accepted (drawFaultFrom start s) (countOf s) (t .1);
+      }
+
 module _ (s : List ℕ) where
   pub draw-none : (i : ℕ) → drawFault s i .code ≡ 0 → (drawRules (drawOf s i) .code ≡ 0) × (drawFault s i ≡ accepted)
-  unfolding drawFault
+  unfolding drawFaultFrom
   draw-none i h =
       let p = both-none (checkFaults s i) (inDraw i (drawRules (drawOf s i))) h in
       let f = drawRules (drawOf s i) in
@@ -187,18 +216,9 @@ module _ (s : List ℕ) where
   header-count h = bordered h .count
 
   pub accepted-scene : sceneFault s .code ≡ 0 → AcceptedScene s
-  unfolding sceneFault
   accepted-scene h =
-      let draws : Fault = firstFault (countOf s) (drawFault s) in
-      let full : Fault = demand (eqb (length s) (blockBytes * blockOf (countOf s))) (fault badLength noDraw 0) in
-      let header : Fault = inHeader (headerRules s) in
-      let check : Fault = demand (blockRight s 0) (fault badChecksum noDraw payloadBytes) in
-      let blocks : Fault = demand (eqb (length s % blockBytes) 0 && leb blockBytes (length s)) (fault badLength noDraw 0) in
-      let p = both-none blocks (orFault check (orFault header (orFault full draws))) h in
-      let q = both-none check (orFault header (orFault full draws)) (p .1) in
-      let r = both-none header (orFault full draws) (q .1) in
-      let t = both-none full draws (r .1) in
-      let b = bordered (located-none noDraw (headerRules s .place) (headerRules s) (r .0) .0) in
+      let p = passed blockNumber s h in
+      let b = bordered (p .header) in
       let width = both _ _ (b .width) in
       let height = both _ _ (b .height) in
       record {
@@ -207,6 +227,6 @@ module _ (s : List ℕ) where
         heightLeast = leb-true _ _ (height .0);
         heightMost = leb-true _ _ (height .1);
         count = b .count;
-        bytes = eqb-true _ _ (met _ (fault badLength noDraw 0) (refuses badLength refl) (t .0));
-        draws = λ i l. draw-none i (soonest-none (λ f. f .code) accepted (drawFault s) (countOf s) (t .1) i l) .0;
+        bytes = p .bytes;
+        draws = λ i l. draw-none i (p .draws i l) .0;
       }

@@ -7,6 +7,7 @@
 --     Paths      the rules of a path, from the walk over it
 --     Accepted   what a scene and a draw have that the rules accept
 --     Verdicts   the verdict, by how far the rules are kept
+--     Places     a block passes at one number only
 mod Sums
 mod Copies
 mod Same
@@ -15,3 +16,4 @@ mod Sizes
 mod Paths
 pub mod Accepted
 mod Verdicts
+pub mod Places

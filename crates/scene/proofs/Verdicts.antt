@@ -12,7 +12,7 @@ use Rattle.scene.specs.Layout.{blockBytes, payloadBytes, noDraw}
 use Rattle.scene.specs.Blocks.{blockRight, blockOf}
 use Rattle.scene.specs.Header.{countOf}
 use Rattle.scene.specs.Faults.{fault, firstFault}
-use Rattle.scene.specs.Rules.{headerRules, inHeader, drawFault, sceneFault}
+use Rattle.scene.specs.Rules.{headerRules, inHeader, drawFault, sceneFaultFrom, sceneFault}
 
 module _ (s : List ℕ) where
   abbrev pub whole : Bool
@@ -22,24 +22,24 @@ module _ (s : List ℕ) where
   whole-length w = leb-true blockBytes (length s) (both (eqb (length s % blockBytes) 0) (leb blockBytes (length s)) w .1)
 
   pub bad-length : whole ≡ false → sceneFault s ≡ fault badLength noDraw 0
-  unfolding sceneFault
+  unfolding sceneFaultFrom
   bad-length w = rw w
 
   module _ (w : whole ≡ true) where
     pub bad-check : blockRight s 0 ≡ false → sceneFault s ≡ fault badChecksum noDraw payloadBytes
-    unfolding sceneFault
+    unfolding sceneFaultFrom
     bad-check b = rw (w, b)
 
     module _ (b : blockRight s 0 ≡ true) where
       pub bad-header : (headerRules s .code ≡ 0 → ⊥) → sceneFault s ≡ inHeader (headerRules s)
-      unfolding sceneFault
+      unfolding sceneFaultFrom
       bad-header h = rw (w, b, ne-eqb (headerRules s .code) 0 h, ne-eqb (headerRules s .code) 0 h)
 
       module _ (h : headerRules s .code ≡ 0) where
         pub bad-count : (length s ≡ blockBytes * blockOf (countOf s) → ⊥) → sceneFault s ≡ fault badLength noDraw 0
-        unfolding sceneFault
+        unfolding sceneFaultFrom
         bad-count l = rw (w, b, eq-eqb (headerRules s .code) 0 h, ne-eqb (length s) (blockBytes * blockOf (countOf s)) l)
 
         pub by-draws : length s ≡ blockBytes * blockOf (countOf s) → sceneFault s ≡ firstFault (countOf s) (drawFault s)
-        unfolding sceneFault
+        unfolding sceneFaultFrom
         by-draws l = rw (w, b, eq-eqb (headerRules s .code) 0 h, eq-eqb (length s) (blockBytes * blockOf (countOf s)) l)

@@ -16,11 +16,18 @@ checksumOf start s at = record {
   weighted = (start + total payloadWords (λ i. suc i * u16At s (at + 2 * i))) % checkModulus;
 }
 
--- block b has the check that its payload asks for
-unfoldable pub blockRight : List ℕ → ℕ → Bool
-blockRight s b =
-    eqb (u16At s (blockBytes * b + payloadBytes)) (checksumOf 0 s (blockBytes * b) .plain)
-    && eqb (u16At s (blockBytes * b + payloadBytes + 2)) (checksumOf 0 s (blockBytes * b) .weighted)
+-- block b has the check that its payload asks for; both sums of block b begin at start b
+unfoldable pub blockRightFrom : (ℕ → ℕ) → List ℕ → ℕ → Bool
+blockRightFrom start s b =
+    eqb (u16At s (blockBytes * b + payloadBytes)) (checksumOf (start b) s (blockBytes * b) .plain)
+    && eqb (u16At s (blockBytes * b + payloadBytes + 2)) (checksumOf (start b) s (blockBytes * b) .weighted)
+
+-- where they begin: at the block's number
+abbrev pub blockNumber : ℕ → ℕ
+blockNumber b = b
+
+abbrev pub blockRight : List ℕ → ℕ → Bool
+blockRight = blockRightFrom blockNumber
 
 -- the first block of draw i
 abbrev pub blockOf : ℕ → ℕ

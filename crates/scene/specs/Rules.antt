@@ -16,7 +16,7 @@ use Rattle.scene.specs.Layout.{flagsAt, blendAt, paintTypeAt, spreadAt, 
 use Rattle.scene.specs.Layout.{stopCountAt, paddingAt, matrixAt, translationAt, colorAt, linearPointsAt}
 use Rattle.scene.specs.Layout.{scissorsAt, stopsAt, segmentsAt, coordinatesAt, drawBytes, flagsLimit}
 use Rattle.scene.specs.Layout.{segmentLimit, scissorLimit, stopLimit, scissorBytes, stopBytes, stopFloats}
-use Rattle.scene.specs.Blocks.{blockRight, blockOf, drawOf, fileOffset}
+use Rattle.scene.specs.Blocks.{blockNumber, blockRightFrom, blockOf, drawOf, fileOffset}
 use Rattle.scene.specs.Header.{widthOf, heightOf, countOf}
 use Rattle.scene.specs.Fields.{flagsOf, blendOf, paintTypeOf, spreadOf, segmentCount, scissorCount, stopCount, matrixOf, segmentsOf, coordinatesOf}
 use Rattle.scene.specs.Faults.{orElse, must, unused, limited, numbers, accepted, fault, orFault, firstFault, demand}
@@ -104,20 +104,32 @@ inHeader f = located noDraw (f .place) f
 abbrev pub inDraw : ℕ → FieldFault → Fault
 inDraw i f = located i (fileOffset i (f .place)) f
 
+-- ---- a scene by its bytes; start b is where the sums of block b begin
+
 -- the checks of draw i's blocks
-unfoldable pub checkFaults : List ℕ → ℕ → Fault
-checkFaults s i =
-    firstFault drawBlocks (λ j. demand (blockRight s (blockOf i + j)) (fault badChecksum i (blockBytes * (blockOf i + j) + payloadBytes)))
+unfoldable pub checkFaultsFrom : (ℕ → ℕ) → List ℕ → ℕ → Fault
+checkFaultsFrom start s i =
+    firstFault drawBlocks (λ j. demand (blockRightFrom start s (blockOf i + j)) (fault badChecksum i (blockBytes * (blockOf i + j) + payloadBytes)))
 
 -- draw i: its four checks, then its own rules
-unfoldable pub drawFault : List ℕ → ℕ → Fault
-drawFault s i = orFault (checkFaults s i) (inDraw i (drawRules (drawOf s i)))
+unfoldable pub drawFaultFrom : (ℕ → ℕ) → List ℕ → ℕ → Fault
+drawFaultFrom start s i = orFault (checkFaultsFrom start s i) (inDraw i (drawRules (drawOf s i)))
 
 -- the first fault of a scene
-unfoldable pub sceneFault : List ℕ → Fault
-sceneFault s =
+unfoldable pub sceneFaultFrom : (ℕ → ℕ) → List ℕ → Fault
+sceneFaultFrom start s =
     orFault (demand (eqb (length s % blockBytes) 0 && leb blockBytes (length s)) (fault badLength noDraw 0))
-    (orFault (demand (blockRight s 0) (fault badChecksum noDraw payloadBytes))
+    (orFault (demand (blockRightFrom start s 0) (fault badChecksum noDraw payloadBytes))
     (orFault (inHeader (headerRules s))
     (orFault (demand (eqb (length s) (blockBytes * blockOf (countOf s))) (fault badLength noDraw 0))
-    (firstFault (countOf s) (drawFault s)))))
+    (firstFault (countOf s) (drawFaultFrom start s)))))
+
+-- the sums begin at the block's number
+abbrev pub checkFaults : List ℕ → ℕ → Fault
+checkFaults = checkFaultsFrom blockNumber
+
+abbrev pub drawFault : List ℕ → ℕ → Fault
+drawFault = drawFaultFrom blockNumber
+
+abbrev pub sceneFault : List ℕ → Fault
+sceneFault = sceneFaultFrom blockNumber

@@ -10,7 +10,7 @@ use fixed::u16_at;
 ghost use mathlib.Core.Path.{_≡_};
 ghost use Prim.Native.Nat.{_+_, _*_, _<_, _≤_};
 ghost use lib.ListN.{length, take, drop};
-ghost use Rattle.scene.specs.Layout.{blockBytes, payloadBytes, drawBytes};
+ghost use Rattle.scene.specs.Layout.{blockBytes, payloadBytes, checkModulus, drawBytes};
 ghost use Rattle.scene.specs.Blocks.{checksumOf, blockRight, blockOf, drawOf, sameDraw};
 
 // The check of the payload at a place; both sums begin at start.
@@ -35,13 +35,13 @@ pub fn checksum(start: u32, s: &[u8], at: usize) -> Checksum
     }
 }
 
-// Whether block b has the check that its payload asks for.
+// Whether block b has the check that its payload asks for. Both sums begin at b, so that a block out of its place is wrong.
 pub fn block_right(s: &[u8], b: usize) -> bool
-    requires { ⌜ blockBytes * b + blockBytes ≤ length (now s) ⌝ }
+    requires { ⌜ (b < checkModulus) × (blockBytes * b + blockBytes ≤ length (now s)) ⌝ }
     ensures { λ r. ⌜ r ≡ blockRight (now (s .entry)) b ⌝ }
 {
     let at = BLOCK_BYTES * b;
-    let sum = checksum(0, s, at);
+    let sum = checksum(b as u32, s, at);
     u16_at(s, at + PAYLOAD_BYTES) == sum.plain as u32
         && u16_at(s, at + PAYLOAD_BYTES + 2) == sum.weighted as u32
 }

@@ -5,7 +5,7 @@ use std::process::Command;
 use std::{env, fs};
 
 use differential::{compare, Buffers, Call};
-use generate::Random;
+use generate::{places, Random};
 use reference::picture::SCRATCH_NUMBERS;
 
 fn repository() -> PathBuf {
@@ -36,6 +36,20 @@ fn panel() {
 #[test]
 fn small_panel() {
     draw_and_redraw("panel-small.scene", "panel-small-next.scene", 256 * 150);
+}
+
+/// Two blocks of a draw exchanged, two draws' blocks, a block of an old file: drawn, and as the new scene of a redraw.
+#[test]
+fn blocks_out_of_place() {
+    let sound = scene("panel-small.scene");
+    let buffers = Buffers::rubbish(&mut Random::new(7), 4 * 256 * 150, SCRATCH_NUMBERS);
+    for case in places::cases(&sound) {
+        let fault = case.fault.expect("a fault");
+        let (answer, _) = compare(&case.name, Call::Draw(&case.bytes), &buffers);
+        assert_eq!((answer.code, answer.draw, answer.scene), (fault.code, fault.draw, 0), "{}", case.name);
+        let (answer, _) = compare(&case.name, Call::Redraw(&sound, &case.bytes), &buffers);
+        assert_eq!((answer.code, answer.draw, answer.scene), (fault.code, fault.draw, 1), "{}", case.name);
+    }
 }
 
 /// examples/panel.c compiles as it stands, and its picture of the small panel's next frame is the reference's.

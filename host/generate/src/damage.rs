@@ -2,6 +2,7 @@
 
 use scene::{file_offset, seal_block, Scene, BLOCK};
 
+use crate::places::exchange;
 use crate::Random;
 
 /// The scene's file, spoiled in one to three places.
@@ -27,13 +28,11 @@ fn spoil(random: &mut Random, bytes: &mut Vec<u8>) {
             let at = random.index(bytes.len());
             bytes[at] ^= 1 << random.range(0, 7);
         }
-        // Two blocks exchanged: their checks hold.
+        // Two blocks exchanged, each with the check of its old place.
         2 => {
             let count = bytes.len() / BLOCK;
             let (a, b) = (random.index(count), random.index(count));
-            for i in 0..BLOCK {
-                bytes.swap(BLOCK * a + i, BLOCK * b + i);
-            }
+            exchange(bytes, a, b);
         }
         3 => spoil_header(random, bytes),
         _ => spoil_draw(random, bytes),
@@ -112,6 +111,5 @@ fn special_float(random: &mut Random) -> f32 {
 /// Writes a value and makes the check of its block fresh.
 fn put(bytes: &mut [u8], at: usize, value: &[u8]) {
     bytes[at..at + value.len()].copy_from_slice(value);
-    let block = at / BLOCK * BLOCK;
-    seal_block(&mut bytes[block..block + BLOCK]);
+    seal_block(bytes, at / BLOCK);
 }

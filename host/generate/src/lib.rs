@@ -2,11 +2,13 @@
 //!
 //! - [`scenes`]: random scenes that the rules mostly accept, and pairs of them for a redraw.
 //! - [`damage`]: random scenes spoiled in a few bytes, with their checks made fresh or not.
+//! - [`places`]: blocks of a sound file out of place.
 //! - [`rules`]: both sides of every rule, with the answer that the paper gives.
 #![forbid(unsafe_code)]
 
 pub mod damage;
 pub mod paths;
+pub mod places;
 pub mod random;
 pub mod rules;
 pub mod scenes;

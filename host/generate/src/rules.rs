@@ -1,7 +1,9 @@
 //! Both sides of every scene rule, and every two faults together, with what the paper's order makes of them.
 
 use scene::path::{CUBIC, HORIZONTAL, LINE, MOVE, QUAD, RELATIVE, SMOOTH_CUBIC, SMOOTH_QUAD, VERTICAL};
-use scene::{file_offset, seal, Draw, PaintType, Path, Scene, Scissor, Stop, BLOCK};
+use scene::{file_offset, seal, seal_block_from, Draw, PaintType, Path, Scene, Scissor, Stop, BLOCK};
+
+use crate::places;
 
 /// A scene file and what the rules make of it.
 pub struct Case {
@@ -48,6 +50,7 @@ pub fn cases() -> Vec<Case> {
     let mut cases = Cases(Vec::new());
     cases.lengths();
     cases.checks();
+    cases.places();
     cases.header();
     cases.numbers();
     cases.counts();
@@ -81,6 +84,12 @@ fn with_draw(draw: Draw) -> Scene {
 
 fn with_path(path: Path) -> Scene {
     with_draw(Draw { path, ..Draw::default() })
+}
+
+/// The fault of a block whose check is wrong.
+pub fn wrong_check(block: usize) -> Fault {
+    let draw = block.checked_sub(1).map_or(NO_DRAW, |before| before as u32 / 4);
+    Fault { code: BAD_CHECKSUM, draw, offset: BLOCK * block + 508 }
 }
 
 fn in_draw(code: u32, place: usize) -> Option<Fault> {
@@ -140,11 +149,7 @@ impl Cases {
     fn checks(&mut self) {
         let bytes = common().bytes();
         for block in 0..1 + 4 * DRAWS {
-            let offset = BLOCK * block + 508;
-            let fault = match block {
-                0 => in_no_draw(BAD_CHECKSUM, offset),
-                _ => Some(Fault { code: BAD_CHECKSUM, draw: (block as u32 - 1) / 4, offset }),
-            };
+            let fault = Some(wrong_check(block));
             for at in [0, 1, 100, 506, 507, 508, 509, 510, 511] {
                 let mut spoiled = bytes.clone();
                 spoiled[BLOCK * block + at] ^= 1;
@@ -168,6 +173,14 @@ impl Cases {
             let same = payload[..4] == bytes[BLOCK * block..][..4];
             self.add(format!("block {block}, two words exchanged"), swapped, unless(same, fault));
         }
+    }
+
+    /// Blocks out of their places, and checks whose sums begin at 0: only block 0's does.
+    fn places(&mut self) {
+        self.0.extend(places::cases(&common().bytes()));
+        let mut bare = Scene::new(5, 4, [10, 20, 30, 255]).bytes();
+        seal_block_from(&mut bare, 0, 0);
+        self.add("no draws, the sums of block 0 from 0", bare, None);
     }
 
     fn header(&mut self) {
@@ -456,12 +469,12 @@ struct Edit {
 /// Faults in the order in which the rules meet them.
 fn ordered_faults() -> Vec<Edit> {
     let mut edits = Vec::new();
-    let spoil_check = |edits: &mut Vec<Edit>, block: usize, draw: u32| {
-        let fault = Fault { code: BAD_CHECKSUM, draw, offset: BLOCK * block + 508 };
+    let spoil_check = |edits: &mut Vec<Edit>, block: usize| {
+        let fault = wrong_check(block);
         let name = format!("check of block {block}");
         edits.push(Edit { name, at: fault.offset, value: vec![], spoils_check: true, fault });
     };
-    spoil_check(&mut edits, 0, NO_DRAW);
+    spoil_check(&mut edits, 0);
     let mut in_header = |at: usize, value: &[u8], code: u32, offset: usize| {
         let fault = Fault { code, draw: NO_DRAW, offset };
         edits.push(Edit { name: format!("block 0 at {at}"), at, value: value.to_vec(), spoils_check: false, fault });
@@ -476,7 +489,7 @@ fn ordered_faults() -> Vec<Edit> {
     in_header(4, &[1, 0], BAD_LENGTH, 0);
     for draw in 0..DRAWS {
         for block in 0..4 {
-            spoil_check(&mut edits, 1 + 4 * draw + block, draw as u32);
+            spoil_check(&mut edits, 1 + 4 * draw + block);
         }
         let nan = f32::NAN.to_le_bytes();
         let places: [(usize, &[u8], u32, usize); 27] = [

@@ -65,10 +65,11 @@ pub fn offset(draw: usize, place: usize) -> usize {
     BLOCK * (first_block(draw) + place / PAYLOAD) + place % PAYLOAD
 }
 
-/// The sum of the payload's words and the sum of each times its number from 1, both reduced.
-pub fn checksum(payload: &[u8]) -> (u16, u16) {
-    let mut sum = 0_u64;
-    let mut weighted = 0_u64;
+/// The sum of the payload's words and the sum of each times its number from 1, both begun at the block's number and
+/// reduced.
+pub fn checksum(block: usize, payload: &[u8]) -> (u16, u16) {
+    let mut sum = block as u64;
+    let mut weighted = block as u64;
     for i in 1..=PAYLOAD as u64 / 2 {
         let word = u64::from(u16_at(payload, 2 * (i as usize - 1)));
         sum += word;
@@ -77,11 +78,11 @@ pub fn checksum(payload: &[u8]) -> (u16, u16) {
     ((sum % CHECK_MODULUS) as u16, (weighted % CHECK_MODULUS) as u16)
 }
 
-/// Whether a block's stored check is the one of its payload.
+/// Whether a block's stored check is the one of its payload in its place.
 pub fn check_holds(file: &[u8], block: usize) -> bool {
     let payload = &file[BLOCK * block..][..PAYLOAD];
     let stored = &file[check_offset(block)..][..4];
-    checksum(payload) == (u16_at(stored, 0), u16_at(stored, 2))
+    checksum(block, payload) == (u16_at(stored, 0), u16_at(stored, 2))
 }
 
 /// The joined payloads of a draw.

@@ -108,7 +108,7 @@ fn c11_halves_of_a_unit() {
 #[test]
 fn c12_the_two_by_one_scene() {
     let bytes = Scene::new(2, 1, [0, 0, 0, 255]).bytes();
-    assert_eq!(file::checksum(&bytes[..file::PAYLOAD]), (65_283, 64_079));
+    assert_eq!(file::checksum(0, &bytes[..file::PAYLOAD]), (65_283, 64_079));
     assert_eq!(print::drawing(&bytes), "2 1\n000000ff 000000ff\n");
 }
 

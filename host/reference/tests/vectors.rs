@@ -33,7 +33,7 @@ fn check(path: &Path, printed: &str) {
 #[test]
 fn draws() {
     let scenes = files("draw", "scene");
-    assert_eq!(scenes.len(), 264);
+    assert_eq!(scenes.len(), 203);
     for scene in scenes {
         check(&scene, &print::drawing(&read(&scene)));
     }
@@ -42,7 +42,7 @@ fn draws() {
 #[test]
 fn redraws() {
     let pairs = files("redraw", "old");
-    assert_eq!(pairs.len(), 56);
+    assert_eq!(pairs.len(), 19);
     for old in pairs {
         let new = read(&old.with_extension("new"));
         check(&old, &print::redrawing(&read(&old), &new));

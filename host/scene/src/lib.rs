@@ -194,15 +194,20 @@ pub fn file_offset(draw: usize, place: usize) -> usize {
 
 /// Writes the check of every whole block anew.
 pub fn seal(file: &mut [u8]) {
-    for block in file.chunks_exact_mut(BLOCK) {
-        seal_block(block);
+    for number in 0..file.len() / BLOCK {
+        seal_block(file, number);
     }
 }
 
 /// Writes the check of one block anew.
-pub fn seal_block(block: &mut [u8]) {
-    let (payload, check) = block.split_at_mut(PAYLOAD);
-    let (mut sum, mut weighted) = (0_u64, 0_u64);
+pub fn seal_block(file: &mut [u8], number: usize) {
+    seal_block_from(file, number, number as u64);
+}
+
+/// Writes the check of one block with sums that begin anywhere, not at its number.
+pub fn seal_block_from(file: &mut [u8], number: usize, start: u64) {
+    let (payload, check) = file[BLOCK * number..][..BLOCK].split_at_mut(PAYLOAD);
+    let (mut sum, mut weighted) = (start, start);
     for (i, word) in (1..).zip(payload.chunks_exact(2)) {
         let word = u64::from(u16::from_le_bytes([word[0], word[1]]));
         sum += word;

@@ -7,21 +7,21 @@ use borrow.Author.Tests.{eq-eqb, ne-eqb}
 use Rattle.fixed.specs.Little.{u16At}
 use Rattle.scene.specs.declared.Checksum.{Checksum}
 use Rattle.scene.specs.Layout.{blockBytes, payloadBytes}
-use Rattle.scene.specs.Blocks.{checksumOf, blockRight}
+use Rattle.scene.specs.Blocks.{checksumOf, blockRightFrom, blockRight}
 use borrow.Author.Needs.{needs}
 use Rattle.scene.proofs.blocks.block_right.Statement.{statement}
 use Rattle.scene.proofs.blocks.block_right.Tie as tie
 
 -- the first number as it should be: the second decides
 module _ (s : List ℕ) (b : ℕ) (k : Checksum) where
-  right : (p q : ℕ) → k ≡ checksumOf 0 s (blockBytes * b) → p ≡ u16At s (blockBytes * b + payloadBytes) → q ≡ u16At s (blockBytes * b + payloadBytes + 2)
+  right : (p q : ℕ) → k ≡ checksumOf b s (blockBytes * b) → p ≡ u16At s (blockBytes * b + payloadBytes) → q ≡ u16At s (blockBytes * b + payloadBytes + 2)
       → p ≡ k .plain
       → eqb q (k .weighted) ≡ blockRight s b
-  unfolding blockRight
+  unfolding blockRightFrom
   right p q e f g h = rw (← e, ← f, ← g, eq-eqb p (k .plain) h)
 
-  wrong : (p : ℕ) → k ≡ checksumOf 0 s (blockBytes * b) → p ≡ u16At s (blockBytes * b + payloadBytes) → (p ≡ k .plain → ⊥) → eqb p (k .plain) ≡ blockRight s b
-  unfolding blockRight
+  wrong : (p : ℕ) → k ≡ checksumOf b s (blockBytes * b) → p ≡ u16At s (blockBytes * b + payloadBytes) → (p ≡ k .plain → ⊥) → eqb p (k .plain) ≡ blockRight s b
+  unfolding blockRightFrom
   wrong p e f h = rw (← e, ← f, ne-eqb p (k .plain) h)
 
 returns : tie.Need-returns
@@ -44,6 +44,7 @@ pub block-right-spec : {M : Type 1} → statement M
 block-right-spec =
     tie.close
     (tie.spec
+    (λ c. search needs)
     (λ c. search needs)
     (λ c κs. search needs)
     (λ c. search needs)

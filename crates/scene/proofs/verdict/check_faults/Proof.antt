@@ -11,7 +11,7 @@ use Rattle.scene.specs.declared.Fault.{Fault}
 use Rattle.scene.specs.Layout.{blockBytes, payloadBytes, drawBlocks}
 use Rattle.scene.specs.Blocks.{blockRight, blockOf}
 use Rattle.scene.specs.Faults.{accepted, fault, firstFault, demand}
-use Rattle.scene.specs.Rules.{checkFaults}
+use Rattle.scene.specs.Rules.{checkFaultsFrom}
 use Rattle.scene.proofs.First.{demands-turn, demands-hit}
 use borrow.Author.Needs.{needs}
 use Rattle.scene.proofs.verdict.check_faults.Statement.{statement}
@@ -31,7 +31,7 @@ abbrev μ-loop : tie.MeasureT-loop
 μ-loop s i first j₀ j = drawBlocks - j
 
 returns : tie.Need-returns Inv-loop μ-loop
-unfolding checkFaults
+unfolding checkFaultsFrom
 returns c =
     let test = c .before in
     let l = test .before .before .before .loop in
@@ -49,7 +49,7 @@ loop-again c =
     )
 
 returns-2 : tie.Need-returns-2 Inv-loop μ-loop
-unfolding checkFaults
+unfolding checkFaultsFrom
 returns-2 c =
     let l = c .before .before .loop in
     let e : l .j ≡ drawBlocks = omega arith in

@@ -1,17 +1,17 @@
 -- `scene::verdict::draw_fault` meets its contract.
 use mathlib.Core.Path.{ap, _∙_}
 use Rattle.codes.proofs.First.{sooner-first, sooner-second}
-use Rattle.scene.specs.Rules.{inDraw, drawRules, drawFault}
+use Rattle.scene.specs.Rules.{inDraw, drawRules, drawFaultFrom}
 use borrow.Author.Needs.{needs}
 use Rattle.scene.proofs.verdict.draw_fault.Statement.{statement}
 use Rattle.scene.proofs.verdict.draw_fault.Tie as tie
 
 returns : tie.Need-returns
-unfolding drawFault
+unfolding drawFaultFrom
 returns c = let checks = c .before .before .check-faults in sooner-first (λ f. f .code) (checks .result) _ _ (checks .ensures) (c .if1 .taken)
 
 returns-2 : tie.Need-returns-2
-unfolding drawFault
+unfolding drawFaultFrom
 returns-2 c =
     let rules = c .before in
     let read = rules .before .before .before in

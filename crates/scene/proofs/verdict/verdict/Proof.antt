@@ -3,6 +3,7 @@ use mathlib.Core.Path.{_≡_, sym, ap, _∙_}
 use mathlib.Core.List.{List}
 use mathlib.Core.Bool.{true}
 use Prim.Native.Nat.{ℕ, _≤_}
+use native.Mathlib.Omega.{arith}
 use lib.ListN.{length}
 use borrow.Author.Tests.{not-true, not-false}
 use Rattle.scene.specs.Layout.{blockBytes}
@@ -89,7 +90,7 @@ verdict-spec =
     (λ c κs. search needs)
     (λ c κs. search needs)
     returns
-    (λ c κs. long c)
+    (λ c κs. (omega arith, long c))
     (λ c κs. search needs)
     returns-2
     (λ c κs. long (first c))
