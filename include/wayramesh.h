@@ -3,7 +3,8 @@
  *
  * A scene file goes in, and pixels come out. wayramesh_draw draws a scene in full. wayramesh_redraw takes a surface
  * from one scene to the next by drawing only the area in which they may differ. The scene file's format is paper 01's,
- * "The scene file", with paper 02's P8: both sums of a block's check begin at the block's number, counted from 0.
+ * "The scene file", with paper 02's P8 (both sums of a block's check begin at the block's number, counted from 0) and
+ * P3 (a draw with segments whose sx * sy - shx * shy is 0, in whole numbers of 1/65,536, is refused).
  *
  * Link with libwayramesh.a (x86-64; it needs memcpy and memset of the C library). The library allocates nothing, keeps
  * nothing between calls, and does no input or output. examples/panel.c is a whole program.
@@ -57,6 +58,7 @@ extern "C" {
  *   the length that the number of draws asks for                          WAYRAMESH_BAD_LENGTH
  *   each draw in turn: the checks of its four blocks                      WAYRAMESH_BAD_CHECKSUM
  *                      its fields, to the end of the stops                WAYRAMESH_ILLEGAL_ARGUMENT
+ *                      a flat matrix, if it has segments                  WAYRAMESH_ILLEGAL_ARGUMENT
  *                      its path, segment by segment                       WAYRAMESH_UNSUPPORTED_PATH_FORMAT for an arc,
  *                                                                         else WAYRAMESH_ILLEGAL_ARGUMENT
  *                      unused segments, then unused coordinates           WAYRAMESH_ILLEGAL_ARGUMENT
@@ -75,7 +77,8 @@ extern "C" {
 /* The check of a block is not the one of its payload and its number: a block is spoiled or out of its place. */
 #define WAYRAMESH_BAD_CHECKSUM 0xB001u
 
-/* A field, float, segment or coordinate breaks a rule, or the two scenes of a redraw differ in width or height. */
+/* A field, float, segment or coordinate breaks a rule, a matrix is flat, or the two scenes of a redraw differ in width
+   or height. */
 #define WAYRAMESH_ILLEGAL_ARGUMENT 0x1001u
 
 /* A segment is an arc. */

@@ -13,7 +13,7 @@ use Rattle.scene.specs.Blocks.{blockNumber, blockRight, drawOf}
 use Rattle.scene.specs.Header.{countOf}
 use Rattle.scene.specs.Fields.{segmentCount, scissorCount, stopCount, segmentsOf, coordinatesOf}
 use Rattle.scene.specs.Faults.{fine, firstOf, must, unused, numbers}
-use Rattle.scene.specs.Rules.{headerRules, headRules, floatRules, listRules, pathRules, restRules, drawRules}
+use Rattle.scene.specs.Rules.{headerRules, headRules, floatRules, listRules, flatRule, pathRules, restRules, drawRules}
 use Rattle.scene.specs.Rules.{checkFaultsFrom, drawFaultFrom, sceneFaultFrom, sceneFault}
 use Rattle.scene.proofs.Places.{blockAt, passesAt, block-alone}
 
@@ -49,10 +49,10 @@ module _ (d : List ℕ) (a m b n : ℕ) (first : drop a d ≡ replicate m 0 ++ d
   rest-judged segments m-end used n-end =
       rw (segments, unused-zeros d a m first coordinatesAt m-end, used, unused-zeros d b n second drawBytes n-end)
 
-pub draw-judged : (d : List ℕ) → headRules d .code ≡ 0 → floatRules d .code ≡ 0 → listRules d .code ≡ 0 → pathRules d .code ≡ 0 → restRules d .code ≡ 0
-    → drawRules d .code ≡ 0
+pub draw-judged : (d : List ℕ) → headRules d .code ≡ 0 → floatRules d .code ≡ 0 → listRules d .code ≡ 0 → flatRule d .code ≡ 0 → pathRules d .code ≡ 0
+    → restRules d .code ≡ 0 → drawRules d .code ≡ 0
 unfolding drawRules
-draw-judged d head floats lists path rest = rw (head, floats, lists, path, rest)
+draw-judged d head floats lists flat path rest = rw (head, floats, lists, flat, path, rest)
 
 pub scene-judged : (s d : List ℕ) → length s ≡ 2560 → countOf s ≡ 1 → headerRules s .code ≡ 0 → blockRight s 0 ≡ true
     → blockRight s 1 ≡ true → blockRight s 2 ≡ true → blockRight s 3 ≡ true → blockRight s 4 ≡ true → drawOf s 0 ≡ d → drawRules d .code ≡ 0

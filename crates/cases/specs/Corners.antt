@@ -10,7 +10,7 @@ use Rattle.blend.specs.declared.Composited.{Composited}
 use Rattle.blend.specs.PorterDuff.{compositeAnswer, modeDstOver, modeSrcOver}
 use Rattle.paint.specs.Ramps.{rampOf, rampAt}
 use Rattle.scene.specs.declared.Fault.{Fault}
-use Rattle.scene.specs.Rules.{inHeader, inDraw, headerRules, drawRules, pathRules, restRules, checkFaults}
+use Rattle.scene.specs.Rules.{inHeader, inDraw, headerRules, drawRules, flatRule, pathRules, restRules, checkFaults}
 use Rattle.cases.specs.Bench.{Row}
 use Rattle.cases.specs.Scenes.{red, redDraw}
 
@@ -28,7 +28,10 @@ draw place byte = numbers (inDraw 1 (drawRules (set redDraw place byte)))
 abbrev draw2 : ℕ → ℕ → ℕ → List ℕ
 draw2 place low high = numbers (inDraw 1 (drawRules (set (set redDraw place low) (place + 1) high)))
 
--- its path alone, and its unused segments and coordinates alone
+-- its matrix alone, with two bytes of zero; its path alone; its unused segments and coordinates alone
+abbrev flat : ℕ → List ℕ
+flat place = numbers (inDraw 1 (flatRule (set (set redDraw place 0) (place + 1) 0)))
+
 abbrev path : ℕ → ℕ → List ℕ
 path place byte = numbers (inDraw 1 (pathRules (set redDraw place byte)))
 
@@ -101,9 +104,10 @@ corners =
     ∷ row (draw2 50 192 127) (illegal 1 2608)
     ∷ row (draw2 54 128 127) (illegal 1 2612)
     ∷ row (draw2 66 128 127) (illegal 1 2624)
-    -- an unused scissor's first byte, an unused stop of -0.0, an arc, a reserved segment, an unused segment
+    -- an unused scissor's first byte, an unused stop of -0.0, a flat matrix with sx 0, an arc, a reserved segment, an unused segment
     ∷ row (draw 68 1) (illegal 1 2628)
     ∷ row (draw 135 128) (illegal 1 2695)
+    ∷ row (flat 14) (illegal 1 2572)
     ∷ row (path 772 18) (0x1005 ∷ 1 ∷ 3336 ∷ [])
     ∷ row (path 773 26) (illegal 1 3337)
     ∷ row (rest 777 1) (illegal 1 3341)

@@ -1,9 +1,9 @@
 -- The matrix as whole numbers, and a path's point on the surface ("Floats to whole numbers", "Paths").
 use Prim.Native.Nat.{ℕ}
 use mathlib.Core.Bool.{Bool, _&&_}
-use lib.Dec.{leb}
+use lib.Dec.{leb, eqb}
 use lib.Ieee.{Float}
-use lib.IntN.{ℤ, pos, natAbs, _+ℤ_, _*ℤ_}
+use lib.IntN.{ℤ, pos, natAbs, _+ℤ_, _-ℤ_, _*ℤ_}
 use Rattle.fixed.specs.Floor.{floorDiv}
 use Rattle.fixed.specs.Floats.{scaled, atMost}
 use Rattle.path.specs.declared.Matrix.{Matrix}
@@ -34,6 +34,10 @@ fixedMatrix m = record {
   tx = scaled 65536 (m .tx);
   ty = scaled 65536 (m .ty);
 }
+
+-- sx·sy − shx·shy = 0, so that every path becomes a line or a point
+abbrev pub isFlat : FixedMatrix → Bool
+isFlat m = eqb (natAbs (m .sx *ℤ m .sy -ℤ m .shx *ℤ m .shy)) 0
 
 -- one axis of a point on the surface, in 1/256 pixel
 abbrev pub transformAxis : ℤ → ℤ → ℤ → Point → ℤ

@@ -10,7 +10,7 @@ ghost use mathlib.Core.Bool.{true};
 ghost use Prim.Native.Nat.{_^_, _≤_};
 ghost use lib.IntN.{natAbs};
 ghost use lib.Dec.{leb};
-ghost use Rattle.path.specs.Matrices.{entriesIn, matrixInLimits, transformAxis, transform, surfaceLimit, onSurfaceGrid};
+ghost use Rattle.path.specs.Matrices.{entriesIn, matrixInLimits, isFlat, transformAxis, transform, surfaceLimit, onSurfaceGrid};
 ghost use Rattle.path.specs.Segments.{point};
 ghost use Rattle.path.specs.Answers.{converted};
 ghost use Rattle.path.specs.Limits.{Limited, Near};
@@ -61,6 +61,14 @@ impl FixedMatrix {
         } else {
             Converted::OutOfLimits
         }
+    }
+
+    // Whether it takes every path to a line or a point. The products have at most 49 bits, so the test is exact.
+    pub fn is_flat(self) -> bool
+        requires { ⌜ Limited self ⌝ }
+        ensures { λ r. ⌜ r ≡ isFlat self ⌝ }
+    {
+        self.sx * self.sy - self.shx * self.shy == 0
     }
 
     // Whether a point is taken to one that is not too far out.

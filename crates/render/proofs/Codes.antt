@@ -18,7 +18,7 @@ use Rattle.paint.specs.Gradient.{spreadPad, spreadReflect}
 use Rattle.paint.specs.Paints.{paintColor, paintLinear}
 use Rattle.path.specs.declared.FixedMatrix.{FixedMatrix}
 use Rattle.path.specs.declared.Walk.{Walk}
-use Rattle.path.specs.Matrices.{linearLimit, translationLimit, fixedMatrix}
+use Rattle.path.specs.Matrices.{linearLimit, translationLimit, fixedMatrix, isFlat}
 use Rattle.path.specs.Segments.{coordinatesTaken, isArc, isNone, curveAt, walkTo, curveInRange, curveOnGrid, segmentCode, noFault, faultTo}
 use Rattle.scene.specs.declared.Fault.{Fault}
 use Rattle.scene.specs.declared.FieldFault.{FieldFault}
@@ -31,7 +31,7 @@ use Rattle.scene.specs.Blocks.{blockRight, blockOf, drawOf, fileOffset}
 use Rattle.scene.specs.Header.{widthOf, heightOf, countOf}
 use Rattle.scene.specs.Fields.{flagsOf, blendOf, paintTypeOf, spreadOf, segmentCount, scissorCount, stopCount, matrixOf, segmentsOf, coordinatesOf}
 use Rattle.scene.specs.Faults.{fine, firstOf, must, unused, limited, numbers, accepted, fault, demand}
-use Rattle.scene.specs.Rules.{linearPointLimit, countRules, headRules, floatRules, listRules, pathRules, restRules, drawRules, headerRules}
+use Rattle.scene.specs.Rules.{linearPointLimit, countRules, headRules, floatRules, listRules, flatRule, pathRules, restRules, drawRules, headerRules}
 use Rattle.scene.specs.Rules.{inHeader, inDraw, checkFaultsFrom, checkFaults, drawFaultFrom, drawFault, sceneFaultFrom, sceneFault}
 use Rattle.damage.specs.Damage.{damage}
 use Rattle.render.specs.declared.Refusal.{Refusal}
@@ -108,6 +108,10 @@ module _ (P : ℕ → Type 0) (none : P acceptedCode) (illegal : P illegalArgume
         (then (numbers-coded d stopsAt (stopFloats * stopCount d))
         (unused-coded d (stopsAt + stopBytes * stopCount d) segmentsAt))
 
+    flat-coded : Field (flatRule d)
+    unfolding flatRule
+    flat-coded = rule (eqb (segmentCount d) 0 || not (isFlat (fixedMatrix (matrixOf d)))) matrixAt
+
     segments-coded : Field (pathRules d)
     unfolding pathRules
     segments-coded = record { holds = path-coded (fixedMatrix (matrixOf d)) (segmentsOf d) (coordinatesOf d) (segmentCount d) .holds }
@@ -120,7 +124,7 @@ module _ (P : ℕ → Type 0) (none : P acceptedCode) (illegal : P illegalArgume
 
     rules-coded : Field (drawRules d)
     unfolding drawRules
-    rules-coded = then head-coded (then floats-coded (then lists-coded (then segments-coded rest-coded)))
+    rules-coded = then head-coded (then floats-coded (then lists-coded (then flat-coded (then segments-coded rest-coded))))
 
   -- ---- a scene
   module _ (bad-length : P badLength) (bad-check : P badChecksum) (s : List ℕ) where

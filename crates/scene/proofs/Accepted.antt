@@ -22,8 +22,9 @@ use Rattle.scene.specs.Blocks.{blockNumber, blockRightFrom, blockOf, dra
 use Rattle.scene.specs.Header.{widthOf, heightOf, countOf}
 use Rattle.scene.specs.Fields.{flagsOf, blendOf, paintTypeOf, spreadOf, segmentCount, scissorCount, stopCount, matrixOf, segmentsOf, coordinatesOf}
 use Rattle.scene.specs.Faults.{fine, must, orElse, firstOf, unused, limited, numbers, accepted, fault, demand, orFault, firstFault}
-use Rattle.scene.specs.Rules.{linearPointLimit, isPaint, isSpread, headRules, countRules, floatRules, listRules, pathRules, restRules, drawRules}
-use Rattle.scene.specs.Rules.{isSide, headerRules, located, inHeader, inDraw, checkFaults, drawFaultFrom, drawFault, sceneFaultFrom, sceneFault}
+use Rattle.scene.specs.Rules.{linearPointLimit, isPaint, isSpread, headRules, countRules, floatRules, listRules, flatRule, pathRules, restRules}
+use Rattle.scene.specs.Rules.{drawRules, isSide, headerRules, located, inHeader, inDraw}
+use Rattle.scene.specs.Rules.{checkFaults, drawFaultFrom, drawFault, sceneFaultFrom, sceneFault}
 use Rattle.scene.specs.Accepted.{AcceptedDraw, AcceptedScene}
 use Rattle.scene.specs.declared.FieldFault.{FieldFault}
 use Rattle.scene.specs.declared.Fault.{Fault}
@@ -124,11 +125,13 @@ module _ (d : List ℕ) where
   unfolding drawRules
   accepted-draw h =
       let from-path : FieldFault = orElse (pathRules d) (restRules d) in
-      let from-lists : FieldFault = orElse (listRules d) from-path in
+      let from-flat : FieldFault = orElse (flatRule d) from-path in
+      let from-lists : FieldFault = orElse (listRules d) from-flat in
       let p = two (headRules d) (orElse (floatRules d) from-lists) h in
       let q = two (floatRules d) from-lists (p .1) in
-      let r = two (listRules d) from-path (q .1) in
-      let s = two (pathRules d) (restRules d) (r .1) in
+      let r = two (listRules d) from-flat (q .1) in
+      let t = two (flatRule d) from-path (r .1) in
+      let s = two (pathRules d) (restRules d) (t .1) in
       let head = headed (p .0) in
       let floats = measured (q .0) in
       record {

@@ -1,7 +1,7 @@
 -- The rules, in the order in which they are judged ("Codes, and which comes first"): a draw by its own bytes, then a scene by its bytes.
 use Prim.Native.Nat.{ℕ, _+_, _*_, _%_}
 use mathlib.Core.List.{List}
-use mathlib.Core.Bool.{Bool, cond, _&&_, _||_}
+use mathlib.Core.Bool.{Bool, cond, not, _&&_, _||_}
 use lib.ListN.{getD, length}
 use lib.Dec.{leb, ltb, eqb}
 use Rattle.codes.specs.Codes.{acceptedCode, badLength, badChecksum}
@@ -9,7 +9,7 @@ use Rattle.fixed.specs.Little.{u16At}
 use Rattle.blend.specs.PorterDuff.{isMode}
 use Rattle.paint.specs.Gradient.{spreadPad, spreadReflect}
 use Rattle.paint.specs.Paints.{paintColor, paintLinear}
-use Rattle.path.specs.Matrices.{linearLimit, translationLimit, fixedMatrix}
+use Rattle.path.specs.Matrices.{linearLimit, translationLimit, fixedMatrix, isFlat}
 use Rattle.path.specs.Segments.{faultTo, walkTo}
 use Rattle.scene.specs.Layout.{blockBytes, payloadBytes, drawBlocks, widthAt, heightAt, countAt, reservedAt, headerEnd, sideLimit, drawLimit, noDraw}
 use Rattle.scene.specs.Layout.{flagsAt, blendAt, paintTypeAt, spreadAt, segmentCountAt, scissorCountAt}
@@ -63,6 +63,10 @@ listRules d =
     (orElse (numbers d stopsAt (stopFloats * stopCount d))
     (unused d (stopsAt + stopBytes * stopCount d) segmentsAt))
 
+-- a flat matrix, judged on the whole numbers, where the draw has segments: the place is that of its sx
+unfoldable pub flatRule : List ℕ → FieldFault
+flatRule d = must (eqb (segmentCount d) 0 || not (isFlat (fixedMatrix (matrixOf d)))) matrixAt
+
 -- the path, segment by segment
 unfoldable pub pathRules : List ℕ → FieldFault
 pathRules d = record {
@@ -78,7 +82,7 @@ restRules d =
 
 -- a draw judged by itself
 unfoldable pub drawRules : List ℕ → FieldFault
-drawRules d = orElse (headRules d) (orElse (floatRules d) (orElse (listRules d) (orElse (pathRules d) (restRules d))))
+drawRules d = orElse (headRules d) (orElse (floatRules d) (orElse (listRules d) (orElse (flatRule d) (orElse (pathRules d) (restRules d)))))
 
 -- ---- the fields of block 0, in order
 abbrev pub isSide : ℕ → Bool

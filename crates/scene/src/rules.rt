@@ -59,7 +59,7 @@ ghost use Rattle.scene.specs.Layout.{drawBytes, segmentLimit, stopLimit,
 ghost use Rattle.scene.specs.Fields.{flagsOf, blendOf, paintTypeOf, spreadOf, segmentCount, stopCount, matrixOf};
 ghost use Rattle.scene.specs.Faults as Faults;
 ghost use Rattle.scene.specs.Faults.{orElse};
-ghost use Rattle.scene.specs.Rules.{isPaint, isSpread, headRules, countRules, floatRules, listRules, pathRules, restRules, drawRules};
+ghost use Rattle.scene.specs.Rules.{isPaint, isSpread, headRules, countRules, floatRules, listRules, flatRule, pathRules, restRules, drawRules};
 
 // A draw judged by itself.
 pub fn draw_rules(d: &[u8]) -> FieldFault
@@ -77,6 +77,10 @@ pub fn draw_rules(d: &[u8]) -> FieldFault
     let lists = list_rules(d);
     if lists.code != ACCEPTED {
         return lists;
+    }
+    let flat = flat_rule(d);
+    if flat.code != ACCEPTED {
+        return flat;
     }
     path_rules(d)
 }
@@ -184,6 +188,17 @@ fn list_rules(d: &[u8]) -> FieldFault
         unused(d, SCISSORS_AT + SCISSOR_BYTES * scissors, STOPS_AT),
         from_stops,
     )
+}
+
+// A matrix that is not flat, where there are segments.
+fn flat_rule(d: &[u8]) -> FieldFault
+    requires { ⌜ (length (now d) ≡ drawBytes) × (matrixInLimits (matrixOf (now d)) ≡ true) ⌝ }
+    ensures { λ r. ⌜ r ≡ flatRule (now (d .entry)) ⌝ }
+{
+    if segment_count(d) == 0 {
+        return must(true, MATRIX_AT);
+    }
+    must(!fixed_matrix(d).is_flat(), MATRIX_AT)
 }
 
 // The path, segment by segment, then unused segments and coordinates.

@@ -56,7 +56,7 @@ fn spoil_draw(random: &mut Random, bytes: &mut [u8]) {
     let draw = random.index(draws);
     let count = |bytes: &[u8], place| usize::from(bytes[file_offset(draw, place)]);
     let mut put_in_draw = |place: usize, value: &[u8]| put(bytes, file_offset(draw, place), value);
-    match random.range(0, 11) {
+    match random.range(0, 12) {
         0 => {
             let place = random.pick(&[0, 2, 4, 6]);
             put_in_draw(place, &[random.byte() & 7]);
@@ -88,6 +88,11 @@ fn spoil_draw(random: &mut Random, bytes: &mut [u8]) {
             let any = random.bits() as i16;
             let value = random.pick(&[0, 1, -1, i16::MAX, i16::MIN, any]);
             put_in_draw(place, &value.to_le_bytes());
+        }
+        // A matrix that is flat, or that becomes so with another such change.
+        11 => {
+            let (place, length) = random.pick(&[(12, 4), (24, 4), (12, 16)]);
+            put_in_draw(place, &[0; 16][..length]);
         }
         _ => put_in_draw(random.index(2_032), &[random.byte()]),
     }

@@ -43,7 +43,8 @@ pub fn frame(random: &mut Random, width: u16, height: u16) -> Frame {
             let entries = std::array::from_fn(|_| random.float(-0.2, 0.2));
             scaled(entries, 12)
         }
-        8 => flat(random, size),
+        8 if random.once_in(12) => flat(random, size),
+        8 => thin(random, size),
         9 => far(random),
         // The whole range of coordinates, of which the surface is a small part.
         10 => Frame { matrix: [1.0, 0.0, 0.0, 1.0, shift(random, 1.0), 0.0], reach: 32_768 },
@@ -52,6 +53,20 @@ pub fn frame(random: &mut Random, width: u16, height: u16) -> Frame {
             reach: 32_768,
         },
     }
+}
+
+/// A matrix that maps all to nearly a line or a point, but is not flat as whole numbers.
+fn thin(random: &mut Random, size: i32) -> Frame {
+    let step = 1.0 / 65_536.0;
+    let matrix = random.pick(&[
+        [step, 0.0, 0.0, step, 2.5, 2.5],
+        [step, 0.0, 0.0, 1.0, 3.5, 0.0],
+        [1.0, 0.0, 0.0, -step, 0.0, 2.5],
+        [0.5, 0.5, 0.5, 0.5 + step, 0.0, 0.0],
+        [0.3, 0.6, 0.1, 0.2, 0.0, 0.0],
+        [0.0, step, 1.0, 0.0, 0.0, 1.0],
+    ]);
+    Frame { matrix, reach: size + 4 }
 }
 
 /// A matrix that maps all to a line or a point.

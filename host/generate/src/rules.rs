@@ -45,6 +45,46 @@ const TYPES: [(u8, usize); 9] = [
     (SMOOTH_CUBIC, 4),
 ];
 
+/// sx, shy, shx, sy, and whether they are flat as whole numbers in 1/65,536.
+const MATRICES: [([f32; 4], bool); 25] = {
+    const STEP: f32 = 1.0 / 65_536.0;
+    [
+        ([0.0; 4], true),
+        ([-0.0, 0.0, 0.0, -0.0], true),
+        // A row or a column of zeros.
+        ([0.0, 1.0, 0.0, 1.0], true),
+        ([1.0, 0.0, 1.0, 0.0], true),
+        ([1.0, 1.0, 0.0, 0.0], true),
+        ([0.0, 0.0, 1.0, 1.0], true),
+        // Proportional rows.
+        ([1.0, 2.0, 3.0, 6.0], true),
+        ([-1.0, 2.0, 3.0, -6.0], true),
+        ([256.0, 256.0, 256.0, 256.0], true),
+        ([-256.0, 256.0, 256.0, -256.0], true),
+        // Flat by rounding alone.
+        ([1.0, 1.0, 1.0, 1.0 + STEP / 4.0], true),
+        ([STEP * 0.499, 0.0, 0.0, 1.0], true),
+        ([-STEP / 2.0, 0.0, 0.0, 1.0], true),
+        ([1e-40, 0.0, 0.0, 256.0], true),
+        // By one step not flat.
+        ([1.0, 1.0, 1.0, 1.0 + STEP], false),
+        ([1.0, 1.0 - STEP, 1.0, 1.0], false),
+        ([STEP / 2.0, 0.0, 0.0, 1.0], false),
+        ([STEP, 0.0, 0.0, STEP], false),
+        // Flat as numbers, and no longer so by rounding.
+        ([0.3, 0.6, 0.1, 0.2], false),
+        // The sum would be 0, not the difference.
+        ([1.0, 1.0, -1.0, 1.0], false),
+        ([2.0, 4.0, -2.0, 4.0], false),
+        // The largest differences.
+        ([256.0, 256.0, -256.0, 256.0], false),
+        ([256.0, 256.0, 256.0, -256.0], false),
+        // A quarter turn.
+        ([0.0, 1.0, -1.0, 0.0], false),
+        ([0.0, STEP, STEP, 0.0], false),
+    ]
+};
+
 /// All cases.
 pub fn cases() -> Vec<Case> {
     let mut cases = Cases(Vec::new());
@@ -57,6 +97,7 @@ pub fn cases() -> Vec<Case> {
     cases.floats();
     cases.scissors();
     cases.stops();
+    cases.flat_matrices();
     cases.segment_bytes();
     cases.coordinate_counts();
     cases.user_range();
@@ -315,6 +356,29 @@ impl Cases {
         }
     }
 
+    /// Matrices about the flat ones, which are judged on the whole numbers, after the stops and before the path.
+    fn flat_matrices(&mut self) {
+        for (linear, flat) in MATRICES {
+            let [sx, shy, shx, sy] = linear;
+            let matrix = [sx, shy, shx, sy, 1.0, 2.0];
+            let with = |path| with_draw(Draw { matrix, path, ..Draw::default() });
+            let fault = unless(!flat, illegal(12));
+            self.add(format!("{linear:?}, no segments"), with(Path::new()).bytes(), None);
+            self.add(format!("{linear:?}, a lone close"), with(Path::new().close()).bytes(), fault);
+            self.add(format!("{linear:?}, a lone move"), with(Path::new().move_to(1, 1)).bytes(), fault);
+            let square = with(Path::new().rectangle(1, 1, 3, 3));
+            self.add(format!("{linear:?}, a square"), square.bytes(), fault);
+            let arc = with(Path::new().segment(18, &[]));
+            self.add(format!("{linear:?}, an arc"), arc.bytes(), fault.or(in_draw(ARC, 772)));
+            self.with_bytes(format!("{linear:?}, a last byte"), &square, 2_031, &[1], fault.or(illegal(2_031)));
+            // Fields come before it.
+            self.with_bytes(format!("{linear:?}, an unused stop"), &square, 771, &[1], illegal(771));
+            let mut bad_stop = square.clone();
+            bad_stop.draws[DRAW].stops = vec![Stop { offset: 0.0, color: [0.0, 0.0, 0.0, f32::NAN] }];
+            self.add(format!("{linear:?}, a NaN in a stop"), bad_stop.bytes(), illegal(148));
+        }
+    }
+
     fn segment_bytes(&mut self) {
         for byte in 0..=255_u8 {
             let fault = match byte {
@@ -492,7 +556,7 @@ fn ordered_faults() -> Vec<Edit> {
             spoil_check(&mut edits, 1 + 4 * draw + block);
         }
         let nan = f32::NAN.to_le_bytes();
-        let places: [(usize, &[u8], u32, usize); 27] = [
+        let places: [(usize, &[u8], u32, usize); 28] = [
             (0, &[8], ILLEGAL, 0),
             (2, &[5], ILLEGAL, 2),
             (4, &[2], ILLEGAL, 4),
@@ -514,6 +578,8 @@ fn ordered_faults() -> Vec<Edit> {
             (148, &nan, ILLEGAL, 148),
             (152, &[1], ILLEGAL, 152),
             (771, &[1], ILLEGAL, 771),
+            // sy is 0, so the matrix is flat.
+            (24, &[0; 4], ILLEGAL, 12),
             (773, &[18], ARC, 773),
             (774, &[26], ILLEGAL, 774),
             (775, &[25], ARC, 775),

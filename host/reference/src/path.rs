@@ -34,6 +34,11 @@ impl Matrix {
         Matrix { sx, shy, shx, sy, tx, ty }
     }
 
+    /// Whether every path becomes a line or a point, judged on the whole numbers.
+    pub fn is_flat(&self) -> bool {
+        self.sx * self.sy == self.shx * self.shy
+    }
+
     /// A user point in surface units.
     pub fn surface_point(&self, user: Point) -> Point {
         let round = |sum: i64| (sum + 128).div_euclid(256);

@@ -105,10 +105,13 @@ fn numbered_draw(bytes: &[u8], index: usize) -> Result<Draw, Fault> {
     draw(file::draw_bytes(bytes, index)).map_err(|found| fault(found.code, file::offset(index, found.place)))
 }
 
-/// A draw from its joined payloads: fields to the end of the stops, the path, unused segments and coordinates.
+/// A draw from its joined payloads: fields to the end of the stops, a flat matrix, the path, unused segments and
+/// coordinates.
 pub fn draw(bytes: Vec<u8>) -> Result<Draw, DrawFault> {
     let illegal = |place| DrawFault { code: ILLEGAL_ARGUMENT, place };
     let fields = fields(&bytes).map_err(illegal)?;
+
+    require(fields.segments == 0 || !fields.matrix.is_flat(), draw::MATRIX).map_err(illegal)?;
 
     let segments = &bytes[draw::SEGMENTS..][..fields.segments];
     let coordinates: Vec<i16> = (0..draw::MAX_COORDINATES).map(|i| i16_at(&bytes, draw::COORDINATES + 2 * i)).collect();

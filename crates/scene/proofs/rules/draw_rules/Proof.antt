@@ -55,7 +55,8 @@ returns-3 c =
 returns-4 : tie.Need-returns-4
 unfolding drawRules
 returns-4 c =
-    let listed = c .before in
+    let flat = c .before .before .flat-rule in
+    let listed = c .before .before .before in
     let lists = listed .before .before .list-rules in
     let measured = listed .before .before .before in
     let floats = measured .before .before .float-rules in
@@ -63,7 +64,24 @@ returns-4 c =
     let head = headed .before .before .head-rules in
     sooner-second code (head .result) _ _ _ (head .ensures) (headed .if1 .left)
     (sooner-second code (floats .result) _ _ _ (floats .ensures) (measured .if2 .left)
-    (sooner-second code (lists .result) _ _ _ (lists .ensures) (listed .if3 .left) (c .path-rules .ensures)))
+    (sooner-second code (lists .result) _ _ _ (lists .ensures) (listed .if3 .left)
+    (sooner-first code (flat .result) _ _ (flat .ensures) (c .if4 .taken))))
+
+returns-5 : tie.Need-returns-5
+unfolding drawRules
+returns-5 c =
+    let sound = c .before in
+    let flat = sound .before .before .flat-rule in
+    let listed = sound .before .before .before in
+    let lists = listed .before .before .list-rules in
+    let measured = listed .before .before .before in
+    let floats = measured .before .before .float-rules in
+    let headed = measured .before .before .before in
+    let head = headed .before .before .head-rules in
+    sooner-second code (head .result) _ _ _ (head .ensures) (headed .if1 .left)
+    (sooner-second code (floats .result) _ _ _ (floats .ensures) (measured .if2 .left)
+    (sooner-second code (lists .result) _ _ _ (lists .ensures) (listed .if3 .left)
+    (sooner-second code (flat .result) _ _ _ (flat .ensures) (sound .if4 .left) (c .path-rules .ensures))))
 
 pub draw-rules-spec : {M : Type 1} → statement M
 draw-rules-spec =
@@ -75,5 +93,9 @@ draw-rules-spec =
     returns-2
     (λ c κs. (search needs, counted (c .before .before .before) .stops))
     returns-3
-    (λ c κs. let measured = c .before .before .before in ((search needs, counted (measured .before .before .before) .segments), within measured))
-    returns-4)
+    (λ c κs. (search needs, within (c .before .before .before)))
+    returns-4
+    (λ c κs.
+    let measured = c .before .before .before .before .before .before in
+    ((search needs, counted (measured .before .before .before) .segments), within measured))
+    returns-5)
