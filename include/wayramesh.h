@@ -5,11 +5,12 @@
  * from one scene to the next by drawing only the area in which they may differ. The scene file's format is paper 01's,
  * "The scene file", with paper 02's P8 (both sums of a block's check begin at the block's number, counted from 0) and
  * P3 (a draw with segments whose sx * sy - shx * shy is 0, in whole numbers of 1/65,536, is refused).
+ * wayramesh_compare, at the end of this file, says where two pictures differ.
  *
  * Link with libwayramesh.a (x86-64; it needs memcpy and memset of the C library). The library allocates nothing, keeps
  * nothing between calls, and does no input or output. examples/panel.c is a whole program.
  *
- * What is proved of both functions, for every input:
+ * What is proved of the first two functions, for every input:
  *
  *   1. The call returns, and its seven numbers are those of the rules below: which calls are refused, with which code,
  *      draw and scene number, and which area an accepted one answers.
@@ -163,6 +164,42 @@ wayramesh_answer wayramesh_redraw(const uint8_t *old, size_t old_len,
                                   const uint8_t *new_scene, size_t new_len,
                                   uint8_t *surface, size_t surface_len,
                                   int32_t *scratch, size_t scratch_len);
+
+/* ---- Two pictures compared ---- */
+
+/*
+ * What wayramesh_compare answers. A refusal has its code and zeros, equal pictures have equal and zeros.
+ *
+ *   code     WAYRAMESH_ACCEPTED if the pictures were compared. WAYRAMESH_ILLEGAL_ARGUMENT if width or height is not from 1
+ *            to WAYRAMESH_MAX_SIDE. Else WAYRAMESH_UNSUPPORTED_IMAGE_FORMAT if one of the surfaces does not have
+ *            4 * width * height bytes.
+ *   equal    1 if the pictures are the same in every byte, else 0.
+ *   count    How many pixels differ, in one channel at least; alpha is a channel.
+ *   x, y, width, height
+ *            The smallest rectangle that holds every differing pixel, as in wayramesh_answer.
+ *   largest  The largest difference of any channel of any pixel, 1 to 255.
+ *   least    The least y * width + x of a differing pixel, where width is that of the call.
+ */
+typedef struct wayramesh_comparison {
+    uint32_t code;
+    uint32_t equal;
+    uint32_t count;
+    uint32_t x;
+    uint32_t y;
+    uint32_t width;
+    uint32_t height;
+    uint32_t largest;
+    uint32_t least;
+} wayramesh_comparison;
+
+/*
+ * Compares two surfaces of one size, laid out as in wayramesh_draw. Both are only read and may be the same memory, and
+ * the answer does not depend on which comes first. It is proved that the call returns and that the nine numbers are as
+ * described, for every width and height, and bytes of any length. Two equal pictures take about as long as memcmp.
+ */
+wayramesh_comparison wayramesh_compare(uint32_t width, uint32_t height,
+                                       const uint8_t *a, size_t a_len,
+                                       const uint8_t *b, size_t b_len);
 
 #ifdef __cplusplus
 }

@@ -1,7 +1,9 @@
 // The C interface: include/wayramesh.h tells a C caller what these functions take and answer.
+use difference::Comparison;
 use render::Answer;
 ghost use mathlib.Core.Path.{_≡_};
 ghost use lib.ListN.{length};
+ghost use Rattle.difference.specs.Compare.{compareAnswer};
 ghost use Rattle.render.specs.Answers.{drawAnswer, drawSurface, drawScratch, redrawAnswer, redrawSurface, redrawScratch};
 
 // Draws a scene in full.
@@ -27,4 +29,12 @@ pub extern "C" fn wayramesh_redraw(
     ensures { λ _. ⌜ now (scratch .exit) ≡ redrawScratch (now (old .entry)) (now (new .entry)) (length (now (surface .entry))) (now (scratch .entry)) ⌝ }
 {
     render::redraw(old, new, surface, scratch)
+}
+
+// Compares two pictures of one named size.
+#[no_mangle]
+pub extern "C" fn wayramesh_compare(width: u32, height: u32, a: &[u8], b: &[u8]) -> Comparison
+    ensures { λ r. ⌜ r ≡ compareAnswer width height (now (a .entry)) (now (b .entry)) ⌝ }
+{
+    difference::compare(width, height, a, b)
 }

@@ -8,6 +8,7 @@
 //! full drawing of the first frame.
 #![forbid(unsafe_code)]
 
+mod compare;
 mod stages;
 mod workloads;
 
@@ -33,6 +34,9 @@ fn main() {
     println!(
         "Stages: the difference of the best times of drawings that stop short, and its share of the full drawing."
     );
+    if chosen.is_none_or(|name| name == "compare") {
+        compare::print(Duration::from_secs_f64(seconds));
+    }
 }
 
 struct Times {

@@ -21,6 +21,10 @@ pub const SCRATCH_NUMBERS: usize = 12_300;
 /// The code of a call whose scratch has fewer.
 pub const OUT_OF_MEMORY: u32 = 0x1002;
 
+mod compare;
+
+pub use compare::{compare, Comparison};
+
 mod ffi {
     use super::Answer;
 

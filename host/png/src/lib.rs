@@ -2,6 +2,7 @@
 #![forbid(unsafe_code)]
 
 mod deflate;
+pub mod difference;
 
 /// A picture with straight alpha, its top row first.
 #[derive(Clone, Debug, PartialEq, Eq)]

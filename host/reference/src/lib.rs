@@ -9,6 +9,7 @@
 
 pub mod answer;
 pub mod blend;
+pub mod compare;
 pub mod coverage;
 pub mod file;
 pub mod number;
