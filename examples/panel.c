@@ -89,7 +89,28 @@ static void polygon(uint8_t *draw, const int *points, int count)
     append(&p, 0, NULL, 0);
 }
 
-/* A bar gauge of 64 by 24 pixels: its trough, its filling, a ramp from green to red, and a needle at a column. */
+/* A stop of a gradient: its offset and an opaque colour. */
+static void put_stop(uint8_t *at, float offset, float r, float g, float b)
+{
+    const float numbers[5] = {offset, r, g, b, 1.0f};
+    for (int i = 0; i < 5; i++) {
+        put_f32(at + 4 * i, numbers[i]);
+    }
+}
+
+/* A radial gradient's circle, which stands in place of the first stop: centre, focal point, radius. */
+static void put_circle(uint8_t *at, float cx, float cy, float fx, float fy, float r)
+{
+    const float numbers[5] = {cx, cy, fx, fy, r};
+    for (int i = 0; i < 5; i++) {
+        put_f32(at + 4 * i, numbers[i]);
+    }
+}
+
+/*
+ * A bar gauge of 64 by 24 pixels: its trough, lit from above by a radial gradient, its filling, a ramp from green to
+ * red, and a needle at a column.
+ */
 static void gauge(uint8_t *scene, int needle)
 {
     static const int trough[] = {2, 4, 62, 4, 62, 20, 2, 20};
@@ -104,19 +125,21 @@ static void gauge(uint8_t *scene, int needle)
     payload[11] = 255;
     put_block(scene, 0, payload);
 
-    begin_draw(draws[0], 0.25f, 0.25f, 0.3f);
+    begin_draw(draws[0], 0.0f, 0.0f, 0.0f);
+    put_u16(draws[0] + 4, 0x1B02);
+    draws[0][10] = 2;
+    put_circle(draws[0] + 132, 32.0f, 12.0f, 32.0f, 16.0f, 40.0f);
+    put_stop(draws[0] + 152, 0.0f, 0.45f, 0.45f, 0.5f);
+    put_stop(draws[0] + 172, 1.0f, 0.15f, 0.15f, 0.2f);
     polygon(draws[0], trough, 4);
 
     begin_draw(draws[1], 0.0f, 0.0f, 0.0f);
     put_u16(draws[1] + 4, 0x1B01);
+    draws[1][10] = 2;
     put_f32(draws[1] + 52, 4.0f);
     put_f32(draws[1] + 60, 60.0f);
-    draws[1][10] = 2;
-    put_f32(draws[1] + 132 + 8, 0.8f);
-    put_f32(draws[1] + 132 + 16, 1.0f);
-    put_f32(draws[1] + 152, 1.0f);
-    put_f32(draws[1] + 152 + 4, 0.9f);
-    put_f32(draws[1] + 152 + 16, 1.0f);
+    put_stop(draws[1] + 132, 0.0f, 0.0f, 0.8f, 0.0f);
+    put_stop(draws[1] + 152, 1.0f, 0.9f, 0.0f, 0.0f);
     polygon(draws[1], filling, 4);
 
     begin_draw(draws[2], 1.0f, 1.0f, 1.0f);

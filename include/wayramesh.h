@@ -3,9 +3,9 @@
  *
  * A scene file goes in, and pixels come out. wayramesh_draw draws a scene in full. wayramesh_redraw takes a surface
  * from one scene to the next by drawing only the area in which they may differ. The scene file's format is paper 01's,
- * "The scene file", with paper 02's P8 (both sums of a block's check begin at the block's number, counted from 0) and
- * P3 (a draw with segments whose sx * sy - shx * shy is 0, in whole numbers of 1/65,536, is refused).
- * wayramesh_compare, at the end of this file, says where two pictures differ.
+ * "The scene file", with paper 02's P8 (both sums of a block's check begin at the block's number, counted from 0),
+ * P3 (a draw with segments whose sx * sy - shx * shy is 0, in whole numbers of 1/65,536, is refused) and P1 (radial
+ * gradients). wayramesh_compare, at the end of this file, says where two pictures differ.
  *
  * Link with libwayramesh.a (x86-64; it needs memcpy and memset of the C library). The library allocates nothing, keeps
  * nothing between calls, and does no input or output. examples/panel.c is a whole program.

@@ -7,12 +7,14 @@ use Rattle.blend.specs.PorterDuff.{sourceFactor, destinationFactor, compositeBy
 use Rattle.paint.specs.Ramps.{keptStops, withEnds, rampAt}
 use Rattle.path.specs.Segments.{pointsOf, penAfter, segmentCode}
 use Rattle.scene.specs.Blocks.{checksumOf, blockRightFrom}
-use Rattle.scene.specs.Rules.{countRules, headRules, floatRules, listRules, flatRule, pathRules, restRules, drawRules, headerRules, checkFaultsFrom}
+use Rattle.scene.specs.Fields.{firstStopAt}
+use Rattle.scene.specs.Rules.{stopLimitOf, countRules, headRules, floatRules, circleRules, stopRules, listRules, flatRule, pathRules, restRules}
+use Rattle.scene.specs.Rules.{drawRules, headerRules, checkFaultsFrom}
 use Rattle.cases.specs.Scenes.{squareDraw, red}
 use Rattle.cases.specs.Corners.{corners}
 
 pub corner-cases : map (λ r. r .given) corners ≡ map (λ r. r .paper) corners
 unfolding corners red squareDraw lt mul add ofBits toUnsigned isNan channelByte sourceFactor destinationFactor compositeByte keptStops withEnds rampAt
-    pointsOf penAfter segmentCode checksumOf blockRightFrom countRules headRules floatRules listRules flatRule pathRules restRules drawRules
-    headerRules checkFaultsFrom
+    pointsOf penAfter segmentCode checksumOf blockRightFrom stopLimitOf countRules headRules floatRules circleRules firstStopAt stopRules listRules flatRule
+    pathRules restRules drawRules headerRules checkFaultsFrom
 corner-cases = refl

@@ -19,8 +19,8 @@ use Rattle.path.specs.Boxes.{outer, outerOf, boxOf}
 use Rattle.coverage.specs.Winding.{upward, spans, atOrLeft, sign, weight, counts, winding, coverage}
 use Rattle.coverage.specs.Scissors.{scissored}
 use Rattle.scene.specs.Blocks.{checksumOf, blockRightFrom, drawOf, sameDraw}
-use Rattle.scene.specs.Fields.{paintOf}
-use Rattle.scene.specs.Rules.{countRules, headRules, floatRules, flatRule, pathRules, headerRules, drawRules}
+use Rattle.scene.specs.Fields.{paintOf, firstStopAt}
+use Rattle.scene.specs.Rules.{stopLimitOf, countRules, headRules, floatRules, flatRule, pathRules, headerRules, drawRules}
 use Rattle.engine.specs.Picture.{drawEdges, drawCoverage, drawPaint, drawStep, pixelAt, picture}
 use Rattle.damage.specs.Damage.{changedAt, drawBox, boxAt, sameBackground, damageOf, damage}
 use Rattle.render.specs.declared.Answer.{Answer}
@@ -31,9 +31,9 @@ use Rattle.cases.proofs.Judged.{block-there, lists-judged, rest-judged,
 
 -- ---- accepted: zero bytes of the draw from a place on, and how many; then every block
 red-rules : drawRules redDraw .code ≡ 0
-unfolding squareDraw ofBits isNan pointsOf penAfter segmentCode countRules headRules floatRules flatRule pathRules
+unfolding squareDraw ofBits isNan pointsOf penAfter segmentCode stopLimitOf countRules headRules floatRules flatRule pathRules
 red-rules =
-    draw-judged redDraw refl refl (lists-judged redDraw 68 64 132 640 refl refl refl refl refl refl refl) refl refl
+    draw-judged redDraw refl refl (lists-judged redDraw 68 64 132 640 refl refl refl refl refl refl refl refl) refl refl
     (rest-judged redDraw 777 123 910 1122 refl refl refl refl refl refl)
 
 red-accepted : Accepted red
@@ -48,9 +48,9 @@ red-accepted =
     refl red-rules
 
 blue-rules : drawRules blueDraw .code ≡ 0
-unfolding squareDraw ofBits isNan pointsOf penAfter segmentCode countRules headRules floatRules flatRule pathRules
+unfolding squareDraw ofBits isNan pointsOf penAfter segmentCode stopLimitOf countRules headRules floatRules flatRule pathRules
 blue-rules =
-    draw-judged blueDraw refl refl (lists-judged blueDraw 68 64 132 640 refl refl refl refl refl refl refl) refl refl
+    draw-judged blueDraw refl refl (lists-judged blueDraw 68 64 132 640 refl refl refl refl refl refl refl refl) refl refl
     (rest-judged blueDraw 777 123 910 1122 refl refl refl refl refl refl)
 
 blue-accepted : Accepted blue
@@ -65,9 +65,9 @@ blue-accepted =
     refl blue-rules
 
 curve-rules : drawRules curveDraw .code ≡ 0
-unfolding curveDraw ofBits isNan pointsOf penAfter segmentCode countRules headRules floatRules flatRule pathRules
+unfolding curveDraw ofBits isNan pointsOf penAfter segmentCode stopLimitOf countRules headRules floatRules flatRule pathRules
 curve-rules =
-    draw-judged curveDraw refl refl (lists-judged curveDraw 68 64 172 600 refl refl refl refl refl refl refl) refl refl
+    draw-judged curveDraw refl refl (lists-judged curveDraw 68 64 172 600 refl refl refl refl refl refl refl refl) refl refl
     (rest-judged curveDraw 775 125 912 1120 refl refl refl refl refl refl)
 
 curve-accepted : Accepted curve
@@ -95,8 +95,8 @@ unfolding blue squareDraw squarePicture drawOf paintOf ofBits lt mul add toUnsig
 blue-picture = refl
 
 curve-picture : picture curve ≡ curvePicture
-unfolding curve curveDraw curvePicture linearT mapped keptStops withEnds rampAt gradientColor drawOf paintOf ofBits lt mul add toUnsigned channelByte
-    sourceFactor destinationFactor compositeByte paintAt pointsOf penAfter cut curveEdges pathEdges upward spans atOrLeft sign weight counts
+unfolding curve curveDraw curvePicture linearT mapped keptStops withEnds rampAt gradientColor drawOf paintOf firstStopAt ofBits lt mul add toUnsigned
+    channelByte sourceFactor destinationFactor compositeByte paintAt pointsOf penAfter cut curveEdges pathEdges upward spans atOrLeft sign weight counts
     winding coverage scissored drawEdges drawCoverage drawPaint drawStep pixelAt picture
 curve-picture = refl
 

@@ -1,6 +1,6 @@
 -- How a scene of one draw is judged without reading each byte from the start of the file: zero bytes at once, and a block's check by the block's own bytes.
 use mathlib.Core.Path.{_≡_, refl, sym, ap, _∙_}
-use mathlib.Core.Bool.{true}
+use mathlib.Core.Bool.{true, false}
 use mathlib.Core.List.{List, _++_}
 use Prim.Native.Nat.{ℕ, zero, suc, _+_, _*_, _-_, _≤_, _<_}
 use native.Mathlib.Omega.{arith}
@@ -11,9 +11,9 @@ use Rattle.path.specs.Segments.{walkTo}
 use Rattle.scene.specs.Layout.{scissorsAt, scissorBytes, stopsAt, stopFloats, stopBytes, segmentsAt, coordinatesAt, drawBytes}
 use Rattle.scene.specs.Blocks.{blockNumber, blockRight, drawOf}
 use Rattle.scene.specs.Header.{countOf}
-use Rattle.scene.specs.Fields.{segmentCount, scissorCount, stopCount, segmentsOf, coordinatesOf}
+use Rattle.scene.specs.Fields.{isRadial, firstStopAt, segmentCount, scissorCount, stopCount, segmentsOf, coordinatesOf}
 use Rattle.scene.specs.Faults.{fine, firstOf, must, unused, numbers}
-use Rattle.scene.specs.Rules.{headerRules, headRules, floatRules, listRules, flatRule, pathRules, restRules, drawRules}
+use Rattle.scene.specs.Rules.{headerRules, headRules, floatRules, circleRules, stopRules, listRules, flatRule, pathRules, restRules, drawRules}
 use Rattle.scene.specs.Rules.{checkFaultsFrom, drawFaultFrom, sceneFaultFrom, sceneFault}
 use Rattle.scene.proofs.Places.{blockAt, passesAt, block-alone}
 
@@ -37,11 +37,11 @@ block-there s b h = block-alone blockNumber s b ∙ h
 
 -- ---- a draw, part by part: m zero bytes from a to the stops and n from b to the segments; m from a to the coordinates and n from b to the end
 module _ (d : List ℕ) (a m b n : ℕ) (first : drop a d ≡ replicate m 0 ++ drop (a + m) d) (second : drop b d ≡ replicate n 0 ++ drop (b + n) d) where
-  pub lists-judged : scissorsAt + scissorBytes * scissorCount d ≡ a → a + m ≡ stopsAt → numbers d stopsAt (stopFloats * stopCount d) ≡ fine
+  pub lists-judged : isRadial d ≡ false → scissorsAt + scissorBytes * scissorCount d ≡ a → a + m ≡ stopsAt → numbers d stopsAt (stopFloats * stopCount d) ≡ fine
       → stopsAt + stopBytes * stopCount d ≡ b → b + n ≡ segmentsAt → listRules d .code ≡ 0
-  unfolding listRules
-  lists-judged scissors m-end stops used n-end =
-      rw (scissors, unused-zeros d a m first stopsAt m-end, stops, used, unused-zeros d b n second segmentsAt n-end)
+  unfolding listRules circleRules stopRules firstStopAt
+  lists-judged plain scissors m-end stops used n-end =
+      rw (plain, scissors, unused-zeros d a m first stopsAt m-end, stops, used, unused-zeros d b n second segmentsAt n-end)
 
   pub rest-judged : segmentsAt + segmentCount d ≡ a → a + m ≡ coordinatesAt
       → coordinatesAt + 2 * walkTo (segmentsOf d) (coordinatesOf d) (segmentCount d) .used ≡ b → b + n ≡ drawBytes → restRules d .code ≡ 0

@@ -2,7 +2,7 @@
 use mathlib.Core.Path.{_≡_, refl, sym, ap, _∙_}
 use mathlib.Core.Bool.{Bool, true, false}
 use mathlib.Core.List.{List}
-use Prim.Native.Nat.{ℕ}
+use Prim.Native.Nat.{ℕ, _*_, _≤_}
 use native.Mathlib.Omega.{arith}
 use lib.Dec.{eqb}
 use lib.ListN.{length, drop, length-take, length-drop}
@@ -16,18 +16,25 @@ use Rattle.raster.proofs.Overlay.{overlay-same}
 use Rattle.fixed.specs.Floats.{atMost}
 use Rattle.blend.specs.PorterDuff.{composite}
 use Rattle.path.specs.declared.Edge.{Edge}
+use Rattle.paint.specs.declared.AnyGradient.the-variants as gradient
 use Rattle.paint.specs.declared.LinearGradient.{LinearGradient}
 use Rattle.paint.specs.declared.LinearPoints.{LinearPoints}
+use Rattle.paint.specs.declared.RadialGradient.{RadialGradient}
+use Rattle.paint.specs.declared.RadialPoints.{RadialPoints}
 use Rattle.paint.specs.declared.Paint.{Paint}
 use Rattle.paint.specs.declared.Paint.the-variants as paint
 use Rattle.paint.specs.Paints.{paintLinear, paintAt}
-use Rattle.scene.specs.Fields.{paintOf, paintTypeOf, pickPaint, colorOf, linearOf, stopsOf, scissorsOf, blendOf}
+use Rattle.paint.specs.Radial.{fixedCircle, focalAllowed}
+use Rattle.scene.specs.Fields.{paintOf, paintTypeOf, pickPaint, colorOf, linearOf, isRadial, radialOf, firstStopAt, stopsOf, stopCount, scissorsOf, blendOf}
+use Rattle.scene.specs.Rules.{stopLimitOf}
 use Rattle.scene.specs.Accepted.{AcceptedDraw}
+use Rattle.scene.proofs.Accepted.{stops-fit}
+use Rattle.lists.proofs.Laws.{part-length}
 use Rattle.engine.specs.Picture.{drawEdges, drawCoverage, drawPaint, drawStep}
 use Rattle.engine.specs.declared.Shade.{Shade}
-use Rattle.engine.specs.declared.Shade.the-variants.{Solid, Linear}
+use Rattle.engine.specs.declared.Shade.the-variants.{Solid, Gradient}
 use Rattle.engine.specs.declared.Style.{Style}
-use Rattle.engine.specs.Rows.{coverageWith, stepWith, shadeAt, styleOf, Gradients, Shades}
+use Rattle.engine.specs.Rows.{coverageWith, stepWith, shadeAt, styleOf, MadeLinear, MadeRadial, Shades}
 
 -- ---- the paint
 pub solid-shades : (d : List ℕ) (c : Color) (p : Pixel) (before : List ℕ) → paintOf d ≡ paint.Solid c → p ≡ premultiplied (bytesOfColor c)
@@ -35,14 +42,24 @@ pub solid-shades : (d : List ℕ) (c : Color) (p : Pixel) (before : List ℕ) �
 unfolding shadeAt drawPaint paintAt
 solid-shades d c p before e f = record { paint = λ x y. rw e f; asked = tt; run = refl }
 
-pub linear-shades : (d : List ℕ) (p : LinearPoints) (g : LinearGradient) (before after : List ℕ) → paintOf d ≡ paint.Linear p
-    → Gradients d p g before after → Shades d (Linear g) before after
-unfolding shadeAt drawPaint paintAt
-linear-shades d p g before after e o = record {
-  paint = λ x y. rw (e, o .ramp .stops, o .spread, o .premultiply, o .points);
-  asked = (o .near, o .held);
-  run = o .ramp;
-}
+module _ (d before after : List ℕ) where
+  pub linear-shades : (p : LinearPoints) (g : LinearGradient) → paintOf d ≡ paint.Linear p → MadeLinear d p g before after
+      → Shades d (Gradient (gradient.Linear g)) before after
+  unfolding shadeAt drawPaint paintAt
+  linear-shades p g e o = record {
+    paint = λ x y. rw (e, o .ramp .written .stops, o .spread, o .premultiply, o .points);
+    asked = (o .limited, o .ramp .held);
+    run = o .ramp .written;
+  }
+
+  pub radial-shades : (p : RadialPoints) (g : RadialGradient) → paintOf d ≡ paint.Radial p → MadeRadial d p g before after
+      → Shades d (Gradient (gradient.Radial g)) before after
+  unfolding shadeAt drawPaint paintAt
+  radial-shades p g e o = record {
+    paint = λ x y. rw (e, o .ramp .written .stops, o .spread, o .premultiply, o .circle);
+    asked = (o .limited, o .focal, o .ramp .held);
+    run = o .ramp .written;
+  }
 
 -- ---- the step
 own-step : (d : List ℕ) (n : ℕ) (shade : Shade) (ramp : List ℕ) (x y : ℕ) (q : Pixel) → shadeAt shade ramp x y ≡ drawPaint d x y
@@ -62,23 +79,62 @@ own-steps t d s r style n shade es scissors ramp e f g h o =
 abbrev pointsOf : LinearPoints → Paint → LinearPoints
 pointsOf q (paint.Solid c) = q
 pointsOf q (paint.Linear p) = p
+pointsOf q (paint.Radial r) = q
 
-picked : (b : Bool) (q p : LinearPoints) (c : Color) → pickPaint b (paint.Linear q) (paint.Solid c) ≡ paint.Linear p → q ≡ p
-picked true q p c e = ap (pointsOf q) e
-picked false q p c e = ap (pointsOf q) e
+abbrev circleOf : RadialPoints → Paint → RadialPoints
+circleOf q (paint.Solid c) = q
+circleOf q (paint.Linear p) = q
+circleOf q (paint.Radial r) = r
+
+abbrev isCircle : Paint → Bool
+isCircle (paint.Solid c) = false
+isCircle (paint.Linear p) = false
+isCircle (paint.Radial r) = true
+
+-- the paint that is picked tells what it was picked from
+module _ (c : Color) (l : LinearPoints) (r : RadialPoints) where
+  abbrev picked : Bool → Bool → Paint
+  picked radial linear = pickPaint radial (paint.Radial r) (pickPaint linear (paint.Linear l) (paint.Solid c))
+
+  picked-points : (a b : Bool) (p : LinearPoints) → picked a b ≡ paint.Linear p → l ≡ p
+  picked-points true b p e = ap (pointsOf l) e
+  picked-points false true p e = ap (pointsOf l) e
+  picked-points false false p e = ap (pointsOf l) e
+
+  picked-circle : (a b : Bool) (p : RadialPoints) → picked a b ≡ paint.Radial p → (a ≡ true) × (r ≡ p)
+  picked-circle true b p e = (refl, ap (circleOf r) e)
+  picked-circle false true p e = (ap isCircle e, ap (circleOf r) e)
+  picked-circle false false p e = (ap isCircle e, ap (circleOf r) e)
 
 linear-is : (d : List ℕ) (p : LinearPoints) → paintOf d ≡ paint.Linear p → linearOf d ≡ p
 unfolding paintOf
-linear-is d p e = picked (eqb (paintTypeOf d) paintLinear) (linearOf d) p (colorOf d) e
+linear-is d p e = picked-points (colorOf d) (linearOf d) (radialOf d) (isRadial d) (eqb (paintTypeOf d) paintLinear) p e
+
+radial-is : (d : List ℕ) (p : RadialPoints) → paintOf d ≡ paint.Radial p → (isRadial d ≡ true) × (radialOf d ≡ p)
+unfolding paintOf
+radial-is d p e = picked-circle (colorOf d) (linearOf d) (radialOf d) (isRadial d) (eqb (paintTypeOf d) paintLinear) p e
 
 pub points-limited : (d : List ℕ) (p : LinearPoints) → AcceptedDraw d → paintOf d ≡ paint.Linear p
     → (atMost 4096 (p .x0) ≡ true) × (atMost 4096 (p .y0) ≡ true) × (atMost 4096 (p .x1) ≡ true) × (atMost 4096 (p .y1) ≡ true)
 points-limited d p a e =
     rw (← (linear-is d p e)) (a .points 0 (omega arith), a .points 1 (omega arith), a .points 2 (omega arith), a .points 3 (omega arith))
 
+module _ (d : List ℕ) (p : RadialPoints) (a : AcceptedDraw d) (e : paintOf d ≡ paint.Radial p) where
+  pub circle-limited : ((atMost 1024 (p .cx) ≡ true) × (atMost 1024 (p .cy) ≡ true))
+      × ((atMost 1024 (p .fx) ≡ true) × (atMost 1024 (p .fy) ≡ true) × (atMost 1024 (p .r) ≡ true))
+  circle-limited =
+      let o = radial-is d p e in
+      let h = a .circle (o .0) in
+      rw (← (o .1)) ((h 0 (omega arith), h 1 (omega arith)), (h 2 (omega arith), h 3 (omega arith), h 4 (omega arith)))
+
+  pub focal-kept : focalAllowed (fixedCircle p) ≡ true
+  focal-kept = let o = radial-is d p e in rw (← (o .1)) (a .focal (o .0))
+
 -- ---- parts of a draw's bytes
-pub stops-length : (d : List ℕ) → length d ≡ 2032 → length (stopsOf d) ≡ 640
-stops-length d e = length-take 640 (drop 132 d) ∙ rw (length-drop 132 d) (omega arith)
+pub stops-hold : (d : List ℕ) → length d ≡ 2032 → stopCount d ≤ stopLimitOf d → 20 * stopCount d ≤ length (stopsOf d)
+stops-hold d e h =
+    let fit = stops-fit d h in
+    rw (part-length d (firstStopAt d) 772 (omega (arith, fit)) (omega arith)) (omega (arith, fit))
 
 pub scissors-length : (d : List ℕ) → length d ≡ 2032 → length (scissorsOf d) ≡ 64
 scissors-length d e = length-take 64 (drop 68 d) ∙ rw (length-drop 68 d) (omega arith)

@@ -19,11 +19,11 @@ use Rattle.path.specs.declared.Edge.{Edge}
 use Rattle.coverage.specs.Winding.{coverage}
 use Rattle.coverage.specs.Scissors.{scissored}
 use Rattle.coverage.proofs.Limits.{coverage-at-most-16, scissored-at-most}
-use Rattle.paint.specs.declared.LinearGradient.{LinearGradient}
-use Rattle.paint.specs.Buffers.{stopsIn, gradientAt}
+use Rattle.paint.specs.declared.AnyGradient.{AnyGradient}
+use Rattle.paint.specs.Circles.{gradientAt}
 use Rattle.engine.specs.declared.Style.{Style}
 use Rattle.engine.specs.declared.Shade.{Shade}
-use Rattle.engine.specs.declared.Shade.the-variants.{Solid, Linear}
+use Rattle.engine.specs.declared.Shade.the-variants.{Solid, Gradient}
 use Rattle.engine.specs.Rows.{coverageWith, stepWith, shadeAt}
 
 tab-same : {A : Type 0} (n : ℕ) (f g : ℕ → A) → ((k : ℕ) → k < n → f k ≡ g k) → tab n f ≡ tab n g
@@ -105,13 +105,13 @@ module _ (mode n x y : ℕ) (b row ramp r : List ℕ) (s : Shade) where
   solid-row p e o = o ∙ rw (e, first-of b n)
 
   -- the paint's pixels come from q
-  pub linear-row : (g : LinearGradient) (q rest : List ℕ) (m : ℕ) → s ≡ Linear g → n ≤ length b → length q ≡ m - n
-      → q ≡ run n (λ i. gradientAt g (stopsIn ramp (g .count)) (x + i) y)
+  pub gradient-row : (g : AnyGradient) (q rest : List ℕ) (m : ℕ) → s ≡ Gradient g → n ≤ length b → length q ≡ m - n
+      → q ≡ run n (λ i. gradientAt g ramp (x + i) y)
       → r ≡ compositeRow mode (take (n - 0) (drop 0 (take n b ++ (q ++ rest)))) (pixelIn (take (m - n) (drop n (take n b ++ (q ++ rest))))) row
       → r ≡ compositeRow mode (take n b) (λ i. shadeAt s ramp (x + i) y) row
   unfolding shadeAt
-  linear-row g q rest m e h l o u =
-      let f : ℕ → Pixel = λ i. gradientAt g (stopsIn ramp (g .count)) (x + i) y in
+  gradient-row g q rest m e h l o u =
+      let f : ℕ → Pixel = λ i. gradientAt g ramp (x + i) y in
       u
       ∙ rw (cover-part b q rest n h, paint-part b q rest n m h l, e)
       (run-same (length (take n b)) _ _

@@ -1,6 +1,7 @@
 -- What the row functions compute of a draw that was taken apart. A reviewer of the paper need not read it.
 use Prim.Native.Nat.{ℕ, _+_, _*_, _≤_, _<_}
 use mathlib.Core.Path.{_≡_}
+use mathlib.Core.Bool.{true}
 use mathlib.Core.List.{List}
 use lib.IntN.{ℤ, pos}
 use lib.ListN.{length, replicate}
@@ -13,17 +14,23 @@ use Rattle.coverage.specs.Scanline.{Outlined}
 use Rattle.coverage.specs.Scissors.{scissored}
 use Rattle.coverage.specs.Winding.{coverage}
 use Rattle.blend.specs.PorterDuff.{composite}
+use Rattle.paint.specs.declared.AnyGradient.{AnyGradient}
+use Rattle.paint.specs.declared.AnyGradient.the-variants.{Linear, Radial}
 use Rattle.paint.specs.declared.LinearGradient.{LinearGradient}
 use Rattle.paint.specs.declared.LinearPoints.{LinearPoints}
+use Rattle.paint.specs.declared.RadialGradient.{RadialGradient}
+use Rattle.paint.specs.declared.RadialPoints.{RadialPoints}
 use Rattle.paint.specs.Gradient.{fixedPoints}
+use Rattle.paint.specs.Radial.{fixedCircle, focalAllowed}
 use Rattle.paint.specs.Ramps.{rampOf}
-use Rattle.paint.specs.Buffers.{LimitedPoints, HeldRamp, Written, stopsIn, gradientAt}
+use Rattle.paint.specs.Buffers.{LimitedPoints, HeldRamp, Written}
+use Rattle.paint.specs.Circles.{LimitedCircle, HeldGradient, gradientAt}
 use Rattle.scene.specs.Fields.{blendOf, nonZeroRule, scissoring, scissorCount, spreadOf, rampPremultiplied, stopsOf, stopCount}
 use Rattle.engine.specs.Picture.{drawEdges, drawPaint}
 use Rattle.engine.specs.declared.Style.{Style}
 use Rattle.engine.specs.declared.Strip.{Strip}
 use Rattle.engine.specs.declared.Shade.{Shade}
-use Rattle.engine.specs.declared.Shade.the-variants.{Solid, Linear}
+use Rattle.engine.specs.declared.Shade.the-variants.{Solid, Gradient}
 
 -- ---- what is computed at a pixel
 -- k
@@ -33,7 +40,7 @@ coverageWith s es scissors x y = scissored (s .scissoring) scissors (s .scissors
 -- the paint, with a ramp in a run of numbers
 unfoldable pub shadeAt : Shade → List ℕ → ℕ → ℕ → Pixel
 shadeAt (Solid p) ramp x y = p
-shadeAt (Linear g) ramp x y = gradientAt g (stopsIn ramp (g .count)) x y
+shadeAt (Gradient g) ramp x y = gradientAt g ramp x y
 
 -- what is stored
 unfoldable pub stepWith : Style → List Edge → List ℕ → List ℕ → ℕ → ℕ → Pixel → Pixel
@@ -47,7 +54,7 @@ Scissors s scissors = (s .scissors ≤ 4) × (64 ≤ length scissors)
 -- of the run that a gradient's ramp lies in
 abbrev pub Shaded : Shade → List ℕ → Type 0
 Shaded (Solid p) ramp = Unit
-Shaded (Linear g) ramp = LimitedPoints (g .points) × HeldRamp ramp (g .count)
+Shaded (Gradient g) ramp = HeldGradient g ramp
 
 -- of the pixels of a row
 abbrev pub OnSurface : Strip → Type 0
@@ -77,19 +84,36 @@ styleOf d n shade = record {
   shade = shade;
 }
 
--- a linear gradient with these points, its ramp written to the run `before`
-pub record Gradients (d : List ℕ) (p : LinearPoints) (g : LinearGradient) (before after : List ℕ) : Type 0 where
+-- the ramp of its stops, written to the run `before`
+pub record MadeRamp (d : List ℕ) (count : ℕ) (before after : List ℕ) : Type 0 where
+  pub written : Written before after count (rampOf (rampPremultiplied d) (stopsOf d) (stopCount d))
+  pub held : HeldRamp after count
+
+-- a linear gradient with these points
+pub record MadeLinear (d : List ℕ) (p : LinearPoints) (g : LinearGradient) (before after : List ℕ) : Type 0 where
   pub points : g .points ≡ fixedPoints p
   pub spread : g .spread ≡ spreadOf d
   pub premultiply : g .premultiply ≡ rampPremultiplied d
-  pub ramp : Written before after (g .count) (rampOf (rampPremultiplied d) (stopsOf d) (stopCount d))
-  pub near : LimitedPoints (g .points)
-  pub held : HeldRamp after (g .count)
+  pub ramp : MadeRamp d (g .count) before after
+  pub limited : LimitedPoints (g .points)
+
+-- a radial gradient with this circle
+pub record MadeRadial (d : List ℕ) (p : RadialPoints) (g : RadialGradient) (before after : List ℕ) : Type 0 where
+  pub circle : g .circle ≡ fixedCircle p
+  pub spread : g .spread ≡ spreadOf d
+  pub premultiply : g .premultiply ≡ rampPremultiplied d
+  pub ramp : MadeRamp d (g .count) before after
+  pub limited : LimitedCircle (g .circle)
+  pub focal : focalAllowed (g .circle) ≡ true
+
+abbrev pub rampCount : AnyGradient → ℕ
+rampCount (Linear g) = g .count
+rampCount (Radial g) = g .count
 
 -- the run after a shade was decoded: a gradient's ramp is written to it
 abbrev pub RampBy : List ℕ → Shade → List ℕ → List ℕ → Type 0
 RampBy d (Solid p) before after = after ≡ before
-RampBy d (Linear g) before after = Written before after (g .count) (rampOf (rampPremultiplied d) (stopsOf d) (stopCount d))
+RampBy d (Gradient g) before after = Written before after (rampCount g) (rampOf (rampPremultiplied d) (stopsOf d) (stopCount d))
 
 -- a shade of the draw's paint
 pub record Shades (d : List ℕ) (s : Shade) (before after : List ℕ) : Type 0 where

@@ -1,18 +1,21 @@
 // A draw's bytes, decoded once for all of its rows.
 use crate::Shade;
 use crate::Style;
+use paint::AnyGradient;
 use paint::LinearGradient;
 use paint::LinearPoints;
 use paint::Paint;
+use paint::RadialGradient;
+use paint::RadialPoints;
 ghost use mathlib.Core.Path.{_≡_};
 ghost use Prim.Native.Nat.{_≤_};
 ghost use lib.ListN.{length};
 ghost use Rattle.paint.specs.Buffers.{rampNumbers};
-ghost use Rattle.paint.specs.declared.Paint.the-variants.{Linear};
+ghost use Rattle.paint.specs.declared.Paint.the-variants.{Linear, Radial};
 ghost use Rattle.scene.specs.Layout.{drawBytes};
 ghost use Rattle.scene.specs.Fields.{paintOf};
 ghost use Rattle.scene.specs.Accepted.{AcceptedDraw};
-ghost use Rattle.engine.specs.Rows.{styleOf, Shades, Gradients};
+ghost use Rattle.engine.specs.Rows.{styleOf, Shades, MadeRamp, MadeLinear, MadeRadial};
 
 // How the draw is filled, with a shade and n edges.
 pub fn style(d: &[u8], n: usize, shade: Shade) -> Style
@@ -38,7 +41,8 @@ pub fn shade(d: &[u8], ramp: &mut [u32]) -> Shade
     let paint = scene::fields::paint(d);
     match paint {
         Paint::Solid(c) => Shade::Solid(paint::row::solid_pixel(c)),
-        Paint::Linear(p) => Shade::Linear(linear(d, p, ramp)),
+        Paint::Linear(p) => Shade::Gradient(AnyGradient::Linear(linear(d, p, ramp))),
+        Paint::Radial(p) => Shade::Gradient(AnyGradient::Radial(radial(d, p, ramp))),
     }
 }
 
@@ -46,19 +50,42 @@ pub fn shade(d: &[u8], ramp: &mut [u32]) -> Shade
 fn linear(d: &[u8], p: LinearPoints, ramp: &mut [u32]) -> LinearGradient
     requires { ⌜ (length (now d) ≡ drawBytes) × AcceptedDraw (now d) × (paintOf (now d) ≡ Linear p) ⌝ }
     requires { ⌜ rampNumbers ≤ length (now ramp) ⌝ }
-    ensures { λ r. ⌜ Gradients (now (d .entry)) p r (now (ramp .entry)) (now (ramp .exit)) ⌝ }
+    ensures { λ r. ⌜ MadeLinear (now (d .entry)) p r (now (ramp .entry)) (now (ramp .exit)) ⌝ }
 {
-    let premultiply = scene::fields::ramp_premultiplied(d);
-    let count = paint::build::build_ramp(
-        scene::fields::stops(d),
-        scene::fields::stop_count(d),
-        premultiply,
-        ramp,
-    );
+    let count = make_ramp(d, ramp);
     LinearGradient {
         points: paint::gradient::fixed_points(p),
         spread: scene::fields::spread(d),
-        premultiply,
+        premultiply: scene::fields::ramp_premultiplied(d),
         count,
     }
+}
+
+// The draw's radial gradient.
+fn radial(d: &[u8], p: RadialPoints, ramp: &mut [u32]) -> RadialGradient
+    requires { ⌜ (length (now d) ≡ drawBytes) × AcceptedDraw (now d) × (paintOf (now d) ≡ Radial p) ⌝ }
+    requires { ⌜ rampNumbers ≤ length (now ramp) ⌝ }
+    ensures { λ r. ⌜ MadeRadial (now (d .entry)) p r (now (ramp .entry)) (now (ramp .exit)) ⌝ }
+{
+    let count = make_ramp(d, ramp);
+    RadialGradient {
+        circle: paint::radial::fixed_circle(p),
+        spread: scene::fields::spread(d),
+        premultiply: scene::fields::ramp_premultiplied(d),
+        count,
+    }
+}
+
+// The ramp of the draw's stops, built in the run. Returns the number of its stops.
+fn make_ramp(d: &[u8], ramp: &mut [u32]) -> usize
+    requires { ⌜ (length (now d) ≡ drawBytes) × AcceptedDraw (now d) ⌝ }
+    requires { ⌜ rampNumbers ≤ length (now ramp) ⌝ }
+    ensures { λ r. ⌜ MadeRamp (now (d .entry)) r (now (ramp .entry)) (now (ramp .exit)) ⌝ }
+{
+    paint::build::build_ramp(
+        scene::fields::stops(d),
+        scene::fields::stop_count(d),
+        scene::fields::ramp_premultiplied(d),
+        ramp,
+    )
 }

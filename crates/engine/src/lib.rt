@@ -13,7 +13,7 @@ pub mod edges;
 pub mod rows;
 
 use color::Pixel;
-use paint::LinearGradient;
+use paint::AnyGradient;
 
 // How a draw is filled: the number of its edges, its fill rule, whether scissoring is on and by how many scissors, its blend mode, its paint.
 pub struct Style {
@@ -28,7 +28,7 @@ pub struct Style {
 // What a draw paints with, ready for its rows: a premultiplied pixel, or a gradient whose ramp lies in a lent run of numbers.
 pub enum Shade {
     Solid(Pixel),
-    Linear(LinearGradient),
+    Gradient(AnyGradient),
 }
 
 // The pixels (x, y) to (x + length - 1, y).

@@ -170,8 +170,8 @@ fn shade_row(row: &mut [u8], ramp: &[u32], buffer: &mut [u8], style: Style, stri
         Shade::Solid(p) => {
             blend::composite_run(style.mode, &buffer[0..n], p, row);
         }
-        Shade::Linear(g) => {
-            paint::row::linear_row(g, ramp, strip.x, strip.y, n, &mut buffer[n..m]);
+        Shade::Gradient(g) => {
+            paint::row::gradient_row(g, ramp, strip.x, strip.y, n, &mut buffer[n..m]);
             blend::composite_row(style.mode, &buffer[0..n], &buffer[n..m], row);
         }
     }

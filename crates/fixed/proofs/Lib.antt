@@ -11,6 +11,7 @@
 --     Round      floor division
 --     Divide     the numbers that floor division divides
 --     Twos       two's complement
+--     Roots      the square root is what it is said to be, and no other number is; a step of Newton's ends at or above it
 --
 -- Floats:
 --     Nearest    a fraction rounded to the nearest whole number
@@ -29,6 +30,7 @@ pub mod Upto
 pub mod Round
 pub mod Divide
 pub mod Twos
+pub mod Roots
 pub mod Nearest
 pub mod Patterns
 pub mod Nans

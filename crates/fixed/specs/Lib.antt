@@ -3,3 +3,4 @@ pub mod Floor
 pub mod Little
 pub mod Floats
 pub mod Patterns
+pub mod Roots

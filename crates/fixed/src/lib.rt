@@ -1,8 +1,9 @@
-// Whole numbers: floor division, little-endian reads, and the exact whole number that a float becomes.
+// Whole numbers: floor division, square roots, little-endian reads, and the exact whole number that a float becomes.
 pub mod convert;
 pub mod floats;
 pub mod floor;
 pub mod little;
+pub mod root;
 
 pub use crate::convert::at_most;
 pub use crate::convert::stop_offset;
@@ -14,6 +15,8 @@ pub use crate::little::i16_at;
 pub use crate::little::i32_at;
 pub use crate::little::u16_at;
 pub use crate::little::u32_at;
+pub use crate::root::isqrt;
+pub use crate::root::isqrt_near;
 
 // What four bytes are as an f32.
 pub enum Real {

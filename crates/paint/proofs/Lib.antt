@@ -7,6 +7,11 @@
 --     Quotients   floor division from one numerator to the next
 --     Walk        t from pixel to pixel of a row
 --
+-- Radial gradients:
+--     Lagrange    Q is A² + D (dx² + dy²)
+--     Focal       so Q and t are not negative where the focal point is inside the circle; how large the numbers of t are
+--     Differences A and Q from pixel to pixel of a row
+--
 -- Ramps:
 --     Mix         a channel between two stops
 --     Lookup      the search for the stops around t
@@ -21,6 +26,9 @@ pub mod Slope
 pub mod Folded
 pub mod Quotients
 pub mod Walk
+pub mod Lagrange
+pub mod Focal
+pub mod Differences
 pub mod Mix
 pub mod Reals
 pub mod Lookup

@@ -15,7 +15,7 @@ use Rattle.color.specs.declared.Pixel.{Pixel}
 use Rattle.raster.specs.Surface.{bytesOf, run}
 use Rattle.paint.specs.Gradient.{rampUnit, centre, squaredLength, projection, linearT}
 use Rattle.paint.specs.Paints.{gradientColor}
-use Rattle.paint.specs.Buffers.{LimitedPoints, Moderate, quotientOf, addQuotients, quotientAt, rowStep, gradientAt}
+use Rattle.paint.specs.Buffers.{LimitedPoints, Moderate, quotientOf, addQuotients, quotientAt, rowStep, linearAt}
 use Rattle.paint.specs.declared.FixedPoints.{FixedPoints}
 use Rattle.paint.specs.declared.LinearGradient.{LinearGradient}
 use Rattle.paint.specs.declared.Stop.{Stop}
@@ -89,8 +89,8 @@ module _ (p : FixedPoints) (apart : natAbs (squaredLength p) ≡ 0 → ⊥) wher
         (within-mul y-apart (within-sub (centred y k) (small (p .y0) (near .y0))))))
 
 -- ---- points with one x: a row has one colour
-pub flat-run : (g : LinearGradient) (ramp : List Stop) (x y n : ℕ) (c : Pixel) → g .points .x0 ≡ g .points .x1 → c ≡ gradientAt g ramp x y
-    → run n (λ i. c) ≡ run n (λ i. gradientAt g ramp (x + i) y)
+pub flat-run : (g : LinearGradient) (ramp : List Stop) (x y n : ℕ) (c : Pixel) → g .points .x0 ≡ g .points .x1 → c ≡ linearAt g ramp x y
+    → run n (λ i. c) ≡ run n (λ i. linearAt g ramp (x + i) y)
 flat-run g ramp x y n c e h =
-    upto-same n (λ i. bytesOf c) (λ i. bytesOf (gradientAt g ramp (x + i) y))
+    upto-same n (λ i. bytesOf c) (λ i. bytesOf (linearAt g ramp (x + i) y))
     (λ k l. ap bytesOf (h ∙ ap (gradientColor (g .spread) (g .premultiply) ramp) (one-t (g .points) e x (x + k) y)))

@@ -108,6 +108,6 @@ pub record Moderate (q : Quotient) : Type 0 where
   pub whole : natAbs (q .whole) ≤ 1152921504606846976
   pub rest : natAbs (q .rest) ≤ 1152921504606846976
 
--- ---- a gradient as it is drawn
-abbrev pub gradientAt : LinearGradient → List Stop → ℕ → ℕ → Pixel
-gradientAt g ramp x y = gradientColor (g .spread) (g .premultiply) ramp (linearT (g .points) x y)
+-- ---- a linear gradient as it is drawn
+abbrev pub linearAt : LinearGradient → List Stop → ℕ → ℕ → Pixel
+linearAt g ramp x y = gradientColor (g .spread) (g .premultiply) ramp (linearT (g .points) x y)

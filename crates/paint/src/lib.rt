@@ -1,8 +1,11 @@
-// Paint: the colour of a pixel, from a plain colour or a linear gradient.
+// Paint: the colour of a pixel, from a plain colour, a linear gradient or a radial one.
 pub mod build;
 pub mod gradient;
+pub mod radial;
+pub mod radial_row;
 pub mod ramp;
 pub mod row;
+pub mod shade;
 pub mod stops;
 
 use color::Color;
@@ -24,10 +27,29 @@ pub struct FixedPoints {
     pub y1: i64,
 }
 
+// The radial gradient's circle in pixels, before conversion: its centre, its focal point and its radius.
+pub struct RadialPoints {
+    pub cx: f32,
+    pub cy: f32,
+    pub fx: f32,
+    pub fy: f32,
+    pub r: f32,
+}
+
+// The same in 1/16 pixel.
+pub struct Circle {
+    pub cx: i64,
+    pub cy: i64,
+    pub fx: i64,
+    pub fy: i64,
+    pub r: i64,
+}
+
 // What a draw paints with.
 pub enum Paint {
     Solid(Color),
     Linear(LinearPoints),
+    Radial(RadialPoints),
 }
 
 // A stop of a ramp: its offset in 1/65,536, and its colour.
@@ -42,6 +64,29 @@ pub struct LinearGradient {
     pub spread: u32,
     pub premultiply: bool,
     pub count: usize,
+}
+
+// A radial gradient as drawing needs it.
+pub struct RadialGradient {
+    pub circle: Circle,
+    pub spread: u32,
+    pub premultiply: bool,
+    pub count: usize,
+}
+
+// A gradient of either kind.
+pub enum AnyGradient {
+    Linear(LinearGradient),
+    Radial(RadialGradient),
+}
+
+// A and Q of a radial gradient at a pixel, and how they go on along the row: A grows by da, Q by dq, and dq by ddq.
+pub struct Place {
+    pub a: i64,
+    pub q: i64,
+    pub dq: i64,
+    pub da: i64,
+    pub ddq: i64,
 }
 
 // A floor division: n / d is whole and rest / d, with rest from 0 to d - 1.

@@ -1,7 +1,9 @@
 // The paint of a pixel and of a part of a row, as premultiplied bytes. A gradient's ramp lies in a lent run, as module ramp says.
+use crate::AnyGradient;
 use crate::LinearGradient;
 use crate::gradient;
-use crate::ramp::ramp_color;
+use crate::radial_row::radial_row;
+use crate::shade::gradient_color;
 use color::Color;
 use color::Pixel;
 ghost use mathlib.Core.Path.{_≡_};
@@ -12,7 +14,8 @@ ghost use Rattle.color.specs.Channels.{bytesOfColor, premultiplied};
 ghost use Rattle.raster.specs.Surface.{run};
 ghost use Rattle.paint.specs.Gradient.{squaredLength};
 ghost use Rattle.paint.specs.Paints.{gradientColor};
-ghost use Rattle.paint.specs.Buffers.{LimitedPoints, HeldRamp, stopsIn, gradientAt};
+ghost use Rattle.paint.specs.Buffers.{LimitedPoints, HeldRamp, stopsIn, linearAt};
+ghost use Rattle.paint.specs.Circles.{HeldGradient, gradientAt};
 
 // The pixel of a plain colour.
 pub fn solid_pixel(c: Color) -> Pixel
@@ -21,11 +24,23 @@ pub fn solid_pixel(c: Color) -> Pixel
     c.to_bytes().premultiplied()
 }
 
-// The pixels (x, y) to (x + n - 1, y).
-pub fn linear_row(g: LinearGradient, ramp: &[u32], x: usize, y: usize, n: usize, row: &mut [u8])
+// The pixels (x, y) to (x + n - 1, y) of a gradient.
+pub fn gradient_row(g: AnyGradient, ramp: &[u32], x: usize, y: usize, n: usize, row: &mut [u8])
+    requires { ⌜ HeldGradient g (now ramp) ⌝ }
+    requires { ⌜ (x + n ≤ 1024) × (y ≤ 1024) × (length (now row) ≡ n * 4) ⌝ }
+    ensures { λ _. ⌜ now (row .exit) ≡ run n (λ i. gradientAt g (now (ramp .entry)) (x + i) y) ⌝ }
+{
+    match g {
+        AnyGradient::Linear(l) => linear_row(l, ramp, x, y, n, row),
+        AnyGradient::Radial(r) => radial_row(r, ramp, x, y, n, row),
+    }
+}
+
+// The same of a linear gradient.
+fn linear_row(g: LinearGradient, ramp: &[u32], x: usize, y: usize, n: usize, row: &mut [u8])
     requires { ⌜ LimitedPoints (g .points) × HeldRamp (now ramp) (g .count) ⌝ }
     requires { ⌜ (x + n ≤ 1024) × (y ≤ 1024) × (length (now row) ≡ n * 4) ⌝ }
-    ensures { λ _. ⌜ now (row .exit) ≡ run n (λ i. gradientAt g (stopsIn (now (ramp .entry)) (g .count)) (x + i) y) ⌝ }
+    ensures { λ _. ⌜ now (row .exit) ≡ run n (λ i. linearAt g (stopsIn (now (ramp .entry)) (g .count)) (x + i) y) ⌝ }
 {
     let p = g.points;
     if p.x0 == p.x1 {
@@ -37,10 +52,10 @@ pub fn linear_row(g: LinearGradient, ramp: &[u32], x: usize, y: usize, n: usize,
 }
 
 // The pixel (x, y).
-pub fn linear_pixel(g: LinearGradient, ramp: &[u32], x: usize, y: usize) -> Pixel
+fn linear_pixel(g: LinearGradient, ramp: &[u32], x: usize, y: usize) -> Pixel
     requires { ⌜ LimitedPoints (g .points) × HeldRamp (now ramp) (g .count) ⌝ }
     requires { ⌜ (x ≤ 1024) × (y ≤ 1024) ⌝ }
-    ensures { λ r. ⌜ r ≡ gradientAt g (stopsIn (now (ramp .entry)) (g .count)) x y ⌝ }
+    ensures { λ r. ⌜ r ≡ linearAt g (stopsIn (now (ramp .entry)) (g .count)) x y ⌝ }
 {
     let p = g.points;
     shade(g, ramp, gradient::linear_t(p, x, y))
@@ -51,7 +66,7 @@ fn sloped_row(g: LinearGradient, ramp: &[u32], x: usize, y: usize, n: usize, row
     requires { ⌜ LimitedPoints (g .points) × HeldRamp (now ramp) (g .count) ⌝ }
     requires { ⌜ (x + n ≤ 1024) × (y ≤ 1024) × (length (now row) ≡ n * 4) ⌝ }
     requires { ⌜ (natAbs (squaredLength (g .points)) ≡ 0 → ⊥) ⌝ }
-    ensures { λ _. ⌜ now (row .exit) ≡ run n (λ i. gradientAt g (stopsIn (now (ramp .entry)) (g .count)) (x + i) y) ⌝ }
+    ensures { λ _. ⌜ now (row .exit) ≡ run n (λ i. linearAt g (stopsIn (now (ramp .entry)) (g .count)) (x + i) y) ⌝ }
 {
     let p = g.points;
     let d = gradient::squared_length(p);
@@ -71,6 +86,5 @@ fn shade(g: LinearGradient, ramp: &[u32], t: i64) -> Pixel
     requires { ⌜ HeldRamp (now ramp) (g .count) ⌝ }
     ensures { λ r. ⌜ r ≡ gradientColor (g .spread) (g .premultiply) (stopsIn (now (ramp .entry)) (g .count)) t ⌝ }
 {
-    let c = ramp_color(ramp, g.count, gradient::spread(g.spread, t));
-    if g.premultiply { c } else { c.premultiplied() }
+    gradient_color(g.spread, g.premultiply, ramp, g.count, t)
 }

@@ -15,7 +15,7 @@ use Rattle.rect.specs.declared.Rect.{Rect}
 use Rattle.rect.specs.Rects.{whole}
 use Rattle.blend.specs.PorterDuff.{isMode}
 use Rattle.paint.specs.Gradient.{spreadPad, spreadReflect}
-use Rattle.paint.specs.Paints.{paintColor, paintLinear}
+use Rattle.paint.specs.Radial.{fixedCircle, focalAllowed}
 use Rattle.path.specs.declared.FixedMatrix.{FixedMatrix}
 use Rattle.path.specs.declared.Walk.{Walk}
 use Rattle.path.specs.Matrices.{linearLimit, translationLimit, fixedMatrix, isFlat}
@@ -26,12 +26,14 @@ use Rattle.scene.specs.Layout.{blockBytes, payloadBytes, drawBlocks, widthAt, h
 use Rattle.scene.specs.Layout.{flagsAt, blendAt, paintTypeAt, spreadAt, segmentCountAt, scissorCountAt, stopCountAt, paddingAt}
 use Rattle.scene.specs.Layout.{matrixAt, translationAt, colorAt, linearPointsAt}
 use Rattle.scene.specs.Layout.{scissorsAt, stopsAt, segmentsAt, coordinatesAt, drawBytes}
-use Rattle.scene.specs.Layout.{flagsLimit, segmentLimit, scissorLimit, stopLimit, scissorBytes, stopBytes, stopFloats}
+use Rattle.scene.specs.Layout.{flagsLimit, segmentLimit, scissorLimit, scissorBytes, stopBytes, stopFloats, radialAt, radialFloats}
 use Rattle.scene.specs.Blocks.{blockRight, blockOf, drawOf, fileOffset}
 use Rattle.scene.specs.Header.{widthOf, heightOf, countOf}
 use Rattle.scene.specs.Fields.{flagsOf, blendOf, paintTypeOf, spreadOf, segmentCount, scissorCount, stopCount, matrixOf, segmentsOf, coordinatesOf}
+use Rattle.scene.specs.Fields.{isRadial, radialOf, firstStopAt}
 use Rattle.scene.specs.Faults.{fine, firstOf, must, unused, limited, numbers, accepted, fault, demand}
 use Rattle.scene.specs.Rules.{linearPointLimit, countRules, headRules, floatRules, listRules, flatRule, pathRules, restRules, drawRules, headerRules}
+use Rattle.scene.specs.Rules.{radialLimit, stopLimitOf, isPaint, focalRule, circleRules, stopRules}
 use Rattle.scene.specs.Rules.{inHeader, inDraw, checkFaultsFrom, checkFaults, drawFaultFrom, drawFault, sceneFaultFrom, sceneFault}
 use Rattle.damage.specs.Damage.{damage}
 use Rattle.render.specs.declared.Refusal.{Refusal}
@@ -81,7 +83,7 @@ module _ (P : ℕ → Type 0) (none : P acceptedCode) (illegal : P illegalArgume
     counts-coded =
         then (rule (leb (segmentCount d) segmentLimit) segmentCountAt)
         (then (rule (leb (scissorCount d) scissorLimit) scissorCountAt)
-        (then (rule (leb (stopCount d) stopLimit) stopCountAt)
+        (then (rule (leb (stopCount d) (stopLimitOf d)) stopCountAt)
         (rule (eqb (getD d paddingAt 0) 0) paddingAt)))
 
     head-coded : Field (headRules d)
@@ -89,7 +91,7 @@ module _ (P : ℕ → Type 0) (none : P acceptedCode) (illegal : P illegalArgume
     head-coded =
         then (rule (ltb (flagsOf d) flagsLimit) flagsAt)
         (then (rule (isMode (blendOf d)) blendAt)
-        (then (rule (eqb (paintTypeOf d) paintColor || eqb (paintTypeOf d) paintLinear) paintTypeAt)
+        (then (rule (isPaint (paintTypeOf d)) paintTypeAt)
         (then (rule (leb spreadPad (spreadOf d) && leb (spreadOf d) spreadReflect) spreadAt)
         counts-coded)))
 
@@ -101,12 +103,23 @@ module _ (P : ℕ → Type 0) (none : P acceptedCode) (illegal : P illegalArgume
         (then (numbers-coded d colorAt 4)
         (limited-coded d linearPointLimit linearPointsAt 4)))
 
+    focal-coded : Field (focalRule d)
+    unfolding focalRule
+    focal-coded = rule (focalAllowed (fixedCircle (radialOf d))) radialAt
+
+    circle-coded : Field (circleRules d)
+    unfolding circleRules
+    circle-coded =
+        let both : Field _ = then (limited-coded d radialLimit radialAt radialFloats) focal-coded in
+        choice P (λ f. f .code) (isRadial d) _ fine (both .holds) none
+
+    stops-coded : Field (stopRules d)
+    unfolding stopRules
+    stops-coded = then (numbers-coded d (firstStopAt d) (stopFloats * stopCount d)) (unused-coded d (firstStopAt d + stopBytes * stopCount d) segmentsAt)
+
     lists-coded : Field (listRules d)
     unfolding listRules
-    lists-coded =
-        then (unused-coded d (scissorsAt + scissorBytes * scissorCount d) stopsAt)
-        (then (numbers-coded d stopsAt (stopFloats * stopCount d))
-        (unused-coded d (stopsAt + stopBytes * stopCount d) segmentsAt))
+    lists-coded = then (unused-coded d (scissorsAt + scissorBytes * scissorCount d) stopsAt) (then circle-coded stops-coded)
 
     flat-coded : Field (flatRule d)
     unfolding flatRule

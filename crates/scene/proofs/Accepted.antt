@@ -1,7 +1,7 @@
 -- What follows from code 0: no rule was broken.
 use mathlib.Core.Path.{_≡_, refl}
 use mathlib.Core.List.{List}
-use mathlib.Core.Bool.{Bool, true, false, not, _&&_}
+use mathlib.Core.Bool.{Bool, true, false, cond, not, _&&_}
 use Prim.Native.Nat.{ℕ, _+_, _*_, _%_, _≤_, _<_}
 use native.Mathlib.Omega.{arith}
 use lib.ListN.{length}
@@ -14,15 +14,19 @@ use Rattle.codes.proofs.First.{sooner-none, soonest-none}
 use Rattle.fixed.specs.Floats.{f32At, atMost}
 use Rattle.rect.proofs.Laws.{both}
 use Rattle.blend.specs.PorterDuff.{isMode}
+use Rattle.paint.specs.Radial.{fixedCircle, focalAllowed}
 use Rattle.path.specs.Matrices.{linearLimit, translationLimit, matrixInLimits, fixedMatrix}
 use Rattle.path.specs.Segments.{faultTo}
-use Rattle.scene.specs.Layout.{blockBytes, payloadBytes, drawLimit, noDraw, flagsAt, flagsLimit, segmentLimit, scissorLimit, stopLimit}
+use Rattle.scene.specs.Layout.{blockBytes, payloadBytes, drawLimit, noDraw, flagsAt, flagsLimit, segmentLimit, scissorLimit}
 use Rattle.scene.specs.Layout.{matrixAt, translationAt, colorAt, linearPointsAt, scissorsAt, scissorBytes, stopsAt, stopBytes, stopFloats, segmentsAt}
+use Rattle.scene.specs.Layout.{radialAt, radialFloats}
 use Rattle.scene.specs.Blocks.{blockNumber, blockRightFrom, blockOf, drawOf, fileOffset}
 use Rattle.scene.specs.Header.{widthOf, heightOf, countOf}
 use Rattle.scene.specs.Fields.{flagsOf, blendOf, paintTypeOf, spreadOf, segmentCount, scissorCount, stopCount, matrixOf, segmentsOf, coordinatesOf}
+use Rattle.scene.specs.Fields.{isRadial, radialOf, firstStopAt}
 use Rattle.scene.specs.Faults.{fine, must, orElse, firstOf, unused, limited, numbers, accepted, fault, demand, orFault, firstFault}
-use Rattle.scene.specs.Rules.{linearPointLimit, isPaint, isSpread, headRules, countRules, floatRules, listRules, flatRule, pathRules, restRules}
+use Rattle.scene.specs.Rules.{linearPointLimit, isPaint, isSpread, headRules, stopLimitOf, countRules, floatRules, flatRule, pathRules, restRules}
+use Rattle.scene.specs.Rules.{radialLimit, focalRule, circleRules, stopRules, listRules}
 use Rattle.scene.specs.Rules.{drawRules, isSide, headerRules, located, inHeader, inDraw}
 use Rattle.scene.specs.Rules.{checkFaults, drawFaultFrom, drawFault, sceneFaultFrom, sceneFault}
 use Rattle.scene.specs.Accepted.{AcceptedDraw, AcceptedScene}
@@ -43,7 +47,7 @@ obeyed t p g h = let a = two (must t p) g h in (held t p (a .0), a .1)
 each : (t : ℕ → Bool) (p : ℕ → ℕ) (n : ℕ) → firstOf n (λ i. must (t i) (p i)) .code ≡ 0 → (i : ℕ) → i < n → t i ≡ true
 each t p n h i l = held (t i) (p i) (soonest-none (λ f. f .code) fine (λ k. must (t k) (p k)) n h i l)
 
-limits : (d : List ℕ) (b at n : ℕ) → limited d b at n .code ≡ 0 → (i : ℕ) → i < n → atMost b (f32At d (at + 4 * i)) ≡ true
+pub limits : (d : List ℕ) (b at n : ℕ) → limited d b at n .code ≡ 0 → (i : ℕ) → i < n → atMost b (f32At d (at + 4 * i)) ≡ true
 limits d b at n = each (λ i. atMost b (f32At d (at + 4 * i))) (λ i. at + 4 * i) n
 
 no-nans : (d : List ℕ) (at n : ℕ) → numbers d at n .code ≡ 0 → (i : ℕ) → i < n → isNan (f32At d (at + 4 * i)) ≡ false
@@ -53,9 +57,26 @@ no-nans d at n h i l = not-true _ (each (λ i. not (isNan (f32At d (at + 4 * i))
 pub record Counted (d : List ℕ) : Type 0 where
   pub segments : segmentCount d ≤ segmentLimit
   pub scissors : scissorCount d ≤ scissorLimit
-  pub stops : stopCount d ≤ stopLimit
+  pub stops : stopCount d ≤ stopLimitOf d
 
 module _ (d : List ℕ) where
+  -- the stops end before the segments, and there are never more than 32
+  pub stops-fit : stopCount d ≤ stopLimitOf d → firstStopAt d + stopBytes * stopCount d ≤ segmentsAt
+  unfolding stopLimitOf firstStopAt
+  stops-fit = by (isRadial d)
+    where
+      by : (t : Bool) → stopCount d ≤ cond t 31 32 → cond t 152 132 + 20 * stopCount d ≤ 772
+      by true h = omega arith
+      by false h = omega arith
+
+  pub few-stops : stopCount d ≤ stopLimitOf d → stopCount d ≤ 32
+  unfolding stopLimitOf
+  few-stops = by (isRadial d)
+    where
+      by : (t : Bool) → stopCount d ≤ cond t 31 32 → stopCount d ≤ 32
+      by true h = omega arith
+      by false h = omega arith
+
   counted : countRules d .code ≡ 0 → Counted d
   unfolding countRules
   counted h =
@@ -108,14 +129,33 @@ module _ (d : List ℕ) where
   pub matrix-within : floatRules d .code ≡ 0 → matrixInLimits (matrixOf d) ≡ true
   matrix-within h = measured h .matrix
 
-  stops-numbers : listRules d .code ≡ 0 → (i : ℕ) → i < stopFloats * stopCount d → isNan (f32At d (stopsAt + 4 * i)) ≡ false
+  record Listed : Type 0 where
+    pub circle : isRadial d ≡ true → (i : ℕ) → i < radialFloats → atMost radialLimit (f32At d (radialAt + 4 * i)) ≡ true
+    pub focal : isRadial d ≡ true → focalAllowed (fixedCircle (radialOf d)) ≡ true
+    pub stops : (i : ℕ) → i < stopFloats * stopCount d → isNan (f32At d (firstStopAt d + 4 * i)) ≡ false
+
+  circle-kept : circleRules d .code ≡ 0 → isRadial d ≡ true → (limited d radialLimit radialAt radialFloats .code ≡ 0) × (focalRule d .code ≡ 0)
+  unfolding circleRules
+  circle-kept h e = two (limited d radialLimit radialAt radialFloats) (focalRule d) (rw e at h)
+
+  focal-kept : focalRule d .code ≡ 0 → focalAllowed (fixedCircle (radialOf d)) ≡ true
+  unfolding focalRule
+  focal-kept h = held (focalAllowed (fixedCircle (radialOf d))) radialAt h
+
+  stops-kept : stopRules d .code ≡ 0 → numbers d (firstStopAt d) (stopFloats * stopCount d) .code ≡ 0
+  unfolding stopRules
+  stops-kept h = two (numbers d (firstStopAt d) (stopFloats * stopCount d)) (unused d (firstStopAt d + stopBytes * stopCount d) segmentsAt) h .0
+
+  listed : listRules d .code ≡ 0 → Listed
   unfolding listRules
-  stops-numbers h =
-      let scissors : FieldFault = unused d (scissorsAt + scissorBytes * scissorCount d) stopsAt in
-      let stops : FieldFault = numbers d stopsAt (stopFloats * stopCount d) in
-      let past : FieldFault = unused d (stopsAt + stopBytes * stopCount d) segmentsAt in
-      let p = two scissors (orElse stops past) h in
-      no-nans d stopsAt (stopFloats * stopCount d) (two stops past (p .1) .0)
+  listed h =
+      let p = two (unused d (scissorsAt + scissorBytes * scissorCount d) stopsAt) (orElse (circleRules d) (stopRules d)) h in
+      let q = two (circleRules d) (stopRules d) (p .1) in
+      record {
+        circle = λ e. limits d radialLimit radialAt radialFloats (circle-kept (q .0) e .0);
+        focal = λ e. focal-kept (circle-kept (q .0) e .1);
+        stops = no-nans d (firstStopAt d) (stopFloats * stopCount d) (stops-kept (q .1));
+      }
 
   path-code : pathRules d .code ≡ 0 → faultTo (fixedMatrix (matrixOf d)) (segmentsOf d) (coordinatesOf d) (segmentCount d) .code ≡ 0
   unfolding pathRules
@@ -134,6 +174,7 @@ module _ (d : List ℕ) where
       let s = two (pathRules d) (restRules d) (t .1) in
       let head = headed (p .0) in
       let floats = measured (q .0) in
+      let lists = listed (r .0) in
       record {
         mode = head .mode;
         paintType = head .paintType;
@@ -144,7 +185,9 @@ module _ (d : List ℕ) where
         matrix = floats .matrix;
         color = floats .color;
         points = floats .points;
-        stopFloats = stops-numbers (r .0);
+        circle = lists .circle;
+        focal = lists .focal;
+        stopFloats = lists .stops;
         path = path-code (s .0);
       }
 

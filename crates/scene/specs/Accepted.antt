@@ -8,13 +8,15 @@ use lib.ListN.{length}
 use lib.Ieee.{isNan}
 use Rattle.fixed.specs.Floats.{f32At, atMost}
 use Rattle.blend.specs.PorterDuff.{isMode}
+use Rattle.paint.specs.Radial.{fixedCircle, focalAllowed}
 use Rattle.path.specs.Matrices.{matrixInLimits, fixedMatrix}
 use Rattle.path.specs.Segments.{faultTo}
-use Rattle.scene.specs.Layout.{blockBytes, sideLimit, drawLimit, segmentLimit, scissorLimit, stopLimit, colorAt, linearPointsAt, stopsAt, stopFloats}
+use Rattle.scene.specs.Layout.{blockBytes, sideLimit, drawLimit, segmentLimit, scissorLimit, colorAt, linearPointsAt, radialAt, radialFloats, stopFloats}
 use Rattle.scene.specs.Blocks.{blockOf, drawOf}
 use Rattle.scene.specs.Header.{widthOf, heightOf, countOf}
 use Rattle.scene.specs.Fields.{blendOf, paintTypeOf, spreadOf, segmentCount, scissorCount, stopCount, matrixOf, segmentsOf, coordinatesOf}
-use Rattle.scene.specs.Rules.{linearPointLimit, isPaint, isSpread, drawRules}
+use Rattle.scene.specs.Fields.{isRadial, radialOf, firstStopAt}
+use Rattle.scene.specs.Rules.{linearPointLimit, radialLimit, stopLimitOf, isPaint, isSpread, drawRules}
 
 pub record AcceptedDraw (d : List ℕ) : Type 0 where
   pub mode : isMode (blendOf d) ≡ true
@@ -22,11 +24,13 @@ pub record AcceptedDraw (d : List ℕ) : Type 0 where
   pub spread : isSpread (spreadOf d) ≡ true
   pub segments : segmentCount d ≤ segmentLimit
   pub scissors : scissorCount d ≤ scissorLimit
-  pub stops : stopCount d ≤ stopLimit
+  pub stops : stopCount d ≤ stopLimitOf d
   pub matrix : matrixInLimits (matrixOf d) ≡ true
   pub color : (i : ℕ) → i < 4 → isNan (f32At d (colorAt + 4 * i)) ≡ false
   pub points : (i : ℕ) → i < 4 → atMost linearPointLimit (f32At d (linearPointsAt + 4 * i)) ≡ true
-  pub stopFloats : (i : ℕ) → i < stopFloats * stopCount d → isNan (f32At d (stopsAt + 4 * i)) ≡ false
+  pub circle : isRadial d ≡ true → (i : ℕ) → i < radialFloats → atMost radialLimit (f32At d (radialAt + 4 * i)) ≡ true
+  pub focal : isRadial d ≡ true → focalAllowed (fixedCircle (radialOf d)) ≡ true
+  pub stopFloats : (i : ℕ) → i < stopFloats * stopCount d → isNan (f32At d (firstStopAt d + 4 * i)) ≡ false
   pub path : faultTo (fixedMatrix (matrixOf d)) (segmentsOf d) (coordinatesOf d) (segmentCount d) .code ≡ 0
 
 pub record AcceptedScene (s : List ℕ) : Type 0 where

@@ -1,7 +1,7 @@
 -- A draw's fields, of its 2,032 bytes d.
 use Prim.Native.Nat.{ℕ, _+_, _/_, _%_, _-_, _^_}
 use mathlib.Core.List.{List}
-use mathlib.Core.Bool.{Bool, true, false}
+use mathlib.Core.Bool.{Bool, true, false, cond}
 use lib.ListN.{getD, take, drop}
 use lib.Dec.{eqb}
 use Rattle.fixed.specs.Little.{u16At}
@@ -9,11 +9,12 @@ use Rattle.fixed.specs.Floats.{f32At}
 use Rattle.path.specs.declared.Matrix.{Matrix}
 use Rattle.color.specs.declared.Color.{Color}
 use Rattle.paint.specs.declared.LinearPoints.{LinearPoints}
+use Rattle.paint.specs.declared.RadialPoints.{RadialPoints}
 use Rattle.paint.specs.declared.Paint.{Paint}
-use Rattle.paint.specs.declared.Paint.the-variants.{Solid, Linear}
-use Rattle.paint.specs.Paints.{paintLinear}
+use Rattle.paint.specs.declared.Paint.the-variants.{Solid, Linear, Radial}
+use Rattle.paint.specs.Paints.{paintLinear, paintRadial}
 use Rattle.scene.specs.Layout.{flagsAt, blendAt, paintTypeAt, spreadAt, segmentCountAt, scissorCountAt, stopCountAt, matrixAt}
-use Rattle.scene.specs.Layout.{translationAt, colorAt, linearPointsAt, scissorsAt, stopsAt, segmentsAt, coordinatesAt, drawBytes}
+use Rattle.scene.specs.Layout.{translationAt, colorAt, linearPointsAt, scissorsAt, stopsAt, radialAt, segmentsAt, coordinatesAt, drawBytes, stopBytes}
 
 abbrev pub flagsOf : List ℕ → ℕ
 flagsOf d = u16At d flagsAt
@@ -65,12 +66,24 @@ colorOf d = record { r = f32At d colorAt; g = f32At d (colorAt + 4); b = f32At d
 abbrev pub linearOf : List ℕ → LinearPoints
 linearOf d = record { x0 = f32At d linearPointsAt; y0 = f32At d (linearPointsAt + 4); x1 = f32At d (linearPointsAt + 8); y1 = f32At d (linearPointsAt + 12) }
 
+abbrev pub isRadial : List ℕ → Bool
+isRadial d = eqb (paintTypeOf d) paintRadial
+
+abbrev pub radialOf : List ℕ → RadialPoints
+radialOf d = record {
+  cx = f32At d radialAt;
+  cy = f32At d (radialAt + 4);
+  fx = f32At d (radialAt + 8);
+  fy = f32At d (radialAt + 12);
+  r = f32At d (radialAt + 16);
+}
+
 abbrev pub pickPaint : Bool → Paint → Paint → Paint
 pickPaint true a b = a
 pickPaint false a b = b
 
 unfoldable pub paintOf : List ℕ → Paint
-paintOf d = pickPaint (eqb (paintTypeOf d) paintLinear) (Linear (linearOf d)) (Solid (colorOf d))
+paintOf d = pickPaint (isRadial d) (Radial (radialOf d)) (pickPaint (eqb (paintTypeOf d) paintLinear) (Linear (linearOf d)) (Solid (colorOf d)))
 
 -- the bytes of the scissors, the stops, the segments and the coordinates
 abbrev pub part : ℕ → ℕ → List ℕ → List ℕ
@@ -79,8 +92,12 @@ part from to d = take (to - from) (drop from d)
 abbrev pub scissorsOf : List ℕ → List ℕ
 scissorsOf d = part scissorsAt stopsAt d
 
+-- a radial draw's stops are counted from the second place
+unfoldable pub firstStopAt : List ℕ → ℕ
+firstStopAt d = cond (isRadial d) (stopsAt + stopBytes) stopsAt
+
 abbrev pub stopsOf : List ℕ → List ℕ
-stopsOf d = part stopsAt segmentsAt d
+stopsOf d = part (firstStopAt d) segmentsAt d
 
 abbrev pub segmentsOf : List ℕ → List ℕ
 segmentsOf d = part segmentsAt coordinatesAt d

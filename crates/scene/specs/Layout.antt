@@ -93,6 +93,10 @@ scissorsAt = 68
 abbrev pub stopsAt : ℕ
 stopsAt = 132
 
+-- a radial draw has its circle's five floats in place of the first stop
+abbrev pub radialAt : ℕ
+radialAt = stopsAt
+
 abbrev pub segmentsAt : ℕ
 segmentsAt = 772
 
@@ -112,6 +116,9 @@ scissorLimit = 4
 abbrev pub stopLimit : ℕ
 stopLimit = 32
 
+abbrev pub radialStopLimit : ℕ
+radialStopLimit = 31
+
 abbrev pub scissorBytes : ℕ
 scissorBytes = 16
 
@@ -120,3 +127,6 @@ stopBytes = 20
 
 abbrev pub stopFloats : ℕ
 stopFloats = 5
+
+abbrev pub radialFloats : ℕ
+radialFloats = 5

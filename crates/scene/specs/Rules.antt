@@ -8,34 +8,47 @@ use Rattle.codes.specs.Codes.{acceptedCode, badLength, badChecksum}
 use Rattle.fixed.specs.Little.{u16At}
 use Rattle.blend.specs.PorterDuff.{isMode}
 use Rattle.paint.specs.Gradient.{spreadPad, spreadReflect}
-use Rattle.paint.specs.Paints.{paintColor, paintLinear}
+use Rattle.paint.specs.Paints.{paintColor, paintLinear, paintRadial}
+use Rattle.paint.specs.Radial.{fixedCircle, focalAllowed}
 use Rattle.path.specs.Matrices.{linearLimit, translationLimit, fixedMatrix, isFlat}
 use Rattle.path.specs.Segments.{faultTo, walkTo}
 use Rattle.scene.specs.Layout.{blockBytes, payloadBytes, drawBlocks, widthAt, heightAt, countAt, reservedAt, headerEnd, sideLimit, drawLimit, noDraw}
 use Rattle.scene.specs.Layout.{flagsAt, blendAt, paintTypeAt, spreadAt, segmentCountAt, scissorCountAt}
 use Rattle.scene.specs.Layout.{stopCountAt, paddingAt, matrixAt, translationAt, colorAt, linearPointsAt}
 use Rattle.scene.specs.Layout.{scissorsAt, stopsAt, segmentsAt, coordinatesAt, drawBytes, flagsLimit}
-use Rattle.scene.specs.Layout.{segmentLimit, scissorLimit, stopLimit, scissorBytes, stopBytes, stopFloats}
+use Rattle.scene.specs.Layout.{segmentLimit, scissorLimit, stopLimit, radialStopLimit, scissorBytes, stopBytes, stopFloats}
+use Rattle.scene.specs.Layout.{radialAt, radialFloats}
 use Rattle.scene.specs.Blocks.{blockNumber, blockRightFrom, blockOf, drawOf, fileOffset}
 use Rattle.scene.specs.Header.{widthOf, heightOf, countOf}
 use Rattle.scene.specs.Fields.{flagsOf, blendOf, paintTypeOf, spreadOf, segmentCount, scissorCount, stopCount, matrixOf, segmentsOf, coordinatesOf}
-use Rattle.scene.specs.Faults.{orElse, must, unused, limited, numbers, accepted, fault, orFault, firstFault, demand}
+use Rattle.scene.specs.Fields.{isRadial, radialOf, firstStopAt}
+use Rattle.scene.specs.Faults.{fine, orElse, must, unused, limited, numbers, accepted, fault, orFault, firstFault, demand}
 use Rattle.scene.specs.declared.FieldFault.{FieldFault}
 use Rattle.scene.specs.declared.Fault.{Fault}
 
 abbrev pub linearPointLimit : ℕ
 linearPointLimit = 4096
 
+abbrev pub radialLimit : ℕ
+radialLimit = 1024
+
+-- a radial draw has its circle in place of a stop
+unfoldable pub stopLimitOf : List ℕ → ℕ
+stopLimitOf d = cond (isRadial d) radialStopLimit stopLimit
+
 -- ---- a draw's fields, in layout order: the counts and the zero after them come last in the head, and before all that follows
 unfoldable pub countRules : List ℕ → FieldFault
 countRules d =
     orElse (must (leb (segmentCount d) segmentLimit) segmentCountAt)
     (orElse (must (leb (scissorCount d) scissorLimit) scissorCountAt)
-    (orElse (must (leb (stopCount d) stopLimit) stopCountAt)
+    (orElse (must (leb (stopCount d) (stopLimitOf d)) stopCountAt)
     (must (eqb (getD d paddingAt 0) 0) paddingAt)))
 
+abbrev pub isGradient : ℕ → Bool
+isGradient type = eqb type paintLinear || eqb type paintRadial
+
 abbrev pub isPaint : ℕ → Bool
-isPaint type = eqb type paintColor || eqb type paintLinear
+isPaint type = eqb type paintColor || isGradient type
 
 abbrev pub isSpread : ℕ → Bool
 isSpread mode = leb spreadPad mode && leb mode spreadReflect
@@ -56,12 +69,21 @@ floatRules d =
     (orElse (numbers d colorAt 4)
     (limited d linearPointLimit linearPointsAt 4)))
 
--- unused scissors, used stops, unused stops
+-- the focal rule is judged on the whole numbers; what breaks it is met at cx
+unfoldable pub focalRule : List ℕ → FieldFault
+focalRule d = must (focalAllowed (fixedCircle (radialOf d))) radialAt
+
+-- a radial draw's circle: each of its five values, then the focal rule
+unfoldable pub circleRules : List ℕ → FieldFault
+circleRules d = cond (isRadial d) (orElse (limited d radialLimit radialAt radialFloats) (focalRule d)) fine
+
+-- used stops, unused stops
+unfoldable pub stopRules : List ℕ → FieldFault
+stopRules d = orElse (numbers d (firstStopAt d) (stopFloats * stopCount d)) (unused d (firstStopAt d + stopBytes * stopCount d) segmentsAt)
+
+-- unused scissors, the circle, the stops
 unfoldable pub listRules : List ℕ → FieldFault
-listRules d =
-    orElse (unused d (scissorsAt + scissorBytes * scissorCount d) stopsAt)
-    (orElse (numbers d stopsAt (stopFloats * stopCount d))
-    (unused d (stopsAt + stopBytes * stopCount d) segmentsAt))
+listRules d = orElse (unused d (scissorsAt + scissorBytes * scissorCount d) stopsAt) (orElse (circleRules d) (stopRules d))
 
 -- a flat matrix, judged on the whole numbers, where the draw has segments: the place is that of its sx
 unfoldable pub flatRule : List ℕ → FieldFault

@@ -7,12 +7,15 @@ use crate::layout::FLAGS_AT;
 use crate::layout::LINEAR_POINTS_AT;
 use crate::layout::MATRIX_AT;
 use crate::layout::PAINT_LINEAR;
+use crate::layout::PAINT_RADIAL;
 use crate::layout::PAINT_TYPE_AT;
+use crate::layout::RADIAL_AT;
 use crate::layout::SCISSOR_COUNT_AT;
 use crate::layout::SCISSORS_AT;
 use crate::layout::SEGMENT_COUNT_AT;
 use crate::layout::SEGMENTS_AT;
 use crate::layout::SPREAD_AT;
+use crate::layout::STOP_BYTES;
 use crate::layout::STOP_COUNT_AT;
 use crate::layout::STOPS_AT;
 use crate::layout::TRANSLATION_AT;
@@ -22,22 +25,24 @@ use fixed::f32_at;
 use fixed::u16_at;
 use paint::LinearPoints;
 use paint::Paint;
+use paint::RadialPoints;
 use path::Converted;
 use path::FixedMatrix;
 use path::Matrix;
 ghost use mathlib.Core.Path.{_≡_};
-ghost use mathlib.Core.Bool.{true, _||_};
+ghost use mathlib.Core.Bool.{true};
 ghost use Prim.Native.Nat.{_+_, _≤_, _<_};
 ghost use lib.ListN.{length};
-ghost use lib.Dec.{eqb};
 ghost use lib.Ieee.{nan};
 ghost use Rattle.fixed.specs.Floats.{f32At};
-ghost use Rattle.paint.specs.Paints.{paintColor, paintLinear, paintType};
+ghost use Rattle.paint.specs.Paints.{paintType};
 ghost use Rattle.path.specs.Matrices.{matrixInLimits, fixedMatrix};
 ghost use Rattle.scene.specs.Layout.{drawBytes};
 ghost use Rattle.scene.specs.Fields as Fields;
 ghost use Rattle.scene.specs.Fields.{flagsOf, bit, nonZeroRule, rampPremultiplied, blendOf, paintTypeOf, spreadOf, segmentCount, scissorCount, stopCount};
-ghost use Rattle.scene.specs.Fields.{matrixOf, colorOf, linearOf, paintOf, scissorsOf, stopsOf, segmentsOf, coordinatesOf};
+ghost use Rattle.scene.specs.Fields.{matrixOf, colorOf, linearOf, isRadial, radialOf, paintOf};
+ghost use Rattle.scene.specs.Fields.{scissorsOf, firstStopAt, stopsOf, segmentsOf, coordinatesOf};
+ghost use Rattle.scene.specs.Rules.{isPaint};
 
 // Whether the fill rule is non-zero; else it is even-odd.
 pub fn non_zero_rule(d: &[u8]) -> bool
@@ -83,6 +88,13 @@ pub fn paint_type(d: &[u8]) -> u32
     ensures { λ r. ⌜ r ≡ paintTypeOf (now (d .entry)) ⌝ }
 {
     u16_at(d, PAINT_TYPE_AT)
+}
+
+pub fn is_radial(d: &[u8]) -> bool
+    requires { ⌜ length (now d) ≡ drawBytes ⌝ }
+    ensures { λ r. ⌜ r ≡ isRadial (now (d .entry)) ⌝ }
+{
+    paint_type(d) == PAINT_RADIAL
 }
 
 pub fn spread(d: &[u8]) -> u32
@@ -155,10 +167,13 @@ pub fn fixed_matrix(d: &[u8]) -> FixedMatrix
 
 // What the draw paints with.
 pub fn paint(d: &[u8]) -> Paint
-    requires { ⌜ (length (now d) ≡ drawBytes) × ((eqb (paintTypeOf (now d)) paintColor || eqb (paintTypeOf (now d)) paintLinear) ≡ true) ⌝ }
+    requires { ⌜ (length (now d) ≡ drawBytes) × (isPaint (paintTypeOf (now d)) ≡ true) ⌝ }
     ensures { λ r. ⌜ (r ≡ paintOf (now (d .entry))) × (paintType r ≡ paintTypeOf (now (d .entry))) ⌝ }
 {
-    if paint_type(d) == PAINT_LINEAR {
+    let kind = paint_type(d);
+    if kind == PAINT_RADIAL {
+        Paint::Radial(radial_points(d))
+    } else if kind == PAINT_LINEAR {
         Paint::Linear(linear_points(d))
     } else {
         Paint::Solid(color(d))
@@ -189,6 +204,20 @@ fn linear_points(d: &[u8]) -> LinearPoints
     }
 }
 
+// A radial draw's circle.
+pub fn radial_points(d: &[u8]) -> RadialPoints
+    requires { ⌜ length (now d) ≡ drawBytes ⌝ }
+    ensures { λ r. ⌜ r ≡ radialOf (now (d .entry)) ⌝ }
+{
+    RadialPoints {
+        cx: float_at(d, RADIAL_AT),
+        cy: float_at(d, RADIAL_AT + 4),
+        fx: float_at(d, RADIAL_AT + 8),
+        fy: float_at(d, RADIAL_AT + 12),
+        r: float_at(d, RADIAL_AT + 16),
+    }
+}
+
 // The float at a place, NaN for each of the patterns that are.
 fn float_at(d: &[u8], at: usize) -> f32
     requires { ⌜ at + 4 ≤ length (now d) ⌝ }
@@ -216,12 +245,25 @@ pub fn scissors(d: &[u8]) -> &[u8]
     &d[SCISSORS_AT..STOPS_AT]
 }
 
+// Where the stops begin: a radial draw's at the second place.
+pub fn first_stop(d: &[u8]) -> usize
+    requires { ⌜ length (now d) ≡ drawBytes ⌝ }
+    ensures { λ r. ⌜ (r ≡ firstStopAt (now (d .entry))) × (r ≤ 152) ⌝ }
+{
+    if is_radial(d) {
+        STOPS_AT + STOP_BYTES
+    } else {
+        STOPS_AT
+    }
+}
+
 // The bytes of the stops.
 pub fn stops(d: &[u8]) -> &[u8]
     requires { ⌜ length (now d) ≡ drawBytes ⌝ }
     ensures { λ r. ⌜ now r ≡ stopsOf (now (d .entry)) ⌝ }
 {
-    &d[STOPS_AT..SEGMENTS_AT]
+    let first = first_stop(d);
+    &d[first..SEGMENTS_AT]
 }
 
 // The segments, a byte each.

@@ -63,6 +63,9 @@ pub const SCISSORS_AT: usize = 68;
 
 pub const STOPS_AT: usize = 132;
 
+// A radial draw has its circle's five floats in place of the first stop.
+pub const RADIAL_AT: usize = STOPS_AT;
+
 pub const SEGMENTS_AT: usize = 772;
 
 pub const COORDINATES_AT: usize = 900;
@@ -75,19 +78,28 @@ pub const SCISSOR_LIMIT: u8 = 4;
 
 pub const STOP_LIMIT: u8 = 32;
 
+pub const RADIAL_STOP_LIMIT: u8 = 31;
+
 pub const SCISSOR_BYTES: usize = 16;
 
 pub const STOP_BYTES: usize = 20;
 
 pub const STOP_FLOATS: usize = 5;
 
+pub const RADIAL_FLOATS: usize = 5;
+
 // The limit of the linear points' floats, 4,096, as a power of 2.
 pub const POINT_LIMIT_LOG: u32 = 12;
+
+// That of a circle's floats, 1,024.
+pub const RADIAL_LIMIT_LOG: u32 = 10;
 
 // Paint types and spread modes.
 pub const PAINT_COLOR: u32 = 0x1B00;
 
 pub const PAINT_LINEAR: u32 = 0x1B01;
+
+pub const PAINT_RADIAL: u32 = 0x1B02;
 
 pub const SPREAD_PAD: u32 = 0x1C00;
 

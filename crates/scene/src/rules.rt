@@ -7,8 +7,11 @@ use crate::faults::or_else;
 use crate::faults::unused;
 use crate::fields::blend_mode;
 use crate::fields::coordinates;
+use crate::fields::first_stop;
 use crate::fields::fixed_matrix;
+use crate::fields::is_radial;
 use crate::fields::paint_type;
+use crate::fields::radial_points;
 use crate::fields::scissor_count;
 use crate::fields::segment_count;
 use crate::fields::segments;
@@ -25,8 +28,13 @@ use crate::layout::MATRIX_AT;
 use crate::layout::PADDING_AT;
 use crate::layout::PAINT_COLOR;
 use crate::layout::PAINT_LINEAR;
+use crate::layout::PAINT_RADIAL;
 use crate::layout::PAINT_TYPE_AT;
 use crate::layout::POINT_LIMIT_LOG;
+use crate::layout::RADIAL_AT;
+use crate::layout::RADIAL_FLOATS;
+use crate::layout::RADIAL_LIMIT_LOG;
+use crate::layout::RADIAL_STOP_LIMIT;
 use crate::layout::SCISSOR_BYTES;
 use crate::layout::SCISSOR_COUNT_AT;
 use crate::layout::SCISSOR_LIMIT;
@@ -46,6 +54,8 @@ use crate::layout::TRANSLATION_AT;
 use blend::factor::is_mode;
 use codes::ACCEPTED;
 use fixed::u16_at;
+use paint::radial::fixed_circle;
+use paint::radial::focal_allowed;
 use path::FixedMatrix;
 use path::rules::check;
 ghost use mathlib.Core.Path.{_≡_};
@@ -55,11 +65,12 @@ ghost use lib.ListN.{getD, length};
 ghost use lib.Dec.{leb, ltb};
 ghost use Rattle.blend.specs.PorterDuff.{isMode};
 ghost use Rattle.path.specs.Matrices.{matrixInLimits};
-ghost use Rattle.scene.specs.Layout.{drawBytes, segmentLimit, stopLimit, flagsAt, flagsLimit, blendAt, paintTypeAt, spreadAt};
+ghost use Rattle.scene.specs.Layout.{drawBytes, segmentLimit, radialAt, radialFloats, flagsAt, flagsLimit, blendAt, paintTypeAt, spreadAt};
 ghost use Rattle.scene.specs.Fields.{flagsOf, blendOf, paintTypeOf, spreadOf, segmentCount, stopCount, matrixOf};
 ghost use Rattle.scene.specs.Faults as Faults;
 ghost use Rattle.scene.specs.Faults.{orElse};
-ghost use Rattle.scene.specs.Rules.{isPaint, isSpread, headRules, countRules, floatRules, listRules, flatRule, pathRules, restRules, drawRules};
+ghost use Rattle.scene.specs.Rules.{isGradient, isPaint, isSpread, headRules, stopLimitOf, countRules, floatRules, radialLimit, focalRule, circleRules};
+ghost use Rattle.scene.specs.Rules.{stopRules, listRules, flatRule, pathRules, restRules, drawRules};
 
 // A draw judged by itself.
 pub fn draw_rules(d: &[u8]) -> FieldFault
@@ -130,12 +141,24 @@ fn count_rules(d: &[u8]) -> FieldFault
     ensures { λ r. ⌜ r ≡ countRules (now (d .entry)) ⌝ }
 {
     let padding = must(d[PADDING_AT] == 0, PADDING_AT);
-    let from_stops = or_else(count_rule(d, STOP_COUNT_AT, STOP_LIMIT), padding);
+    let from_stops = or_else(count_rule(d, STOP_COUNT_AT, stop_limit(d)), padding);
     let from_scissors = or_else(count_rule(d, SCISSOR_COUNT_AT, SCISSOR_LIMIT), from_stops);
     or_else(
         count_rule(d, SEGMENT_COUNT_AT, SEGMENT_LIMIT),
         from_scissors,
     )
+}
+
+// How many stops the draw may have.
+fn stop_limit(d: &[u8]) -> u8
+    requires { ⌜ length (now d) ≡ drawBytes ⌝ }
+    ensures { λ r. ⌜ r ≡ stopLimitOf (now (d .entry)) ⌝ }
+{
+    if is_radial(d) {
+        RADIAL_STOP_LIMIT
+    } else {
+        STOP_LIMIT
+    }
 }
 
 // A byte that counts at most so many.
@@ -149,7 +172,13 @@ fn count_rule(d: &[u8], at: usize, limit: u8) -> FieldFault
 fn is_paint(n: u32) -> bool
     ensures { λ r. ⌜ r ≡ isPaint n ⌝ }
 {
-    n == PAINT_COLOR || n == PAINT_LINEAR
+    n == PAINT_COLOR || is_gradient(n)
+}
+
+fn is_gradient(n: u32) -> bool
+    ensures { λ r. ⌜ r ≡ isGradient n ⌝ }
+{
+    n == PAINT_LINEAR || n == PAINT_RADIAL
 }
 
 fn is_spread(n: u32) -> bool
@@ -175,19 +204,51 @@ fn float_rules(d: &[u8]) -> FieldFault
     )
 }
 
-// Unused scissors, used stops, unused stops.
+// Unused scissors, the circle, the stops.
 fn list_rules(d: &[u8]) -> FieldFault
-    requires { ⌜ (length (now d) ≡ drawBytes) × (stopCount (now d) ≤ stopLimit) ⌝ }
+    requires { ⌜ (length (now d) ≡ drawBytes) × (stopCount (now d) ≤ stopLimitOf (now d)) ⌝ }
     ensures { λ r. ⌜ r ≡ listRules (now (d .entry)) ⌝ }
 {
     let scissors = scissor_count(d);
-    let stops = stop_count(d);
-    let past_stops = unused(d, STOPS_AT + STOP_BYTES * stops, SEGMENTS_AT);
-    let from_stops = or_else(numbers(d, STOPS_AT, STOP_FLOATS * stops), past_stops);
+    let from_circle = or_else(circle_rules(d), stop_rules(d));
     or_else(
         unused(d, SCISSORS_AT + SCISSOR_BYTES * scissors, STOPS_AT),
-        from_stops,
+        from_circle,
     )
+}
+
+// A radial draw's circle: each of its values, then the focal point.
+fn circle_rules(d: &[u8]) -> FieldFault
+    requires { ⌜ length (now d) ≡ drawBytes ⌝ }
+    ensures { λ r. ⌜ r ≡ circleRules (now (d .entry)) ⌝ }
+{
+    if !is_radial(d) {
+        return must(true, RADIAL_AT);
+    }
+    let values = limited(d, RADIAL_LIMIT_LOG, RADIAL_AT, RADIAL_FLOATS);
+    if values.code != ACCEPTED {
+        return values;
+    }
+    focal_rule(d)
+}
+
+// The focal point, of values within their limits.
+fn focal_rule(d: &[u8]) -> FieldFault
+    requires { ⌜ (length (now d) ≡ drawBytes) × (Faults.limited (now d) radialLimit radialAt radialFloats .code ≡ 0) ⌝ }
+    ensures { λ r. ⌜ r ≡ focalRule (now (d .entry)) ⌝ }
+{
+    must(focal_allowed(fixed_circle(radial_points(d))), RADIAL_AT)
+}
+
+// Used stops, unused stops.
+fn stop_rules(d: &[u8]) -> FieldFault
+    requires { ⌜ (length (now d) ≡ drawBytes) × (stopCount (now d) ≤ stopLimitOf (now d)) ⌝ }
+    ensures { λ r. ⌜ r ≡ stopRules (now (d .entry)) ⌝ }
+{
+    let first = first_stop(d);
+    let stops = stop_count(d);
+    let past_stops = unused(d, first + STOP_BYTES * stops, SEGMENTS_AT);
+    or_else(numbers(d, first, STOP_FLOATS * stops), past_stops)
 }
 
 // A matrix that is not flat, where there are segments.

@@ -15,6 +15,7 @@ mod workloads;
 use std::env;
 use std::time::{Duration, Instant};
 
+use scene::PaintType;
 use stages::Versions;
 use workloads::Workload;
 
@@ -30,12 +31,35 @@ fn main() {
         print_line(&workload, times);
         print_stages(&workload, Duration::from_secs_f64(seconds));
     }
+    if chosen.is_none() {
+        print_paints(Duration::from_secs_f64(seconds));
+    }
     println!("Times in microseconds, the best and the median. Area: the redrawn share of the surface. Ratio: redraw to full.");
     println!(
         "Stages: the difference of the best times of drawings that stop short, and its share of the full drawing."
     );
     if chosen.is_none_or(|name| name == "compare") {
         compare::print(Duration::from_secs_f64(seconds));
+    }
+}
+
+/// A dial in each kind of paint, in turn: the best time of a full drawing for each pixel.
+fn print_paints(budget: Duration) {
+    let kinds = [("colour", PaintType::Color), ("linear", PaintType::Linear), ("radial", PaintType::Radial)];
+    let scenes = kinds.map(|(_, paint)| workloads::dial(paint, 512).bytes());
+    let mut surface = vec![0; 4 * 512 * 512];
+    let mut scratch = vec![0; library::SCRATCH_NUMBERS];
+    let mut best = [Duration::MAX; 3];
+    let begin = Instant::now();
+    while begin.elapsed() < budget {
+        for (scene, best) in scenes.iter().zip(&mut best) {
+            let (answer, time) = timed(|| library::draw(scene, &mut surface, &mut scratch));
+            assert_eq!(answer.code, 0);
+            *best = time.min(*best);
+        }
+    }
+    for ((name, _), time) in kinds.iter().zip(best) {
+        println!("dial, {name}: {:.1} ns a pixel", time.as_secs_f64() * 1e9 / (512.0 * 512.0));
     }
 }
 

@@ -2,7 +2,7 @@
 
 use generate::{scenes, Random};
 use panel::Readings;
-use scene::Scene;
+use scene::{Draw, PaintType, Path, Scene, Stop};
 
 pub struct Workload {
     pub name: &'static str,
@@ -27,10 +27,10 @@ pub fn all() -> Vec<Workload> {
     vec![panel_at("panel", 1.0), panel_at("panel small", 0.25), largest()]
 }
 
-/// The panel, with the speed needle moved in the next frame.
+/// The panel and its next frame: the speed needle and a door have moved.
 fn panel_at(name: &'static str, scale: f64) -> Workload {
-    let at_speed = |speed| panel::panel(&Readings { speed, ..Readings::default() }, scale);
-    Workload::new(name, [at_speed(87.0), at_speed(92.0)])
+    let now = Readings::default();
+    Workload::new(name, [&now, &now.next()].map(|readings| panel::panel(readings, scale)))
 }
 
 /// 64 draws of 128 curves on 1,024 by 1,024 pixels. All but the last cover the surface; the last, an eighth of it
@@ -47,6 +47,22 @@ fn largest() -> Workload {
     let mut next = scene.clone();
     next.draws[63] = at_column(449.0);
     Workload::new("largest", [scene, next])
+}
+
+/// A surface of a side, all of it in one draw of a paint: a dial's colours from its middle out, or from the left to the right.
+pub fn dial(paint: PaintType, side: u16) -> Scene {
+    let (end, middle) = (f32::from(side), f32::from(side) / 2.0);
+    let stop = |offset, grey| Stop { offset, color: [grey, grey, grey, 1.0] };
+    let mut scene = Scene::new(side, side, [0; 4]);
+    scene.draws.push(Draw {
+        paint,
+        linear: [0.0, 0.0, end, middle],
+        radial: [middle, middle, middle - 16.0, middle - 24.0, middle],
+        stops: vec![stop(0.0, 0.2), stop(0.6, 0.9), stop(1.0, 0.1)],
+        path: Path::new().rectangle(0, 0, side as i16, side as i16),
+        ..Draw::default()
+    });
+    scene
 }
 
 #[cfg(test)]

@@ -66,7 +66,8 @@ fn spoil_draw(random: &mut Random, bytes: &mut [u8]) {
             put_in_draw(place, &[random.byte()]);
         }
         2 => {
-            let (place, value) = random.pick(&[(8, 128), (8, 129), (9, 4), (9, 5), (10, 32), (10, 33), (11, 1)]);
+            let (place, value) =
+                random.pick(&[(8, 128), (8, 129), (9, 4), (9, 5), (10, 31), (10, 32), (10, 33), (11, 1)]);
             put_in_draw(place, &[value]);
         }
         3 => put_in_draw(random.range(8, 10) as usize, &[random.range(0, 40) as u8]),
@@ -75,7 +76,9 @@ fn spoil_draw(random: &mut Random, bytes: &mut [u8]) {
             put_in_draw(place, &special_float(random).to_le_bytes());
         }
         6 => {
-            let place = 132 + 4 * random.index(160);
+            // Among all stops, or in the first place, where a radial gradient is.
+            let floats = random.pick(&[160, 5]);
+            let place = 132 + 4 * random.index(floats);
             put_in_draw(place, &special_float(random).to_le_bytes());
         }
         7 | 8 => {
@@ -100,7 +103,7 @@ fn spoil_draw(random: &mut Random, bytes: &mut [u8]) {
 
 /// Values about the limits of the fields, and those that are no numbers.
 fn special_float(random: &mut Random) -> f32 {
-    let limit = random.pick(&[1.0, 256.0, 4_096.0, 32_768.0, 0.0, 1e-40, f32::MAX, f32::INFINITY, f32::NAN]);
+    let limit = random.pick(&[1.0, 256.0, 1_024.0, 4_096.0, 32_768.0, 0.0, 1e-40, f32::MAX, f32::INFINITY, f32::NAN]);
     let value = match random.range(0, 3) {
         0 => f32::from_bits(limit.to_bits() + 1),
         1 => f32::from_bits(limit.to_bits().saturating_sub(1)),

@@ -9,6 +9,7 @@
 pub mod damage;
 pub mod paths;
 pub mod places;
+pub mod radial;
 pub mod random;
 pub mod rules;
 pub mod scenes;

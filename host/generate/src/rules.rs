@@ -1,5 +1,7 @@
 //! Both sides of every scene rule, and every two faults together, with what the paper's order makes of them.
 
+mod radial;
+
 use scene::path::{CUBIC, HORIZONTAL, LINE, MOVE, QUAD, RELATIVE, SMOOTH_CUBIC, SMOOTH_QUAD, VERTICAL};
 use scene::{file_offset, seal, seal_block_from, Draw, PaintType, Path, Scene, Scissor, Stop, BLOCK};
 
@@ -97,6 +99,7 @@ pub fn cases() -> Vec<Case> {
     cases.floats();
     cases.scissors();
     cases.stops();
+    cases.radial();
     cases.flat_matrices();
     cases.segment_bytes();
     cases.coordinate_counts();
@@ -266,7 +269,7 @@ impl Cases {
             let fault = unless(bit <= 2, illegal(0));
             self.with_bytes(format!("flag bit {bit}"), &common(), 0, &(1_u16 << bit).to_le_bytes(), fault);
         }
-        let ranges = [(2, 0x2000_u16, 0x2004_u16), (4, 0x1B00, 0x1B01), (6, 0x1C00, 0x1C02)];
+        let ranges = [(2, 0x2000_u16, 0x2004_u16), (4, 0x1B00, 0x1B02), (6, 0x1C00, 0x1C02)];
         for (place, first, last) in ranges {
             let near = (first - 3..=last + 3).chain([0, 1, 0xFF, first + 0x100, first - 0x100, 0xFFFF]);
             for number in near {
@@ -286,9 +289,9 @@ impl Cases {
         }
     }
 
-    /// Matrix, colour and linear points, under both paint types.
+    /// Matrix, colour and linear points, under every paint type.
     fn floats(&mut self) {
-        for paint in [PaintType::Color, PaintType::Linear] {
+        for paint in PaintType::ALL {
             let empty = with_draw(Draw { paint, ..Draw::default() });
             for entry in 0..6 {
                 let limit = if entry < 4 { 256.0 } else { 32_768.0 };
@@ -559,7 +562,7 @@ fn ordered_faults() -> Vec<Edit> {
         let places: [(usize, &[u8], u32, usize); 28] = [
             (0, &[8], ILLEGAL, 0),
             (2, &[5], ILLEGAL, 2),
-            (4, &[2], ILLEGAL, 4),
+            (4, &[3], ILLEGAL, 4),
             (6, &[3], ILLEGAL, 6),
             (8, &[129], ILLEGAL, 8),
             (9, &[5], ILLEGAL, 9),

@@ -3,6 +3,7 @@
 use scene::{Blend, Draw, FillRule, PaintType, Scene, Scissor, Spread, Stop};
 
 use crate::paths::{frame, path};
+use crate::radial::radial;
 use crate::Random;
 
 /// A scene of up to `side` pixels each way and up to `draws` draws.
@@ -36,18 +37,20 @@ pub fn draw(random: &mut Random, width: u16, height: u16) -> Draw {
         2 => random.range(40, 128),
         _ => random.range(2, 14),
     };
+    let paint = random.pick(&PaintType::ALL);
     Draw {
         fill_rule: random.pick(&[FillRule::EvenOdd, FillRule::NonZero]),
         scissoring: random.once_in(4),
         premultiplied_ramp: random.once_in(2),
         blend: random.pick(&Blend::ALL),
-        paint: random.pick(&[PaintType::Color, PaintType::Linear]),
+        paint,
         spread: random.pick(&Spread::ALL),
         matrix: frame.matrix,
         color: color(random),
         linear: linear(random, width, height),
+        radial: radial(random, width, height),
         scissors: (0..random.range(0, 4)).map(|_| scissor(random, width, height)).collect(),
-        stops: stops(random),
+        stops: stops(random, if paint == PaintType::Radial { 31 } else { 32 }),
         path: path(random, segments as usize, frame.reach),
     }
 }
@@ -119,11 +122,12 @@ fn scissor(random: &mut Random, width: u16, height: u16) -> Scissor {
     }
 }
 
-fn stops(random: &mut Random) -> Vec<Stop> {
+/// Up to `most` stops.
+fn stops(random: &mut Random, most: i32) -> Vec<Stop> {
     let count = match random.range(0, 7) {
         0 => 0,
         1 => 1,
-        2 => 32,
+        2 => most,
         _ => random.range(2, 6),
     };
     let mut offsets: Vec<f32> = (0..count).map(|_| offset(random)).collect();

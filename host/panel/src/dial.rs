@@ -1,142 +1,208 @@
-//! The two dials: bezel, face, marks, numbers, a red zone, and the needle on its hub.
+//! What the two dials have in common: the housing, marks and numbers, needles, the hub, and the glass.
 
-use scene::Draw;
+use crate::canvas::{faces_light, light_angle, towards_light, Canvas, Color, Paint, Stops};
+use crate::font;
+use crate::shape::{on_circle, Point, Shape};
 
-use crate::shape::{on_circle, Shape};
-use crate::Canvas;
+/// The outermost circle of the rim, and the circle where the face begins.
+pub const RADIUS: f64 = 194.0;
+const FACE: f64 = RADIUS - 16.0;
+/// How far the housing's shadow reaches beyond the rim, and how far it is moved away from the light.
+const SHADOW_REACH: f64 = 18.0;
+const SHADOW_SHIFT: f64 = 8.0;
+const SHADOW: Color = 0x000000D0;
+const NO_SHADOW: Color = 0x00000000;
 
-const RADIUS: f64 = 206.0;
-/// Angles in degrees, counter-clockwise from the right: the scale runs clockwise from the lower left.
-const FIRST_ANGLE: f64 = 225.0;
-const LAST_ANGLE: f64 = -45.0;
-/// More text than this in one draw would run out of segments.
-const DIGITS_OF_A_DRAW: usize = 7;
+/// The radial rim: its focal point is near the light, so that it is bright there and dark on the other side.
+const RIM_LEAN: f64 = 0.42;
+const RIM_STOPS: Stops = &[
+    (0.84, 0x0B0D0FFF),
+    (0.87, 0x2B3037FF),
+    (0.885, 0x8D96A1FF),
+    (0.915, 0xF3F6F9FF),
+    (0.94, 0x99A2ADFF),
+    (0.965, 0x4A515AFF),
+    (0.985, 0x7A828CFF),
+    (1.0, 0x23272CFF),
+];
+const FACE_LEAN: f64 = 0.3;
+const FACE_STOPS: Stops =
+    &[(0.0, 0x2B333DFF), (0.45, 0x1A2027FF), (0.8, 0x11151AFF), (0.93, 0x0B0D10FF), (1.0, 0x040506FF)];
 
-struct Dial {
-    center: (f64, f64),
-    greatest: f64,
-    /// The steps between numbers, longer marks and shorter marks.
-    number_step: f64,
-    long_step: f64,
-    short_step: f64,
-    digit_height: f64,
-    red_from: f64,
+const PRINT: Color = 0xF2F5F8FF;
+
+/// A scale round a centre.
+pub struct Scale {
+    pub center: Point,
+    pub greatest: f64,
+    /// Angles in degrees, counter-clockwise from the right, of 0 and of the greatest value.
+    pub first_angle: f64,
+    pub last_angle: f64,
+    /// The outer ends of the marks.
+    pub radius: f64,
 }
 
-pub(crate) fn speed(canvas: &Canvas, value: f64, draws: &mut Vec<Draw>) {
-    let dial = Dial {
-        center: (228.0, 292.0),
-        greatest: 240.0,
-        number_step: 20.0,
-        long_step: 10.0,
-        short_step: 5.0,
-        digit_height: 19.0,
-        red_from: 240.0,
-    };
-    dial.draw(canvas, value, "km/h", draws);
+/// Marks at every step: short, middle and long ones.
+pub struct Marks {
+    pub step: f64,
+    /// Steps between two middle marks, and between two long ones.
+    pub middle: i32,
+    pub long: i32,
 }
 
-pub(crate) fn turns(canvas: &Canvas, value: f64, draws: &mut Vec<Draw>) {
-    let dial = Dial {
-        center: (796.0, 292.0),
-        greatest: 8.0,
-        number_step: 1.0,
-        long_step: 0.5,
-        short_step: 0.25,
-        digit_height: 28.0,
-        red_from: 6.5,
-    };
-    dial.draw(canvas, value, "x1000", draws);
+/// Lengths and widths of short, middle and long marks.
+const MARK_SIZES: [(f64, f64); 3] = [(10.0, 2.0), (15.0, 2.8), (21.0, 4.8)];
+
+/// The numbers' step and height, and the circle that they touch from within.
+pub struct Numbers {
+    pub step: f64,
+    pub height: f64,
+    pub radius: f64,
 }
 
-impl Dial {
-    fn draw(&self, canvas: &Canvas, value: f64, unit: &str, draws: &mut Vec<Draw>) {
-        self.housing(canvas, draws);
-        self.scale(canvas, draws);
-        self.numbers(canvas, unit, draws);
-        self.needle(canvas, value, draws);
+impl Scale {
+    pub fn angle(&self, value: f64) -> f64 {
+        self.first_angle + (self.last_angle - self.first_angle) * value / self.greatest
     }
 
-    fn angle(&self, value: f64) -> f64 {
-        FIRST_ANGLE + (LAST_ANGLE - FIRST_ANGLE) * value / self.greatest
+    /// Appends the marks.
+    pub fn marks(&self, shape: Shape, marks: &Marks) -> Shape {
+        let count = (self.greatest / marks.step).round() as i32;
+        (0..=count).fold(shape, |shape, i| {
+            let size = usize::from(i % marks.middle == 0) + usize::from(i % marks.long == 0);
+            let (length, width) = MARK_SIZES[size];
+            let angle = self.angle(f64::from(i) * marks.step);
+            shape.tick(self.center, self.radius - length, self.radius, width, angle)
+        })
     }
 
-    /// Two rings lit from opposite sides, and the face.
-    fn housing(&self, canvas: &Canvas, draws: &mut Vec<Draw>) {
-        let (_, y) = self.center;
-        let (top, bottom) = (y + RADIUS, y - RADIUS);
-        let bezel = Shape::new().ring(self.center, RADIUS, RADIUS - 9.0);
-        let lit = [(0.0, 0xE9EDF2), (0.35, 0x7A828D), (0.7, 0x3A3F47), (1.0, 0x8B939E)];
-        draws.push(canvas.vertical(bezel, top, bottom, &lit));
-        let bevel = Shape::new().ring(self.center, RADIUS - 9.0, RADIUS - 15.0);
-        draws.push(canvas.vertical(bevel, top, bottom, &[(0.0, 0x101215), (0.6, 0x2C3138), (1.0, 0x686F79)]));
-        let face = Shape::new().circle(self.center, RADIUS - 15.0);
-        draws.push(canvas.vertical(face, top, bottom, &[(0.0, 0x0B0D10), (0.5, 0x14181D), (1.0, 0x1F242B)]));
+    /// The numbers, each a shape of its own.
+    pub fn numbers<'a>(&'a self, numbers: &'a Numbers) -> impl Iterator<Item = Shape> + 'a {
+        let count = (self.greatest / numbers.step).floor() as i32;
+        (0..=count).map(move |i| self.number(numbers, f64::from(i) * numbers.step))
     }
 
-    /// Marks at every step, the shorter ones left out where a longer one is, and the red zone.
-    fn scale(&self, canvas: &Canvas, draws: &mut Vec<Draw>) {
-        if self.red_from < self.greatest {
-            let zone =
-                Shape::new().band(self.center, 186.0, 176.0, self.angle(self.greatest), self.angle(self.red_from));
-            draws.push(canvas.fill(zone, 0xD8231F, 1.0));
-        }
-        let steps = (self.greatest / self.short_step).round() as i32;
-        let per_long = (self.long_step / self.short_step).round() as i32;
-        let per_number = (self.number_step / self.short_step).round() as i32;
-        let marks = |inner: f64, width: f64, wanted: &dyn Fn(i32) -> bool| {
-            (0..=steps).filter(|&i| wanted(i)).fold(Shape::new(), |shape, i| {
-                shape.tick(self.center, inner, 186.0, width, self.angle(f64::from(i) * self.short_step))
-            })
-        };
-        let short = marks(176.0, 1.5, &|i| i % per_long != 0);
-        let long = marks(171.0, 2.5, &|i| i % per_long == 0 && i % per_number != 0);
-        let numbered = marks(165.0, 4.0, &|i| i % per_number == 0);
-        draws.push(canvas.fill(short, 0x8E97A3, 1.0));
-        draws.push(canvas.fill(long, 0xC5CCD6, 1.0));
-        draws.push(canvas.fill(numbered, 0xF4F7FA, 1.0));
+    /// A number within the ellipse that its width and height span, which touches the numbers' circle.
+    fn number(&self, numbers: &Numbers, value: f64) -> Shape {
+        let text = value.to_string();
+        let (sin, cos) = self.angle(value).to_radians().sin_cos();
+        let reach = (font::width(&text, numbers.height) * cos).hypot(numbers.height * sin) / 2.0;
+        let middle = on_circle(self.center, numbers.radius - reach, self.angle(value));
+        Shape::new().text(&text, middle, numbers.height)
+    }
+}
+
+/// A shadow on the board, the rim, and the face.
+pub fn housing(canvas: &mut Canvas, center: Point) {
+    let reach = RADIUS + SHADOW_REACH;
+    let under = towards_light(center, -SHADOW_SHIFT);
+    let edge = ((RADIUS - SHADOW_REACH) / reach) as f32;
+    let shadow = [(edge, SHADOW), (1.0, NO_SHADOW)];
+    canvas.fill(Shape::new().circle(under, reach), Paint::glow(under, reach, &shadow));
+    canvas.fill(Shape::new().ring(center, RADIUS, FACE), Paint::dome(center, RADIUS, RIM_LEAN, RIM_STOPS));
+    canvas.fill(Shape::new().circle(center, FACE), Paint::dome(center, FACE, FACE_LEAN, FACE_STOPS));
+}
+
+/// Marks and numbers, in the colour of the face's print.
+pub fn print(canvas: &mut Canvas, shapes: impl IntoIterator<Item = Shape>) {
+    canvas.fill_all(shapes, Paint::Color(PRINT));
+}
+
+/// The units' height, how far above the hub they are, and their colour.
+pub const UNIT_HEIGHT: f64 = 18.0;
+pub const UNIT_RISE: f64 = 62.0;
+const UNIT_COLOR: Color = 0xA9B3BFFF;
+
+/// What the dials measure.
+pub fn units(canvas: &mut Canvas, shapes: impl IntoIterator<Item = Shape>) {
+    canvas.fill_all(shapes, Paint::Color(UNIT_COLOR));
+}
+
+/// A needle that points to the right from the origin.
+pub struct Needle {
+    pub shape: Shape,
+    /// Half of its width where it is widest.
+    pub half: f64,
+}
+
+/// The colours of a needle's flank towards the light, and of the other.
+const NEEDLE_LIT: Color = 0xFF7448FF;
+const NEEDLE_UNLIT: Color = 0xD8290FFF;
+/// How far a needle's shadow falls, and its colour.
+const NEEDLE_HEIGHT: f64 = 7.0;
+const NEEDLE_SHADOW: Color = 0x00000080;
+
+impl Needle {
+    pub fn shadow(&self, canvas: &mut Canvas, center: Point, angle: f64) {
+        let under = towards_light(center, -NEEDLE_HEIGHT);
+        canvas.fill_turned(self.shape.clone(), Paint::Color(NEEDLE_SHADOW), angle, under);
     }
 
-    /// The numbers round the scale, as few draws as their segments allow, and the unit below the hub.
-    fn numbers(&self, canvas: &Canvas, unit: &str, draws: &mut Vec<Draw>) {
-        let count = (self.greatest / self.number_step).round() as i32;
-        let mut shape = Shape::new();
-        let mut digits = 0;
-        for i in 0..=count {
-            let value = f64::from(i) * self.number_step;
-            let text = format!("{value}");
-            if digits + text.len() > DIGITS_OF_A_DRAW {
-                draws.push(canvas.fill(std::mem::take(&mut shape), 0xF4F7FA, 1.0));
-                digits = 0;
-            }
-            digits += text.len();
-            shape = shape.text(&text, on_circle(self.center, 139.0, self.angle(value)), self.digit_height);
-        }
-        draws.push(canvas.fill(shape, 0xF4F7FA, 1.0));
-        let label = Shape::new().text(unit, (self.center.0, self.center.1 - 96.0), 15.0);
-        draws.push(canvas.fill(label, 0x9AA3AF, 1.0));
+    /// The needle, with a ridge between its flanks.
+    pub fn draw(&self, canvas: &mut Canvas, center: Point, angle: f64) {
+        let left = on_circle((0.0, 0.0), self.half, angle + 90.0);
+        let side = if faces_light(left) { 1.0 } else { -1.0 };
+        let from = (center.0 + side * left.0, center.1 + side * left.1);
+        let to = (center.0 - side * left.0, center.1 - side * left.1);
+        let stops = [(0.5, NEEDLE_LIT), (0.5, NEEDLE_UNLIT)];
+        canvas.fill_turned(self.shape.clone(), Paint::Linear { from, to, stops: &stops }, angle, center);
     }
+}
 
-    /// A shadow, the needle and the cap over its pivot.
-    fn needle(&self, canvas: &Canvas, value: f64, draws: &mut Vec<Draw>) {
-        let needle = || {
-            Shape::new().polygon(&[(-38.0, -5.5), (0.0, -7.0), (168.0, -1.6), (168.0, 1.6), (0.0, 7.0), (-38.0, 5.5)])
-        };
-        let angle = self.angle(value);
-        let (x, y) = self.center;
-        let shadow = canvas.fill(needle(), 0x000000, 0.45);
-        draws.push(canvas.turned(shadow, angle, (x + 4.0, y - 6.0)));
-        let tip = on_circle(self.center, 168.0, angle);
-        let ramp = canvas.ramp(
-            needle(),
-            self.center,
-            tip,
-            &[(0.0, 0xB3150F, 1.0), (0.55, 0xF0321F, 1.0), (1.0, 0xFF7A4A, 1.0)],
-        );
-        draws.push(canvas.turned(ramp, angle, self.center));
-        let hub = Shape::new().circle(self.center, 23.0);
-        draws.push(canvas.vertical(hub, y + 23.0, y - 23.0, &[(0.0, 0x7C848F), (0.45, 0x2B3037), (1.0, 0x121417)]));
-        let cap = Shape::new().circle(self.center, 16.0);
-        draws.push(canvas.vertical(cap, y + 16.0, y - 16.0, &[(0.0, 0x191C20), (1.0, 0x4A515B)]));
-    }
+const HUB: f64 = 25.0;
+const HUB_LEAN: f64 = 0.5;
+const HUB_STOPS: Stops = &[
+    (0.0, 0xD5DBE2FF),
+    (0.12, 0x9AA2ADFF),
+    (0.5, 0x3B424AFF),
+    (0.8, 0x1C2025FF),
+    (0.9, 0x0B0C0EFF),
+    (1.0, 0x2E343BFF),
+];
+
+/// The cap over the needles' pivot.
+pub fn hub(canvas: &mut Canvas, center: Point) {
+    canvas.fill(Shape::new().circle(center, HUB), Paint::dome(center, HUB, HUB_LEAN, HUB_STOPS));
+}
+
+/// The reflection in the glass: a crescent towards the light, so many degrees long to either side.
+const GLASS: f64 = FACE - 3.0;
+const GLASS_SPAN: f64 = 78.0;
+/// How far from the light the centre of the crescent's inner side is, as a share of the radius.
+const GLASS_HOLLOW: f64 = 0.75;
+const GLASS_LEAN: f64 = 0.8;
+const GLASS_STOPS: Stops = &[(0.0, 0xFFFFFF38), (0.5, 0xE8F0FF1C), (1.0, 0xFFFFFF08)];
+
+pub fn glass(canvas: &mut Canvas, center: Point) {
+    let middle = light_angle();
+    let hollow = towards_light(center, -GLASS_HOLLOW * GLASS);
+    let end = on_circle(center, GLASS, middle + GLASS_SPAN);
+    let (x, y) = (end.0 - hollow.0, end.1 - hollow.1);
+    let span = y.atan2(x).to_degrees().rem_euclid(360.0) - middle;
+    let crescent = Shape::new()
+        .move_to(on_circle(center, GLASS, middle - GLASS_SPAN))
+        .arc(center, GLASS, middle - GLASS_SPAN, middle + GLASS_SPAN)
+        .arc(hollow, x.hypot(y), middle + span, middle - span);
+    canvas.fill(crescent, Paint::dome(center, GLASS, GLASS_LEAN, GLASS_STOPS));
+}
+
+/// The row of the middles of the windows with figures, and the windows' form.
+pub const WINDOW_ROW: f64 = 185.0;
+const WINDOW_HEIGHT: f64 = 58.0;
+const WINDOW_CORNER: f64 = 9.0;
+const WINDOW_STOPS: Stops = &[(0.0, 0x020303FF), (0.8, 0x0A0E12FF), (1.0, 0x27303AFF)];
+
+/// A sunken window with figures.
+pub struct Window {
+    pub middle: Point,
+    pub width: f64,
+}
+
+pub fn windows<'a>(canvas: &mut Canvas, windows: impl IntoIterator<Item = &'a Window>) {
+    let bottom = WINDOW_ROW - WINDOW_HEIGHT / 2.0;
+    let shape = windows.into_iter().fold(Shape::new(), |shape, window| {
+        let left = window.middle.0 - window.width / 2.0;
+        shape.rounded_rectangle(left, bottom, window.width, WINDOW_HEIGHT, WINDOW_CORNER)
+    });
+    canvas.fill(shape, Paint::rows(bottom + WINDOW_HEIGHT, bottom, WINDOW_STOPS));
 }

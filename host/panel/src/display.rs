@@ -1,62 +1,118 @@
-//! The display between the dials: gear, odometer, and bars for fuel and temperature.
+//! The display between the dials: its frame follows their rims. At the top the two great lamps, in the waist the
+//! doors, at the bottom the line and its next stop.
 
-use scene::Draw;
+use crate::canvas::{Canvas, Color, Paint, Stops};
+use crate::shape::{on_circle, Point, Shape};
+use crate::{brake, dial, font, speed, Trip};
 
-use crate::shape::Shape;
-use crate::{Canvas, Readings};
+/// Between a dial's rim and the frame, and the frame's width.
+const CLEARANCE: f64 = 9.0;
+const FRAME: f64 = 3.0;
+/// From the dials' row to the display's upper and lower edge.
+const HALF_HEIGHT: f64 = 176.0;
+/// How far from a corner its rounding begins, along either side.
+const CORNER: f64 = 26.0;
+/// How far a rounding's control points are from its ends, as a share of the way to the corner.
+const CORNER_PULL: f64 = 0.62;
+const FRAME_STOPS: Stops = &[(0.0, 0x8B95A1FF), (0.5, 0x2C3138FF), (1.0, 0x5C656FFF)];
+const GLASS_STOPS: Stops = &[(0.0, 0x0B1620FF), (0.5, 0x0D1B28FF), (1.0, 0x070D14FF)];
 
-/// Blocks of a bar.
-const BLOCKS: i32 = 12;
+/// Thin lines between the display's three parts: their rows, and half their length.
+const RULES: [f64; 2] = [361.0, 205.0];
+const RULE_HALF: f64 = 88.0;
+const RULE_WIDTH: f64 = 1.25;
+const RULE_COLOR: Color = 0x5C86A880;
 
-pub(crate) fn display(canvas: &Canvas, readings: &Readings, draws: &mut Vec<Draw>) {
-    let frame = Shape::new().rounded_rectangle(444.0, 130.0, 136.0, 330.0, 18.0);
-    draws.push(canvas.vertical(frame, 460.0, 130.0, &[(0.0, 0x6E7681), (0.5, 0x33383F), (1.0, 0x565D67)]));
-    let glass = Shape::new().rounded_rectangle(448.0, 134.0, 128.0, 322.0, 14.0);
-    draws.push(canvas.vertical(glass, 456.0, 134.0, &[(0.0, 0x0A1A2A), (0.5, 0x0D2438), (1.0, 0x071019)]));
+pub const MIDDLE: f64 = (speed::CENTER.0 + brake::CENTER.0) / 2.0;
 
-    let gear = Shape::new().text("D", (512.0, 408.0), 58.0);
-    draws.push(canvas.vertical(gear, 437.0, 379.0, &[(0.0, 0xFFFFFF), (1.0, 0x7FC4FF)]));
-    let rule = Shape::new().rectangle(462.0, 360.0, 100.0, 1.5).rectangle(462.0, 190.0, 100.0, 1.5);
-    draws.push(canvas.fill(rule, 0x5FA8D8, 0.5));
-
-    let fuel = Bar { x: 470.0, fill: readings.fuel, low: "E", high: "F" };
-    fuel.draw(canvas, &[(0.0, 0xE8402A), (0.25, 0xF0A020), (0.5, 0x58D060), (1.0, 0x30E08A)], draws);
-    let temperature = Bar { x: 530.0, fill: readings.temperature, low: "C", high: "H" };
-    temperature.draw(canvas, &[(0.0, 0x3FA0FF), (0.45, 0x50D8C8), (0.75, 0xF0B030), (1.0, 0xF03020)], draws);
-
-    let figures = format!("{:06}", readings.odometer);
-    let odometer = Shape::new().text(&figures, (512.0, 167.0), 19.0);
-    draws.push(canvas.fill(odometer, 0xDCEBFA, 1.0));
-    let unit = Shape::new().text("km", (512.0, 147.0), 9.0);
-    draws.push(canvas.fill(unit, 0x7C9BB8, 1.0));
+pub fn display(canvas: &mut Canvas) {
+    let (top, bottom) = (speed::CENTER.1 + HALF_HEIGHT, speed::CENTER.1 - HALF_HEIGHT);
+    canvas.fill(waisted(0.0), Paint::rows(top, bottom, FRAME_STOPS));
+    canvas.fill(waisted(FRAME), Paint::rows(top, bottom, GLASS_STOPS));
+    let rules = RULES.iter().fold(Shape::new(), |shape, row| {
+        shape.rectangle(MIDDLE - RULE_HALF, row - RULE_WIDTH / 2.0, 2.0 * RULE_HALF, RULE_WIDTH)
+    });
+    canvas.fill(rules, Paint::Color(RULE_COLOR));
 }
 
-/// An upright bar of blocks, of which the lower ones are lit.
-struct Bar<'a> {
-    x: f64,
-    fill: f64,
-    low: &'a str,
-    high: &'a str,
+/// The display's outline, moved inwards: arcs round both dials, joined by straight lines above and below.
+fn waisted(inset: f64) -> Shape {
+    let radius = dial::RADIUS + CLEARANCE + inset;
+    let span = ((HALF_HEIGHT - inset) / radius).asin().to_degrees();
+    let left = Side { center: speed::CENTER, facing: 0.0, inwards: 1.0, radius, span };
+    let right = Side { center: brake::CENTER, facing: 180.0, inwards: -1.0, radius, span };
+    let shape = left.append(Shape::new().move_to(left.edge(-1.0)));
+    right.append(shape.line_to(right.edge(-1.0)))
 }
 
-impl Bar<'_> {
-    const WIDTH: f64 = 24.0;
-    const BOTTOM: f64 = 218.0;
-    const STEP: f64 = 9.5;
+/// A side of the display: an arc round a dial, between two corners that are rounded.
+struct Side {
+    center: Point,
+    /// The angle of the arc's middle in degrees, and the way from there into the display.
+    facing: f64,
+    inwards: f64,
+    radius: f64,
+    /// Degrees from the arc's middle to its corners.
+    span: f64,
+}
 
-    fn draw(&self, canvas: &Canvas, colors: &[(f32, u32)], draws: &mut Vec<Draw>) {
-        let lit = (self.fill * f64::from(BLOCKS)).round() as i32;
-        let top = Self::BOTTOM + Self::STEP * f64::from(BLOCKS);
-        draws.push(canvas.fill(self.blocks(lit..BLOCKS), 0x24405A, 0.75));
-        draws.push(canvas.vertical(self.blocks(0..lit), Self::BOTTOM, top, colors));
-        let middle = self.x + Self::WIDTH / 2.0;
-        let labels = Shape::new().text(self.low, (middle, 206.0), 12.0).text(self.high, (middle, 344.0), 12.0);
-        draws.push(canvas.fill(labels, 0xB8CCE0, 1.0));
+impl Side {
+    /// The first corner (-1) or the second (1).
+    fn corner(&self, which: f64) -> Point {
+        on_circle(self.center, self.radius, self.facing + which * self.span)
     }
 
-    fn blocks(&self, numbers: std::ops::Range<i32>) -> Shape {
-        numbers.fold(Shape::new(), |shape, i| {
-            shape.rectangle(self.x, Self::BOTTOM + Self::STEP * f64::from(i), Self::WIDTH, Self::STEP - 2.5)
-        })
+    /// Where a corner's rounding meets the straight edge.
+    fn edge(&self, which: f64) -> Point {
+        let (x, y) = self.corner(which);
+        (x + self.inwards * CORNER, y)
     }
+
+    /// From the first corner's edge, where the shape ends, to the second's.
+    fn append(&self, shape: Shape) -> Shape {
+        let arc = self.span - (CORNER / self.radius).to_degrees();
+        let (from, to) = (self.facing - arc, self.facing + arc);
+        let shape = rounded(shape, self.corner(-1.0), on_circle(self.center, self.radius, from));
+        rounded(shape.arc(self.center, self.radius, from, to), self.corner(1.0), self.edge(1.0))
+    }
+}
+
+/// A rounded corner from where the shape ends.
+fn rounded(shape: Shape, corner: Point, to: Point) -> Shape {
+    let pull = |end: f64, corner: f64| end + (corner - end) * CORNER_PULL;
+    let towards = |end: Point| (pull(end.0, corner.0), pull(end.1, corner.1));
+    let from = shape.end();
+    shape.cubic_to(towards(from), towards(to), to)
+}
+
+/// The line's number on a plate, the next stop beside it, and below the time and the temperature outside.
+const PLATE_ROW: f64 = 174.0;
+const PLATE_PADDING: f64 = 9.0;
+const PLATE_HEIGHT: f64 = 30.0;
+const PLATE_CORNER: f64 = 6.0;
+const PLATE_STOPS: Stops = &[(0.0, 0xFFD35AFF), (1.0, 0xF2A81CFF)];
+const PLATE_INK: Color = 0x15110AFF;
+const LINE_HEIGHT: f64 = 20.0;
+const STOP_HEIGHT: f64 = 18.0;
+const STOP_GAP: f64 = 12.0;
+const STOP_COLOR: Color = 0xF4F8FCFF;
+const WEATHER_ROW: f64 = 134.0;
+const WEATHER_HEIGHT: f64 = 18.0;
+const WEATHER_COLOR: Color = 0x9DB4C9FF;
+
+pub fn trip(canvas: &mut Canvas, trip: &Trip) {
+    let plate = font::width(trip.line, LINE_HEIGHT) + 2.0 * PLATE_PADDING;
+    let width = plate + STOP_GAP + font::width(trip.next_stop, STOP_HEIGHT);
+    let (left, bottom) = (MIDDLE - width / 2.0, PLATE_ROW - PLATE_HEIGHT / 2.0);
+    canvas.fill(
+        Shape::new().rounded_rectangle(left, bottom, plate, PLATE_HEIGHT, PLATE_CORNER),
+        Paint::rows(bottom + PLATE_HEIGHT, bottom, PLATE_STOPS),
+    );
+    let middle = (left + plate / 2.0, PLATE_ROW);
+    canvas.write(trip.line, middle, LINE_HEIGHT, PLATE_INK);
+    let next_stop = (trip.next_stop, (left + plate + STOP_GAP, PLATE_ROW));
+    canvas.write_all(&[next_stop], STOP_HEIGHT, STOP_COLOR);
+    let right = MIDDLE + RULE_HALF - font::width(trip.outside, WEATHER_HEIGHT);
+    let weather = [(trip.time, (MIDDLE - RULE_HALF, WEATHER_ROW)), (trip.outside, (right, WEATHER_ROW))];
+    canvas.write_all(&weather, WEATHER_HEIGHT, WEATHER_COLOR);
 }

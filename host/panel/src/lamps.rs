@@ -1,140 +1,96 @@
-//! The row of lamps: turn signals, beams, and warnings. A lamp that is off is still faintly seen.
+//! Lamps: a row of small ones above the dials, and two great ones in the display. One that is off is faintly seen.
 
-use scene::Draw;
+use crate::canvas::{Canvas, Color, Paint, Stops};
+use crate::display::MIDDLE;
+use crate::shape::{Point, Shape};
+use crate::signs::{self, Brake};
+use crate::Readings;
 
-use crate::shape::Shape;
-use crate::{Canvas, Readings};
+const GREEN: Color = 0x37E37AFF;
+const BLUE: Color = 0x4C95FFFF;
+const AMBER: Color = 0xFFB21FFF;
+const RED: Color = 0xFF5C4EFF;
+const OFF: Color = 0x9AA5B23C;
 
-const ROW: f64 = 536.0;
+/// The row of small lamps, the step from one to the next, and how far from the middle the turn signals are.
+const ROW: f64 = 537.0;
+const STEP: f64 = 60.0;
+const TURN_SHIFT: f64 = 201.0;
 
-pub(crate) fn lamps(canvas: &Canvas, readings: &Readings, draws: &mut Vec<Draw>) {
-    let mut lamp = |shape: Shape, color: u32, on: bool| {
-        let draw = if on { canvas.fill(shape, color, 1.0) } else { canvas.fill(shape, 0x8A93A0, 0.16) };
-        draws.push(draw);
-    };
-    lamp(arrow(392.0, -1.0), 0x2BE060, readings.left_turn);
-    lamp(arrow(632.0, 1.0), 0x2BE060, readings.right_turn);
-    lamp(high_beam(448.0), 0x3F86FF, true);
-    lamp(brake(512.0), 0xFF2E24, false);
-    lamp(battery(576.0), 0xFF3A2A, false);
-    lamp(oil(320.0), 0xFF3A2A, false);
-    lamp(engine(704.0), 0xFFA51E, true);
-}
+const STOP_BRAKE: Brake = Brake { ring: 15.0, brackets: 22.0, line: 3.0 };
+const STOP_BRAKE_LETTER: f64 = 15.0;
 
-/// An arrow to the left (-1) or right (1).
-fn arrow(x: f64, way: f64) -> Shape {
-    let points = [(20.0, 0.0), (0.0, 17.0), (0.0, 8.0), (-18.0, 8.0), (-18.0, -8.0), (0.0, -8.0), (0.0, -17.0)];
-    Shape::new().polygon(&points.map(|(px, py)| (x + way * px, ROW + py)))
-}
-
-/// A lamp's housing with five rays to the left.
-fn high_beam(x: f64) -> Shape {
-    let rays =
-        (-2..=2).fold(Shape::new(), |shape, i| shape.rectangle(x - 20.0, ROW + 6.5 * f64::from(i) - 1.4, 16.0, 2.8));
-    let housing = [(0.0, -15.0), (7.0, -14.0), (14.0, -8.0), (17.0, 0.0), (14.0, 8.0), (7.0, 14.0), (0.0, 15.0)];
-    let hollow = [(3.0, -11.5), (6.5, -10.8), (11.5, -6.4), (13.7, 0.0), (11.5, 6.4), (6.5, 10.8), (3.0, 11.5)];
-    rays.polygon(&housing.map(|(px, py)| (x + px, ROW + py))).polygon(&hollow.map(|(px, py)| (x + px, ROW + py)))
-}
-
-/// A ring between two brackets, with a P in it.
-fn brake(x: f64) -> Shape {
-    let center = (x, ROW);
-    Shape::new()
-        .ring(center, 14.0, 11.2)
-        .band(center, 20.0, 17.2, -45.0, 45.0)
-        .band(center, 20.0, 17.2, 135.0, 225.0)
-        .text("P", center, 13.0)
-}
-
-/// A box with two poles and their signs.
-fn battery(x: f64) -> Shape {
-    Shape::new()
-        .rectangle(x - 18.0, ROW - 12.0, 36.0, 22.0)
-        .rectangle(x - 15.0, ROW - 9.0, 30.0, 16.0)
-        .rectangle(x - 13.0, ROW + 10.0, 7.0, 4.0)
-        .rectangle(x + 6.0, ROW + 10.0, 7.0, 4.0)
-        .rectangle(x - 12.0, ROW - 2.2, 8.0, 2.6)
-        .polygon(
-            &[
-                (4.0, -2.2),
-                (6.7, -2.2),
-                (6.7, -4.9),
-                (9.3, -4.9),
-                (9.3, -2.2),
-                (12.0, -2.2),
-                (12.0, 0.4),
-                (9.3, 0.4),
-                (9.3, 3.1),
-                (6.7, 3.1),
-                (6.7, 0.4),
-                (4.0, 0.4),
-            ]
-            .map(|(px, py)| (x + px, ROW + py)),
-        )
-}
-
-/// A can with a spout and a drop.
-fn oil(x: f64) -> Shape {
-    let can = [
-        (-16.0, 6.0),
-        (-16.0, -9.0),
-        (8.0, -9.0),
-        (21.0, 5.0),
-        (18.5, 7.0),
-        (9.0, 1.0),
-        (4.0, 6.0),
-        (-2.0, 6.0),
-        (-2.0, 9.0),
-        (1.0, 9.0),
-        (1.0, 12.0),
-        (-9.0, 12.0),
-        (-9.0, 9.0),
-        (-6.0, 9.0),
-        (-6.0, 6.0),
+pub fn small_lamps(canvas: &mut Canvas, readings: &Readings) {
+    turn_signal(canvas, -1.0, readings.left_turn);
+    turn_signal(canvas, 1.0, readings.right_turn);
+    let place = |number: f64| (MIDDLE + number * STEP, ROW);
+    let stop_brake = STOP_BRAKE.at(place(0.0)).text("H", place(0.0), STOP_BRAKE_LETTER);
+    let lamps = [
+        (signs::HIGH_BEAM.at(place(-2.0)), BLUE, readings.high_beam),
+        (signs::LOW_BEAM.at(place(-1.0)), GREEN, readings.low_beam),
+        (stop_brake, AMBER, readings.stop_brake),
+        (signs::BATTERY.at(place(1.0)), RED, readings.battery),
+        (signs::ENGINE.at(place(2.0)), AMBER, readings.engine),
     ];
-    let drop = [(21.0, 0.0), (23.5, -5.0), (21.0, -8.0), (18.5, -5.0)];
-    Shape::new().polygon(&can.map(|(px, py)| (x + px, ROW + py))).polygon(&drop.map(|(px, py)| (x + px, ROW + py)))
+    for (sign, color, on) in lamps {
+        canvas.fill(sign, Paint::Color(if on { color } else { OFF }));
+    }
 }
 
-/// The outline of an engine.
-fn engine(x: f64) -> Shape {
-    let outline = [
-        (-20.0, -6.0),
-        (-16.5, -6.0),
-        (-16.5, -1.5),
-        (-13.0, -1.5),
-        (-13.0, -7.0),
-        (-9.0, -7.0),
-        (-5.0, -12.0),
-        (12.0, -12.0),
-        (12.0, -5.0),
-        (15.0, -5.0),
-        (15.0, -9.0),
-        (20.0, -9.0),
-        (20.0, 6.0),
-        (15.0, 6.0),
-        (15.0, 2.0),
-        (12.0, 2.0),
-        (12.0, 5.0),
-        (8.0, 9.0),
-        (3.0, 9.0),
-        (3.0, 12.0),
-        (8.0, 12.0),
-        (8.0, 15.0),
-        (-8.0, 15.0),
-        (-8.0, 12.0),
-        (-3.0, 12.0),
-        (-3.0, 9.0),
-        (-9.0, 9.0),
-        (-13.0, 5.0),
-        (-13.0, 2.0),
-        (-16.5, 2.0),
-        (-16.5, 7.0),
-        (-20.0, 7.0),
-    ];
-    let hollow =
-        [(-9.8, -3.8), (-7.4, -3.8), (-3.5, -9.0), (9.0, -9.0), (9.0, 3.8), (6.8, 6.0), (-7.8, 6.0), (-9.8, 4.0)];
-    Shape::new()
-        .polygon(&outline.map(|(px, py)| (x + px, ROW + py)))
-        .polygon(&hollow.map(|(px, py)| (x + px, ROW + py)))
+/// An arrow to the left (-1) or right (1), with its light on the board.
+fn turn_signal(canvas: &mut Canvas, side: f64, on: bool) {
+    let center = (MIDDLE + side * TURN_SHIFT, ROW);
+    halo(canvas, center, TURN_HALO, if on { TURN_HALO_STOPS } else { DARK });
+    canvas.fill(signs::arrow(center, side), Paint::Color(if on { GREEN } else { OFF }));
+}
+
+/// How far a lamp's light reaches, and how it fades.
+const TURN_HALO: f64 = 40.0;
+const TURN_HALO_STOPS: Stops = &[(0.0, 0x37E37A70), (0.5, 0x37E37A24), (1.0, 0x37E37A00)];
+const GREAT_HALO: f64 = 62.0;
+const GREAT_HALO_STOPS: Stops = &[(0.45, 0xFF2A1C6A), (0.75, 0xFF2A1C22), (1.0, 0xFF2A1C00)];
+const DARK: Stops = &[(0.0, 0x00000000)];
+
+fn halo(canvas: &mut Canvas, center: Point, radius: f64, stops: Stops) {
+    canvas.fill(Shape::new().circle(center, radius), Paint::glow(center, radius, stops));
+}
+
+/// The places of the great lamps.
+const GREAT_ROW: f64 = 411.0;
+const GREAT_SHIFT: f64 = 55.0;
+
+pub fn great_lamps(canvas: &mut Canvas, readings: &Readings) {
+    stop_sign(canvas, (MIDDLE - GREAT_SHIFT, GREAT_ROW), readings.stop_requested);
+    parking_brake(canvas, (MIDDLE + GREAT_SHIFT, GREAT_ROW), readings.parking_brake);
+}
+
+/// The sign of a requested stop: the radius of its corners, that of the line within its edge, and the letters.
+const SIGN_RADIUS: f64 = 44.0;
+const SIGN_LINE_RADIUS: f64 = 40.0;
+const SIGN_LINE: f64 = 3.2;
+const SIGN_LETTERS: f64 = 20.0;
+const SIGN_LEAN: f64 = 0.45;
+const SIGN_ON: Stops = &[(0.0, 0xFF6A58FF), (0.5, 0xF02A1DFF), (1.0, 0xB3120BFF)];
+const SIGN_OFF: Stops = &[(0.0, 0x3A1C1CFF), (1.0, 0x1C0F12FF)];
+const SIGN_INK_ON: Color = 0xFFFFFFFF;
+const SIGN_INK_OFF: Color = 0x8A6A6AFF;
+
+/// An octagon with a word, lit when a passenger has asked for the next stop.
+fn stop_sign(canvas: &mut Canvas, center: Point, on: bool) {
+    halo(canvas, center, GREAT_HALO, if on { GREAT_HALO_STOPS } else { DARK });
+    let plate = Shape::new().polygon(&signs::octagon(center, SIGN_RADIUS));
+    canvas.fill(plate, Paint::dome(center, SIGN_RADIUS, SIGN_LEAN, if on { SIGN_ON } else { SIGN_OFF }));
+    let line = Shape::new().border(&signs::octagon(center, SIGN_LINE_RADIUS), SIGN_LINE);
+    let ink = line.text("STOP", center, SIGN_LETTERS);
+    canvas.fill(ink, Paint::Color(if on { SIGN_INK_ON } else { SIGN_INK_OFF }));
+}
+
+const PARKING_BRAKE: Brake = Brake { ring: 27.0, brackets: 38.0, line: 4.6 };
+const PARKING_BRAKE_LETTER: f64 = 29.0;
+const PARKING_BRAKE_OFF: Color = 0x9AA5B244;
+
+fn parking_brake(canvas: &mut Canvas, center: Point, on: bool) {
+    halo(canvas, center, GREAT_HALO, if on { GREAT_HALO_STOPS } else { DARK });
+    let sign = PARKING_BRAKE.at(center).text("P", center, PARKING_BRAKE_LETTER);
+    canvas.fill(sign, Paint::Color(if on { RED } else { PARKING_BRAKE_OFF }));
 }

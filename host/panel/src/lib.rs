@@ -1,15 +1,26 @@
-//! A driver's instrument panel: two dials, a display with bars between them, and a row of lamps.
+//! A bus driver's instrument panel: a dial for the speed and one for the brake pressure, between them a display with
+//! the doors, lamps above and two small gauges below.
 //!
 //! The panel is laid out in pixels of 1,024 by 600, row 0 the lowest, and can be drawn at any smaller scale.
 #![forbid(unsafe_code)]
 
+mod brake;
+mod canvas;
 mod dial;
 mod display;
+mod doors;
 mod font;
+mod gauges;
 mod lamps;
 mod shape;
+mod signs;
+mod speed;
+mod stroke;
 
-use scene::{Draw, Scene};
+pub use doors::Door;
+
+use canvas::{Canvas, Color, Paint, Stops};
+use scene::Scene;
 use shape::Shape;
 
 pub const WIDTH: f64 = 1_024.0;
@@ -18,50 +29,91 @@ pub const HEIGHT: f64 = 600.0;
 /// What the instruments show.
 #[derive(Clone, Debug)]
 pub struct Readings {
-    /// Kilometres an hour, 0 to 240.
+    /// Kilometres an hour, 0 to 125.
     pub speed: f64,
-    /// Thousands of turns a minute, 0 to 8.
-    pub turns: f64,
+    /// Bar, 0 to 12, in the brake's two circuits.
+    pub brake_pressure: [f64; 2],
+    /// From the front to the rear.
+    pub doors: [Door; 3],
+    pub stop_requested: bool,
+    pub parking_brake: bool,
+    pub stop_brake: bool,
+    pub left_turn: bool,
+    pub right_turn: bool,
+    pub low_beam: bool,
+    pub high_beam: bool,
+    pub battery: bool,
+    pub engine: bool,
     /// 0 to 1.
     pub fuel: f64,
     /// 0 to 1.
-    pub temperature: f64,
-    pub odometer: u32,
-    pub left_turn: bool,
-    pub right_turn: bool,
+    pub coolant: f64,
+    pub trip: Trip,
 }
 
+/// What the display says in words.
+#[derive(Clone, Debug)]
+pub struct Trip {
+    pub line: &'static str,
+    pub next_stop: &'static str,
+    pub time: &'static str,
+    pub outside: &'static str,
+}
+
+/// A bus that rolls into its stop, slowly enough for its doors to be free.
 impl Default for Readings {
     fn default() -> Readings {
         Readings {
-            speed: 87.0,
-            turns: 3.2,
-            fuel: 0.62,
-            temperature: 0.48,
-            odometer: 48_236,
-            left_turn: true,
-            right_turn: false,
+            speed: 4.0,
+            brake_pressure: [9.4, 10.1],
+            doors: [Door::Open, Door::Closed, Door::Moving],
+            stop_requested: true,
+            parking_brake: false,
+            stop_brake: false,
+            left_turn: false,
+            right_turn: true,
+            low_beam: true,
+            high_beam: false,
+            battery: false,
+            engine: false,
+            fuel: 0.7,
+            coolant: 0.5,
+            trip: Trip { line: "42", next_stop: "CITY HALL", time: "14:30", outside: "21°C" },
         }
+    }
+}
+
+impl Readings {
+    /// The next frame: slower, and the second door begins to move.
+    pub fn next(&self) -> Readings {
+        let [front, _, rear] = self.doors;
+        Readings { speed: self.speed / 2.0, doors: [front, Door::Moving, rear], ..self.clone() }
     }
 }
 
 /// The panel at a scale of at most 1, which is 1,024 by 600 pixels.
 pub fn panel(readings: &Readings, scale: f64) -> Scene {
-    let side = |pixels: f64| (pixels * scale).round() as u16;
-    let mut scene = Scene::new(side(WIDTH), side(HEIGHT), [9, 10, 13, 255]);
-    let canvas = Canvas { scale };
-    body(&canvas, &mut scene.draws);
-    dial::speed(&canvas, readings.speed, &mut scene.draws);
-    dial::turns(&canvas, readings.turns, &mut scene.draws);
-    display::display(&canvas, readings, &mut scene.draws);
-    lamps::lamps(&canvas, readings, &mut scene.draws);
-    scene
+    let mut canvas = Canvas::new(WIDTH, HEIGHT, scale, BACKGROUND);
+    board(&mut canvas);
+    dial::housing(&mut canvas, speed::CENTER);
+    dial::housing(&mut canvas, brake::CENTER);
+    dial::windows(&mut canvas, [&speed::WINDOW].into_iter().chain(&brake::WINDOWS));
+    dial::units(&mut canvas, [speed::unit(), brake::unit(), brake::sign()]);
+    speed::dial(&mut canvas, readings.speed);
+    brake::dial(&mut canvas, readings.brake_pressure);
+    display::display(&mut canvas);
+    lamps::great_lamps(&mut canvas, readings);
+    doors::doors(&mut canvas, readings.doors);
+    display::trip(&mut canvas, &readings.trip);
+    lamps::small_lamps(&mut canvas, readings);
+    gauges::gauges(&mut canvas, readings.fuel, readings.coolant);
+    canvas.scene()
 }
 
 /// The scene files of the folder scenes: the panel and its next frame, in full size and a quarter of it.
 pub fn files() -> Vec<(&'static str, Scene)> {
     let now = Readings::default();
-    let next = Readings { speed: 92.0, ..Readings::default() };
+    let next = now.next();
     vec![
         ("panel.scene", panel(&now, 1.0)),
         ("panel-next.scene", panel(&next, 1.0)),
@@ -70,73 +122,14 @@ pub fn files() -> Vec<(&'static str, Scene)> {
     ]
 }
 
-/// The housing: a dark board with a lighter trim along its lower edge.
-fn body(canvas: &Canvas, draws: &mut Vec<Draw>) {
-    let board = Shape::new().rounded_rectangle(8.0, 8.0, 1_008.0, 584.0, 60.0);
-    draws.push(canvas.vertical(board, 592.0, 8.0, &[(0.0, 0x2A2E36), (0.55, 0x171A20), (1.0, 0x0D0F13)]));
-    let trim = Shape::new().rounded_rectangle(250.0, 22.0, 524.0, 10.0, 5.0);
-    let mut brushed = canvas.horizontal(trim, 250.0, 381.0, &[(0.0, 0x3A4049), (1.0, 0x9AA3AF)]);
-    brushed.spread = scene::Spread::Reflect;
-    draws.push(brushed);
-}
+const BACKGROUND: Color = 0x07080AFF;
+const BOARD_CORNER: f64 = 60.0;
+const BOARD_MARGIN: f64 = 8.0;
+const BOARD_STOPS: Stops = &[(0.0, 0x343A43FF), (0.5, 0x1B1F25FF), (1.0, 0x0D0F13FF)];
 
-/// Brings shapes and gradients in panel pixels onto a surface of some scale.
-struct Canvas {
-    scale: f64,
-}
-
-impl Canvas {
-    /// A shape in one colour, 0xRRGGBB, with an alpha.
-    fn fill(&self, shape: Shape, color: u32, alpha: f32) -> Draw {
-        let unit = (self.scale / shape::UNITS) as f32;
-        Draw {
-            fill_rule: shape.fill_rule,
-            matrix: [unit, 0.0, 0.0, unit, 0.0, 0.0],
-            color: rgba(color, alpha),
-            path: shape.path,
-            ..Draw::default()
-        }
-    }
-
-    /// A shape with a ramp between two points in panel pixels.
-    fn ramp(&self, shape: Shape, from: (f64, f64), to: (f64, f64), stops: &[(f32, u32, f32)]) -> Draw {
-        let points = [from.0, from.1, to.0, to.1];
-        Draw {
-            paint: scene::PaintType::Linear,
-            premultiplied_ramp: true,
-            linear: points.map(|v| (v * self.scale) as f32),
-            stops: stops
-                .iter()
-                .map(|&(offset, color, alpha)| scene::Stop { offset, color: rgba(color, alpha) })
-                .collect(),
-            ..self.fill(shape, 0, 1.0)
-        }
-    }
-
-    /// An opaque ramp from one row to another.
-    fn vertical(&self, shape: Shape, from: f64, to: f64, stops: &[(f32, u32)]) -> Draw {
-        self.ramp(shape, (0.0, from), (0.0, to), &opaque(stops))
-    }
-
-    /// An opaque ramp from one column to another.
-    fn horizontal(&self, shape: Shape, from: f64, to: f64, stops: &[(f32, u32)]) -> Draw {
-        self.ramp(shape, (from, 0.0), (to, 0.0), &opaque(stops))
-    }
-
-    /// Turns a draw whose shape lies about the origin by an angle in degrees, and moves the origin to a point.
-    fn turned(&self, draw: Draw, degrees: f64, to: (f64, f64)) -> Draw {
-        let unit = self.scale / shape::UNITS;
-        let (sin, cos) = degrees.to_radians().sin_cos();
-        let matrix = [unit * cos, unit * sin, -unit * sin, unit * cos, to.0 * self.scale, to.1 * self.scale];
-        Draw { matrix: matrix.map(|v| v as f32), ..draw }
-    }
-}
-
-fn opaque(stops: &[(f32, u32)]) -> Vec<(f32, u32, f32)> {
-    stops.iter().map(|&(offset, color)| (offset, color, 1.0)).collect()
-}
-
-fn rgba(color: u32, alpha: f32) -> [f32; 4] {
-    let channel = |shift: u32| (color >> shift & 255) as f32 / 255.0;
-    [channel(16), channel(8), channel(0), alpha]
+/// The board that holds the instruments.
+fn board(canvas: &mut Canvas) {
+    let (width, height) = (WIDTH - 2.0 * BOARD_MARGIN, HEIGHT - 2.0 * BOARD_MARGIN);
+    let board = Shape::new().rounded_rectangle(BOARD_MARGIN, BOARD_MARGIN, width, height, BOARD_CORNER);
+    canvas.fill(board, Paint::rows(HEIGHT, 0.0, BOARD_STOPS));
 }

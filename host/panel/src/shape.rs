@@ -3,9 +3,17 @@
 use scene::{FillRule, Path};
 
 use crate::font;
+use crate::stroke::{self, Line};
 
 /// Path units in a panel pixel.
 pub const UNITS: f64 = 16.0;
+/// What a draw has places for, in the file's oldest and its newer edition.
+const MOST_SEGMENTS: usize = 128;
+const MOST_COORDINATES: usize = 550;
+/// The greatest part of a circle, in degrees, that is drawn as one cubic.
+const GREATEST_ARC: f64 = 90.0;
+
+pub type Point = (f64, f64);
 
 /// A path with the rule that fills it. Each method appends a closed part and returns the shape.
 #[derive(Clone, Debug, Default)]
@@ -15,124 +23,140 @@ pub struct Shape {
 }
 
 impl Shape {
-    /// An empty shape. Parts that lie in others are holes.
+    /// An empty shape. Parts that lie in others are holes, until lines or text are appended.
     pub fn new() -> Shape {
         Shape::default()
     }
 
-    fn append(self, with: impl FnOnce(Path) -> Path) -> Shape {
-        Shape { path: with(self.path), ..self }
+    pub fn move_to(self, to: Point) -> Shape {
+        let (x, y) = units(to);
+        Shape { path: self.path.move_to(x, y), ..self }
     }
 
-    pub fn polygon(self, points: &[(f64, f64)]) -> Shape {
-        let points: Vec<(i16, i16)> = points.iter().map(|&p| units(p)).collect();
-        // The last side is drawn where the next part begins, or the path ends.
-        self.append(|path| {
-            points[1..].iter().fold(path.move_to(points[0].0, points[0].1), |path, &(x, y)| path.line_to(x, y))
-        })
+    /// The point where the path stands; every segment here ends with its point.
+    pub fn end(&self) -> Point {
+        let [.., x, y] = self.path.coordinates[..] else { panic!("an empty path stands nowhere") };
+        (f64::from(x) / UNITS, f64::from(y) / UNITS)
+    }
+
+    pub fn line_to(self, to: Point) -> Shape {
+        let (x, y) = units(to);
+        if (f64::from(x) / UNITS, f64::from(y) / UNITS) == self.end() {
+            return self;
+        }
+        Shape { path: self.path.line_to(x, y), ..self }
+    }
+
+    pub fn cubic_to(self, first: Point, second: Point, to: Point) -> Shape {
+        Shape { path: self.path.cubic_to(units(first), units(second), units(to)), ..self }
+    }
+
+    /// The last side is drawn where the next part begins, or the path ends.
+    pub fn polygon(self, points: &[Point]) -> Shape {
+        points[1..].iter().fold(self.move_to(points[0]), |shape, &point| shape.line_to(point))
     }
 
     pub fn rectangle(self, x: f64, y: f64, width: f64, height: f64) -> Shape {
-        let ((x0, y0), (x1, y1)) = (units((x, y)), units((x + width, y + height)));
-        self.append(|path| path.move_to(x0, y0).horizontal_to(x1).vertical_to(y1).horizontal_to(x0))
+        self.polygon(&[(x, y), (x + width, y), (x + width, y + height), (x, y + height)])
     }
 
     pub fn rounded_rectangle(self, x: f64, y: f64, width: f64, height: f64, radius: f64) -> Shape {
         let (left, right) = (x + radius, x + width - radius);
         let (bottom, top) = (y + radius, y + height - radius);
-        let (sx, sy) = units((right, y));
-        let shape = self.append(|path| path.move_to(sx, sy));
-        shape
-            .corner((right, bottom), radius, -90.0)
-            .corner((right, top), radius, 0.0)
-            .corner((left, top), radius, 90.0)
-            .corner((left, bottom), radius, 180.0)
+        self.move_to((right, y))
+            .arc((right, bottom), radius, -90.0, 0.0)
+            .arc((right, top), radius, 0.0, 90.0)
+            .arc((left, top), radius, 90.0, 180.0)
+            .arc((left, bottom), radius, 180.0, 270.0)
     }
 
-    /// A line to where a quarter circle about a centre begins, and the quarter circle.
-    fn corner(self, center: (f64, f64), radius: f64, from: f64) -> Shape {
-        let (x, y) = units(on_circle(center, radius, from));
-        self.append(|path| path.line_to(x, y)).arc(center, radius, from, from + 90.0)
+    /// Clockwise, as lines are.
+    pub fn circle(self, center: Point, radius: f64) -> Shape {
+        self.move_to(on_circle(center, radius, 0.0)).arc(center, radius, 0.0, -360.0)
     }
 
-    pub fn circle(self, center: (f64, f64), radius: f64) -> Shape {
-        let (x, y) = units(on_circle(center, radius, 0.0));
-        self.append(|path| path.move_to(x, y)).arc(center, radius, 0.0, 360.0)
-    }
-
-    pub fn ring(self, center: (f64, f64), outer: f64, inner: f64) -> Shape {
-        self.circle(center, outer).circle(center, inner)
+    /// A hollow circle, by either fill rule.
+    pub fn ring(self, center: Point, outer: f64, inner: f64) -> Shape {
+        self.circle(center, outer).move_to(on_circle(center, inner, 0.0)).arc(center, inner, 0.0, 360.0)
     }
 
     /// The part of a ring between two angles in degrees, counter-clockwise from the right.
-    pub fn band(self, center: (f64, f64), outer: f64, inner: f64, from: f64, to: f64) -> Shape {
-        let (x0, y0) = units(on_circle(center, outer, from));
-        let (x1, y1) = units(on_circle(center, inner, to));
-        self.append(|path| path.move_to(x0, y0))
-            .arc(center, outer, from, to)
-            .append(|path| path.line_to(x1, y1))
-            .arc(center, inner, to, from)
+    pub fn band(self, center: Point, outer: f64, inner: f64, from: f64, to: f64) -> Shape {
+        self.move_to(on_circle(center, outer, from)).arc(center, outer, from, to).arc(center, inner, to, from)
     }
 
     /// A bar along the ray at an angle, from an inner to an outer distance.
-    pub fn tick(self, center: (f64, f64), inner: f64, outer: f64, width: f64, degrees: f64) -> Shape {
-        let (sin, cos) = degrees.to_radians().sin_cos();
-        let corner =
-            |along: f64, across: f64| (center.0 + along * cos - across * sin, center.1 + along * sin + across * cos);
+    pub fn tick(self, center: Point, inner: f64, outer: f64, width: f64, degrees: f64) -> Shape {
+        self.slanted_tick(center, (inner, degrees), (outer, degrees), width)
+    }
+
+    /// A bar between two places, each a distance from a centre and an angle, cut off along the ray's normal.
+    pub fn slanted_tick(self, center: Point, inner: (f64, f64), outer: (f64, f64), width: f64) -> Shape {
+        let end = |(distance, degrees): (f64, f64), by: f64| along_tangent(center, distance, degrees, by);
         let half = width / 2.0;
-        self.polygon(&[corner(inner, -half), corner(outer, -half), corner(outer, half), corner(inner, half)])
+        self.polygon(&[end(inner, -half), end(outer, -half), end(outer, half), end(inner, half)])
+    }
+
+    /// Lines of a letter or a sign, measured in a unit from an origin.
+    pub fn lines(self, lines: &[Line], origin: Point, unit: f64, width: f64) -> Shape {
+        stroke::lines(self.filled_as_one(), lines, origin, unit, width)
+    }
+
+    /// The line along a polygon's sides.
+    pub fn border(self, points: &[Point], width: f64) -> Shape {
+        stroke::border(self.filled_as_one(), points, width)
     }
 
     /// Text with its middle at a point; `height` is that of a digit.
-    pub fn text(self, text: &str, middle: (f64, f64), height: f64) -> Shape {
-        let scale = height / font::HEIGHT;
-        let left = middle.0 - font::width(text) * scale / 2.0;
-        self.text_from(text, (left, middle.1 - height / 2.0), height)
+    pub fn text(self, text: &str, middle: Point, height: f64) -> Shape {
+        let left = middle.0 - font::width(text, height) / 2.0;
+        font::write(self, text, (left, middle.1 - height / 2.0), height)
     }
 
-    /// Text from its lower left corner.
-    pub fn text_from(mut self, text: &str, corner: (f64, f64), height: f64) -> Shape {
-        let scale = height / font::HEIGHT;
-        let mut x = corner.0;
-        for letter in text.chars() {
-            let glyph = font::glyph(letter);
-            for contour in glyph.contours {
-                let points: Vec<(f64, f64)> =
-                    contour.iter().map(|&(px, py)| (x + px * scale, corner.1 + py * scale)).collect();
-                self = self.polygon(&points);
-            }
-            x += (glyph.width + font::GAP) * scale;
-        }
-        self
+    /// Both shapes, if a draw has places for them.
+    pub fn joined(&self, other: &Shape) -> Option<Shape> {
+        let (mut path, more) = (self.path.clone(), &other.path);
+        path.segments.extend(&more.segments);
+        path.coordinates.extend(&more.coordinates);
+        let as_one = [self.fill_rule, other.fill_rule].contains(&FillRule::NonZero);
+        let joined = Shape { path, fill_rule: if as_one { FillRule::NonZero } else { FillRule::EvenOdd } };
+        joined.fits().then_some(joined)
     }
 
-    /// Cubics of at most 45 degrees from the current point, which lies on the circle at `from`.
-    fn arc(mut self, center: (f64, f64), radius: f64, from: f64, to: f64) -> Shape {
-        let pieces = ((to - from).abs() / 45.0).ceil().max(1.0);
+    /// Whether a draw has places for the shape.
+    pub fn fits(&self) -> bool {
+        self.path.segments.len() <= MOST_SEGMENTS && self.path.coordinates.len() <= MOST_COORDINATES
+    }
+
+    /// A line to where an arc about a centre begins, and the arc.
+    pub fn arc(self, center: Point, radius: f64, from: f64, to: f64) -> Shape {
+        let pieces = ((to - from).abs() / GREATEST_ARC).ceil().max(1.0);
         let step = (to - from) / pieces;
         let reach = radius * 4.0 / 3.0 * (step.to_radians() / 4.0).tan();
-        for i in 0..pieces as i32 {
+        (0..pieces as i32).fold(self.line_to(on_circle(center, radius, from)), |shape, i| {
             let (start, end) = (from + step * f64::from(i), from + step * f64::from(i + 1));
             let first = along_tangent(center, radius, start, reach);
             let second = along_tangent(center, radius, end, -reach);
-            let last = on_circle(center, radius, end);
-            self = self.append(|path| path.cubic_to(units(first), units(second), units(last)));
-        }
-        self
+            shape.cubic_to(first, second, on_circle(center, radius, end))
+        })
+    }
+
+    fn filled_as_one(self) -> Shape {
+        Shape { fill_rule: FillRule::NonZero, ..self }
     }
 }
 
 /// The point of a circle at an angle in degrees, counter-clockwise from the right.
-pub fn on_circle(center: (f64, f64), radius: f64, degrees: f64) -> (f64, f64) {
+pub fn on_circle(center: Point, radius: f64, degrees: f64) -> Point {
     along_tangent(center, radius, degrees, 0.0)
 }
 
 /// The point of a circle at an angle, moved along the tangent.
-fn along_tangent(center: (f64, f64), radius: f64, degrees: f64, by: f64) -> (f64, f64) {
+fn along_tangent(center: Point, radius: f64, degrees: f64, by: f64) -> Point {
     let (sin, cos) = degrees.to_radians().sin_cos();
     (center.0 + radius * cos - by * sin, center.1 + radius * sin + by * cos)
 }
 
-fn units((x, y): (f64, f64)) -> (i16, i16) {
+fn units((x, y): Point) -> (i16, i16) {
     ((x * UNITS).round() as i16, (y * UNITS).round() as i16)
 }

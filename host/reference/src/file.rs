@@ -39,6 +39,9 @@ pub mod draw {
     pub const STOPS: usize = 132;
     pub const STOP_BYTES: usize = 20;
     pub const MAX_STOPS: usize = 32;
+    /// A radial gradient's five floats take the first stop's place.
+    pub const RADIAL: usize = STOPS;
+    pub const MAX_RADIAL_STOPS: usize = MAX_STOPS - 1;
     pub const SEGMENTS: usize = 772;
     pub const MAX_SEGMENTS: usize = 128;
     pub const COORDINATES: usize = 900;

@@ -17,6 +17,7 @@ pub mod paint;
 pub mod path;
 pub mod picture;
 pub mod print;
+pub mod radial;
 pub mod redraw;
 pub mod rules;
 

@@ -1,12 +1,13 @@
 //! Paint: colours as bytes, the linear gradient, spreads and the ramp of stops.
 
 use crate::number::scaled;
+use crate::radial::RadialGradient;
 
 /// Four bytes R, G, B, A.
 pub type Pixel = [u8; 4];
 
 /// One in 1/65,536, the unit of t and of the stops' offsets.
-const ONE: i64 = 65_536;
+pub const ONE: i64 = 65_536;
 
 #[derive(Debug)]
 pub enum Paint {
@@ -14,6 +15,11 @@ pub enum Paint {
     Color(Pixel),
     Linear {
         gradient: LinearGradient,
+        spread: Spread,
+        ramp: Ramp,
+    },
+    Radial {
+        gradient: RadialGradient,
         spread: Spread,
         ramp: Ramp,
     },
@@ -29,6 +35,7 @@ impl Paint {
         match self {
             Paint::Color(pixel) => *pixel,
             Paint::Linear { gradient, spread, ramp } => ramp.at(spread.map(gradient.at(x, y))),
+            Paint::Radial { gradient, spread, ramp } => ramp.at(spread.map(gradient.at(x, y))),
         }
     }
 }

@@ -7,12 +7,18 @@ use crate::file::{self, draw, header};
 use crate::number::{f32_at, i16_at, i32_at, u16_at};
 use crate::paint::{LinearGradient, Paint, Ramp, Spread, Stop};
 use crate::path::{self, Edge, Matrix, SegmentFault};
+use crate::radial::RadialGradient;
 
 const MAX_SIDE: u16 = 1_024;
 const MAX_DRAWS: u16 = 64;
 const MAX_SCALE: f32 = 256.0;
 const MAX_TRANSLATION: f32 = 32_768.0;
 const MAX_LINEAR: f32 = 4_096.0;
+const MAX_RADIAL: f32 = 1_024.0;
+
+const COLOR: u16 = 0x1B00;
+const LINEAR: u16 = 0x1B01;
+const RADIAL: u16 = 0x1B02;
 
 const FLAG_NON_ZERO: u16 = 1;
 const FLAG_SCISSORING: u16 = 2;
@@ -155,28 +161,27 @@ fn fields(bytes: &[u8]) -> Result<Fields, usize> {
     require(flags & !known == 0, draw::FLAGS)?;
     let blend = Blend::from_number(u16_at(bytes, draw::BLEND)).ok_or(draw::BLEND)?;
     let paint_type = u16_at(bytes, draw::PAINT);
-    require(matches!(paint_type, 0x1B00 | 0x1B01), draw::PAINT)?;
+    require(matches!(paint_type, COLOR | LINEAR | RADIAL), draw::PAINT)?;
     let spread = Spread::from_number(u16_at(bytes, draw::SPREAD)).ok_or(draw::SPREAD)?;
 
     let segments = count(bytes, draw::SEGMENT_COUNT, draw::MAX_SEGMENTS)?;
     let scissor_count = count(bytes, draw::SCISSOR_COUNT, draw::MAX_SCISSORS)?;
-    let stop_count = count(bytes, draw::STOP_COUNT, draw::MAX_STOPS)?;
+    let most_stops = if paint_type == RADIAL { draw::MAX_RADIAL_STOPS } else { draw::MAX_STOPS };
+    let stop_count = count(bytes, draw::STOP_COUNT, most_stops)?;
     require(bytes[draw::ZERO] == 0, draw::ZERO)?;
 
     let matrix = matrix(bytes)?;
     let color = floats(bytes, draw::COLOR, |v| !v.is_nan())?;
     let linear = floats(bytes, draw::LINEAR, |v| v.abs() <= MAX_LINEAR)?;
     let scissors = scissors(bytes, scissor_count)?;
-    let stops = stops(bytes, stop_count)?;
+    let radial = if paint_type == RADIAL { Some(radial(bytes)?) } else { None };
+    let first_stop = if radial.is_some() { draw::STOPS + draw::STOP_BYTES } else { draw::STOPS };
+    let ramp = Ramp::new(&stops(bytes, first_stop, stop_count)?, flags & FLAG_PREMULTIPLIED != 0);
 
-    let paint = if paint_type == 0x1B00 {
-        Paint::color(color)
-    } else {
-        Paint::Linear {
-            gradient: LinearGradient::new(linear),
-            spread,
-            ramp: Ramp::new(&stops, flags & FLAG_PREMULTIPLIED != 0),
-        }
+    let paint = match (paint_type, radial) {
+        (_, Some(gradient)) => Paint::Radial { gradient, spread, ramp },
+        (LINEAR, None) => Paint::Linear { gradient: LinearGradient::new(linear), spread, ramp },
+        _ => Paint::color(color),
     };
     Ok(Fields {
         fill_rule: if flags & FLAG_NON_ZERO != 0 { FillRule::NonZero } else { FillRule::EvenOdd },
@@ -227,15 +232,22 @@ fn scissors(bytes: &[u8], count: usize) -> Result<Vec<Scissor>, usize> {
         .collect())
 }
 
-/// The used stops, none with a NaN; unused ones are zero.
-fn stops(bytes: &[u8], count: usize) -> Result<Vec<Stop>, usize> {
+/// A radial gradient's five values within their limit, then its focal point, which is met at the first of them.
+fn radial(bytes: &[u8]) -> Result<RadialGradient, usize> {
+    let gradient = RadialGradient::new(floats(bytes, draw::RADIAL, |v| v.abs() <= MAX_RADIAL)?);
+    require(gradient.focal_point_allowed(), draw::RADIAL)?;
+    Ok(gradient)
+}
+
+/// The used stops from a place on, none with a NaN; unused ones are zero.
+fn stops(bytes: &[u8], first: usize, count: usize) -> Result<Vec<Stop>, usize> {
     let mut used = Vec::new();
     for i in 0..count {
-        let place = draw::STOPS + draw::STOP_BYTES * i;
+        let place = first + draw::STOP_BYTES * i;
         let [offset, r, g, b, a] = floats(bytes, place, |v| !v.is_nan())?;
         used.push(Stop { offset, color: [r, g, b, a] });
     }
-    let used_end = draw::STOPS + draw::STOP_BYTES * count;
+    let used_end = first + draw::STOP_BYTES * count;
     require_zeros(bytes, used_end, draw::SEGMENTS)?;
     Ok(used)
 }

@@ -33,7 +33,7 @@ fn check(path: &Path, printed: &str) {
 #[test]
 fn draws() {
     let scenes = files("draw", "scene");
-    assert_eq!(scenes.len(), 203);
+    assert_eq!(scenes.len(), 226);
     for scene in scenes {
         check(&scene, &print::drawing(&read(&scene)));
     }

@@ -50,6 +50,11 @@ pub enum PaintType {
     #[default]
     Color,
     Linear,
+    Radial,
+}
+
+impl PaintType {
+    pub const ALL: [PaintType; 3] = [PaintType::Color, PaintType::Linear, PaintType::Radial];
 }
 
 #[derive(Clone, Copy, Debug, Default, PartialEq, Eq)]
@@ -93,6 +98,8 @@ pub struct Draw {
     pub color: [f32; 4],
     /// x0, y0, x1, y1 in surface pixels.
     pub linear: [f32; 4],
+    /// cx, cy, fx, fy, r in surface pixels; a radial draw has them in place of the first stop, any other not at all.
+    pub radial: [f32; 5],
     pub scissors: Vec<Scissor>,
     pub stops: Vec<Stop>,
     pub path: Path,
@@ -110,6 +117,7 @@ impl Default for Draw {
             matrix: [1.0, 0.0, 0.0, 1.0, 0.0, 0.0],
             color: [0.0; 4],
             linear: [0.0; 4],
+            radial: [0.0; 5],
             scissors: Vec::new(),
             stops: Vec::new(),
             path: Path::default(),
@@ -149,7 +157,8 @@ impl Draw {
     /// The joined payloads.
     pub fn bytes(&self) -> [u8; DRAW_BYTES] {
         assert!(self.scissors.len() <= 4, "the layout has four scissors");
-        assert!(self.stops.len() <= 32, "the layout has 32 stops");
+        let radial = self.paint == PaintType::Radial;
+        assert!(self.stops.len() + usize::from(radial) <= 32, "the layout has 32 stops, a radial draw 31");
         let segments = &self.path.segments;
         let coordinates = &self.path.coordinates;
         assert!(segments.len() <= 128, "the layout has 128 segments");
@@ -175,9 +184,13 @@ impl Draw {
                 put(&mut bytes, 68 + 16 * i + 4 * j, &number.to_le_bytes());
             }
         }
+        if radial {
+            put_floats(&mut bytes, 132, &self.radial);
+        }
+        let first_stop = if radial { 152 } else { 132 };
         for (i, stop) in self.stops.iter().enumerate() {
-            put_floats(&mut bytes, 132 + 20 * i, &[stop.offset]);
-            put_floats(&mut bytes, 136 + 20 * i, &stop.color);
+            put_floats(&mut bytes, first_stop + 20 * i, &[stop.offset]);
+            put_floats(&mut bytes, first_stop + 4 + 20 * i, &stop.color);
         }
         put(&mut bytes, 772, segments);
         for (i, coordinate) in coordinates.iter().enumerate() {

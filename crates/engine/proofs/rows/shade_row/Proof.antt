@@ -8,7 +8,7 @@ use Rattle.lists.proofs.Laws.{part-length}
 use Rattle.blend.specs.Rows.{Coverage}
 use Rattle.engine.specs.declared.Shade.{Shade}
 use Rattle.engine.specs.Rows.{Shaded}
-use Rattle.engine.proofs.RowLaws.{covered-length, first-of, cover-part, paint-part, solid-row, linear-row}
+use Rattle.engine.proofs.RowLaws.{covered-length, first-of, cover-part, paint-part, solid-row, gradient-row}
 use borrow.Author.Needs.{needs}
 use Rattle.engine.proofs.rows.shade_row.Statement.{statement}
 use Rattle.engine.proofs.rows.shade_row.Tie as tie
@@ -18,14 +18,14 @@ covered : (c : tie.Start) → let s = c .args .strip in length (take (s .length)
 covered c = covered-length (c .args .buffer .now) (c .args .strip .length) (omega arith)
 
 -- the paint that is given back
-painted : (c : tie.After-linear-row)
+painted : (c : tie.After-gradient-row)
     → let entry = c .before .before .before .before .before .before .before .before in
-    let n = entry .args .strip .length in length (c .linear-row .last .1 .1 .1 .1 .1 .0) ≡ n * 5 - n
+    let n = entry .args .strip .length in length (c .gradient-row .last .1 .1 .1 .1 .1 .0) ≡ n * 5 - n
 painted c =
     let entry = c .before .before .before .before .before .before .before .before in
     let a = entry .args in
     let n = a .strip .length in
-    c .linear-row .kept .1 .1 .1 .1 .1 .0 ∙ part-length (a .buffer .now) n (n * 5) (omega arith) (omega (arith, entry .pre .1 .0 .2))
+    c .gradient-row .kept .1 .1 .1 .1 .1 .0 ∙ part-length (a .buffer .now) n (n * 5) (omega arith) (omega (arith, entry .pre .1 .0 .2))
 
 mul-m : tie.Need-mul-m
 mul-m c = search needs
@@ -53,17 +53,17 @@ composite-run-requires c κs =
 enum-known-shade-2 : tie.Need-enum-known-shade-2
 enum-known-shade-2 c = search needs
 
-sub-linear-row : tie.Need-sub-linear-row
-sub-linear-row c = search needs
+sub-gradient-row : tie.Need-sub-gradient-row
+sub-gradient-row c = search needs
 
-part-linear-row-start : tie.Need-part-linear-row-start
-part-linear-row-start c = search needs
+part-gradient-row-start : tie.Need-part-gradient-row-start
+part-gradient-row-start c = search needs
 
-part-linear-row-end : tie.Need-part-linear-row-end
-part-linear-row-end c = search needs
+part-gradient-row-end : tie.Need-part-gradient-row-end
+part-gradient-row-end c = search needs
 
-linear-row-requires : tie.Need-linear-row-requires
-linear-row-requires c κs =
+gradient-row-requires : tie.Need-gradient-row-requires
+gradient-row-requires c κs =
     let entry = c .before .before .before .before .before .before .before in
     let a = entry .args in
     let p = entry .pre in
@@ -92,18 +92,18 @@ part-composite-row-end-2 c = search needs
 
 composite-row-requires : tie.Need-composite-row-requires
 composite-row-requires c κs =
-    let after-linear-row = c .before .before .before .before .before .before in
-    let entry = after-linear-row .before .before .before .before .before .before .before .before in
+    let after-gradient-row = c .before .before .before .before .before .before in
+    let entry = after-gradient-row .before .before .before .before .before .before .before .before in
     let a = entry .args in
     let p = entry .pre in
     let o = p .1 .0 in
     let n = a .strip .length in
-    let q = after-linear-row .linear-row .last .1 .1 .1 .1 .1 .0 in
+    let q = after-gradient-row .gradient-row .last .1 .1 .1 .1 .1 .0 in
     let cover = cover-part (a .buffer .now) q _ n (omega (arith, o .2)) in
-    let paint = paint-part (a .buffer .now) q _ n (n * 5) (omega (arith, o .2)) (painted after-linear-row) in
+    let paint = paint-part (a .buffer .now) q _ n (n * 5) (omega (arith, o .2)) (painted after-gradient-row) in
     let long = ap length cover ∙ covered entry in
     let times = ap (λ (k : ℕ). k * 4) (sym long) in
-    ((ap length paint ∙ painted after-linear-row ∙ omega arith ∙ times, o .1 ∙ times), subst Coverage (sym cover) (p .1 .1))
+    ((ap length paint ∙ painted after-gradient-row ∙ omega arith ∙ times, o .1 ∙ times), subst Coverage (sym cover) (p .1 .1))
 
 same-length : tie.Need-same-length
 same-length c = search needs
@@ -130,16 +130,16 @@ same-length-4 c = search needs
 
 returns-2 : tie.Need-returns-2
 returns-2 c =
-    let after-linear-row = c .before .before .before .before .before .before .before .before .before in
-    let after-shade2 = after-linear-row .before .before .before in
+    let after-gradient-row = c .before .before .before .before .before .before .before .before .before in
+    let after-shade2 = after-gradient-row .before .before .before in
     let entry = after-shade2 .before .before .before .before .before in
     let a = entry .args in
     let s = a .strip in
-    let paint = after-linear-row .linear-row in
+    let paint = after-gradient-row .gradient-row in
     let call = c .before .before .composite-row in
     let arm = after-shade2 .shade2 .given in
-    linear-row (a .style .mode) (s .length) (s .x) (s .y) (a .buffer .now) (a .row .now) (a .ramp .now) (call .last .1 .1 .1 .0) (a .style .shade)
-    (arm .0 .0) (paint .last .1 .1 .1 .1 .1 .0) _ (s .length * 5) (arm .1) (omega (arith, entry .pre .1 .0 .2)) (painted after-linear-row)
+    gradient-row (a .style .mode) (s .length) (s .x) (s .y) (a .buffer .now) (a .row .now) (a .ramp .now) (call .last .1 .1 .1 .0) (a .style .shade)
+    (arm .0 .0) (paint .last .1 .1 .1 .1 .1 .0) _ (s .length * 5) (arm .1) (omega (arith, entry .pre .1 .0 .2)) (painted after-gradient-row)
     (paint .ensures) (call .ensures)
 
 pub shade-row-spec : {M : Type 1} → statement M
@@ -153,10 +153,10 @@ shade-row-spec =
     part-composite-run-end
     composite-run-requires
     enum-known-shade-2
-    sub-linear-row
-    part-linear-row-start
-    part-linear-row-end
-    linear-row-requires
+    sub-gradient-row
+    part-gradient-row-start
+    part-gradient-row-end
+    gradient-row-requires
     sub-composite-row
     part-composite-row-start
     part-composite-row-end

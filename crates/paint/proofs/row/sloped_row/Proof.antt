@@ -7,7 +7,7 @@ use mir.Val.{toZ, ofZ}
 use Rattle.fixed.proofs.Signed.{back, clean}
 use Rattle.raster.specs.Rows.{Stored}
 use Rattle.raster.proofs.Runs.{stored-none, stored-turn, stored-all}
-use Rattle.paint.specs.Buffers.{Moderate, stopsIn, quotientAt, gradientAt}
+use Rattle.paint.specs.Buffers.{Moderate, stopsIn, quotientAt, linearAt}
 use Rattle.paint.specs.Gradient.{squaredLength}
 use Rattle.paint.specs.Paints.{gradientColor}
 use Rattle.paint.specs.declared.Quotient.{Quotient}
@@ -18,7 +18,7 @@ use Rattle.paint.proofs.row.sloped_row.Tie as tie
 
 abbrev Inv-loop : tie.InvT-loop
 Inv-loop g ramp x y n row₀ d step q₀ i₀ row q i =
-    (i ≤ n) × (q ≡ quotientAt (g .points) (x + i) y) × Stored (λ k. gradientAt g (stopsIn ramp (g .count)) (x + k) y) row₀ i row
+    (i ≤ n) × (q ≡ quotientAt (g .points) (x + i) y) × Stored (λ k. linearAt g (stopsIn ramp (g .count)) (x + k) y) row₀ i row
 
 abbrev μ-loop : tie.MeasureT-loop
 μ-loop g ramp x y n row₀ d step q₀ i₀ row q i = n - i
@@ -34,7 +34,7 @@ moderate c =
 shaded : (c : tie.After-shade Inv-loop μ-loop)
     → let at-loop = c .before .before .before in
     let entry = at-loop .before .before .before .before .before .before .before in
-    let a = entry .args in c .shade .result ≡ gradientAt (a .g) (stopsIn (a .ramp .now) (a .g .count)) (a .x + at-loop .loop .i) (a .y)
+    let a = entry .args in c .shade .result ≡ linearAt (a .g) (stopsIn (a .ramp .now) (a .g .count)) (a .x + at-loop .loop .i) (a .y)
 shaded c =
     let at-loop = c .before .before .before in
     let entry = at-loop .before .before .before .before .before .before .before in

@@ -8,17 +8,16 @@ returns : tie.Need-returns
 unfolding listRules
 returns c =
     let scissors = c .before in
-    let from-stops = scissors .before in
-    let stops = from-stops .before in
-    let past = stops .before in
+    let from-circle = scissors .before in
+    let stops = from-circle .before in
+    let circle = stops .before in
     rw (
       c .or-else2 .ensures,
-      scissors .unused2 .ensures,
-      from-stops .or-else .ensures,
-      stops .numbers .ensures,
-      past .unused .ensures,
-      past .before .stop-count .ensures .0,
-      past .before .before .scissor-count .ensures .0,
+      scissors .unused .ensures,
+      from-circle .or-else .ensures,
+      stops .stop-rules .ensures,
+      circle .circle-rules .ensures,
+      circle .before .scissor-count .ensures .0,
     )
 
 pub list-rules-spec : {M : Type 1} → statement M
@@ -27,10 +26,6 @@ list-rules-spec =
     (tie.spec
     (λ c κs. search needs)
     (λ c κs. search needs)
-    (λ c. search needs)
-    (λ c. search needs)
-    (λ c κs. search needs)
-    (λ c. search needs)
     (λ c κs. search needs)
     (λ c κs. search needs)
     (λ c. search needs)

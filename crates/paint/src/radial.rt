@@ -1,0 +1,129 @@
+// The radial gradient's circle in whole numbers, the rule on its focal point, and the parts of t: floor(65,536(A + q) / D).
+//
+// Sizes: dx and dy are at most 32,792, f and g, the focal point less the centre, at most 32,768, so that A and the bracket of Q are below
+// 2^32, and Q as it is computed below 2^63. Where the focal point is inside the circle, Q is A² + D(dx² + dy²), so not negative, and below 2^60.
+use crate::Circle;
+use crate::RadialPoints;
+use crate::gradient::RAMP_UNIT;
+ghost use mathlib.Core.Path.{_≡_};
+ghost use mathlib.Core.Bool.{true};
+ghost use Prim.Native.Nat.{_≤_, _<_};
+ghost use lib.IntN.{pos, natAbs, _+ℤ_, _-ℤ_, _*ℤ_};
+ghost use lib.Signed.{_<ℤ_};
+ghost use Rattle.fixed.specs.Floats.{atMost, scaled};
+ghost use Rattle.fixed.specs.Floor.{floorDiv};
+ghost use Rattle.fixed.specs.Roots as Roots;
+ghost use Rattle.paint.specs.Gradient.{rampUnit};
+ghost use Rattle.paint.specs.Radial as Radial;
+ghost use Rattle.paint.specs.Radial.{fixedCircle, fromFocus, underRoot, radialD, focalAllowed};
+ghost use Rattle.paint.specs.Circles.{LimitedCircle};
+
+// The circle of a draw in 1/16 pixel.
+pub fn fixed_circle(p: RadialPoints) -> Circle
+    requires { ⌜ (atMost 1024 (p .cx) ≡ true) × (atMost 1024 (p .cy) ≡ true) ⌝ }
+    requires { ⌜ (atMost 1024 (p .fx) ≡ true) × (atMost 1024 (p .fy) ≡ true) × (atMost 1024 (p .r) ≡ true) ⌝ }
+    ensures { λ c. ⌜ (c ≡ fixedCircle p) × LimitedCircle c ⌝ }
+{
+    Circle {
+        cx: sixteenths(p.cx),
+        cy: sixteenths(p.cy),
+        fx: sixteenths(p.fx),
+        fy: sixteenths(p.fy),
+        r: sixteenths(p.r),
+    }
+}
+
+fn sixteenths(v: f32) -> i64
+    requires { ⌜ atMost 1024 v ≡ true ⌝ }
+    ensures { λ z. ⌜ (z ≡ scaled 16 v) × (natAbs z ≤ 16384) ⌝ }
+{
+    fixed::to_whole(v, 16)
+}
+
+// Whether the focal point is inside the circle, or there is no circle.
+pub fn focal_allowed(c: Circle) -> bool
+    requires { ⌜ LimitedCircle c ⌝ }
+    ensures { λ r. ⌜ r ≡ focalAllowed c ⌝ }
+{
+    if 0 < c.r { 0 < circle_d(c) } else { true }
+}
+
+// D.
+pub fn circle_d(c: Circle) -> i64
+    requires { ⌜ LimitedCircle c ⌝ }
+    ensures { λ z. ⌜ z ≡ radialD c ⌝ }
+{
+    inside(c.r, apart(c.fx, c.cx), apart(c.fy, c.cy))
+}
+
+fn inside(r: i64, f: i64, g: i64) -> i64
+    requires { ⌜ (natAbs r ≤ 16384) × (natAbs f ≤ 32768) × (natAbs g ≤ 32768) ⌝ }
+    ensures { λ z. ⌜ z ≡ Radial.inside r f g ⌝ }
+{
+    r * r - (f * f + g * g)
+}
+
+// The focal point less the centre, on one axis.
+pub fn apart(f: i64, c: i64) -> i64
+    requires { ⌜ (natAbs f ≤ 16384) × (natAbs c ≤ 16384) ⌝ }
+    ensures { λ z. ⌜ (z ≡ f -ℤ c) × (natAbs z ≤ 32768) ⌝ }
+{
+    f - c
+}
+
+// A pixel's centre less the focal point, on one axis.
+pub fn from_focus(x: usize, f: i64) -> i64
+    requires { ⌜ (x ≤ 1024) × (natAbs f ≤ 16384) ⌝ }
+    ensures { λ z. ⌜ (z ≡ fromFocus x f) × (natAbs z ≤ 32776) ⌝ }
+{
+    (16 * x + 8) as i64 - f
+}
+
+// A.
+pub fn along(dx: i64, dy: i64, f: i64, g: i64) -> i64
+    requires { ⌜ (natAbs dx ≤ 32792) × (natAbs dy ≤ 32792) × (natAbs f ≤ 32768) × (natAbs g ≤ 32768) ⌝ }
+    ensures { λ z. ⌜ z ≡ Radial.along dx dy f g ⌝ }
+{
+    dx * f + dy * g
+}
+
+// The bracket of Q that is squared.
+fn across(dx: i64, dy: i64, f: i64, g: i64) -> i64
+    requires { ⌜ (natAbs dx ≤ 32792) × (natAbs dy ≤ 32792) × (natAbs f ≤ 32768) × (natAbs g ≤ 32768) ⌝ }
+    ensures { λ z. ⌜ (z ≡ Radial.across dx dy f g) × (natAbs z ≤ 2149056512) ⌝ }
+{
+    dx * g - dy * f
+}
+
+// Q.
+pub fn under_root(r: i64, dx: i64, dy: i64, f: i64, g: i64) -> i64
+    requires { ⌜ (natAbs r ≤ 16384) × (natAbs dx ≤ 32792) × (natAbs dy ≤ 32792) × (natAbs f ≤ 32768) × (natAbs g ≤ 32768) ⌝ }
+    ensures { λ z. ⌜ z ≡ underRoot r dx dy f g ⌝ }
+{
+    let b = across(dx, dy, f, g);
+    r * r * (dx * dx + dy * dy) - b * b
+}
+
+// q of a Q.
+pub fn root(q: i64) -> u64
+    requires { ⌜ (q ≡ pos (natAbs q)) × (natAbs q < 1152921504606846976) ⌝ }
+    ensures { λ r. ⌜ r ≡ Roots.isqrt (natAbs q) ⌝ }
+{
+    fixed::isqrt(q as u64)
+}
+
+// The same from a guess, which may be any number.
+pub fn root_near(q: i64, guess: u64) -> u64
+    requires { ⌜ (q ≡ pos (natAbs q)) × (natAbs q < 1152921504606846976) ⌝ }
+    ensures { λ r. ⌜ r ≡ Roots.isqrt (natAbs q) ⌝ }
+{
+    fixed::isqrt_near(q as u64, guess)
+}
+
+// t of A, q and D.
+pub fn t_of(a: i64, q: u64, d: i64) -> i64
+    requires { ⌜ (natAbs a ≤ q) × (q ≤ 1073741824) × (pos 0 <ℤ d) ⌝ }
+    ensures { λ t. ⌜ t ≡ floorDiv (pos rampUnit *ℤ (a +ℤ pos q)) (natAbs d) ⌝ }
+{
+    fixed::floor_div(RAMP_UNIT * (a + q as i64), d)
+}
