@@ -38,7 +38,7 @@ fn main() {
     println!(
         "Stages: the difference of the best times of drawings that stop short, and its share of the full drawing."
     );
-    if chosen.is_none_or(|name| name == "compare") {
+    if chosen.map_or(true, |name| name == "compare") {
         compare::print(Duration::from_secs_f64(seconds));
     }
 }

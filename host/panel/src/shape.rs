@@ -35,8 +35,10 @@ impl Shape {
 
     /// The point where the path stands; every segment here ends with its point.
     pub fn end(&self) -> Point {
-        let [.., x, y] = self.path.coordinates[..] else { panic!("an empty path stands nowhere") };
-        (f64::from(x) / UNITS, f64::from(y) / UNITS)
+        match self.path.coordinates[..] {
+            [.., x, y] => (f64::from(x) / UNITS, f64::from(y) / UNITS),
+            _ => panic!("an empty path stands nowhere"),
+        }
     }
 
     pub fn line_to(self, to: Point) -> Shape {

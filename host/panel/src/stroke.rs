@@ -67,8 +67,8 @@ fn end(corners: &[Corner], half: f64) -> Point {
 /// The left side of an open line, from its beginning to its end.
 fn side(shape: Shape, corners: &[Corner], half: f64) -> Shape {
     let shape = corners.windows(3).fold(shape, |shape, three| turn(shape, three[0].at, three[1], three[2].at, half));
-    let [.., before, last] = corners else { unreachable!("a line has two ends") };
-    shape.line_to(Way::between(before.at, last.at).left_of(last.at, half))
+    let (before, last) = (corners[corners.len() - 2].at, corners[corners.len() - 1].at);
+    shape.line_to(Way::between(before, last).left_of(last, half))
 }
 
 /// The left side of a closed line, all round.

@@ -10,7 +10,7 @@ fn files() -> Vec<PathBuf> {
     let repository = Path::new(env!("CARGO_MANIFEST_DIR")).join("../..");
     let vectors = fs::read_dir(repository.join("tests/vectors/draw")).expect("the folder of vectors");
     let paths = vectors.map(|entry| entry.expect("an entry").path());
-    let scenes = paths.filter(|path| path.extension().is_some_and(|e| e == "scene"));
+    let scenes = paths.filter(|path| path.extension().map_or(false, |e| e == "scene"));
     scenes.chain([repository.join("scenes/panel.scene")]).collect()
 }
 

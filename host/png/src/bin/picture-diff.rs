@@ -7,13 +7,17 @@ use reference::compare;
 
 fn main() {
     let arguments: Vec<String> = env::args().skip(1).collect();
-    let [first, second, target] = &arguments[..] else { fail("usage: picture-diff PICTURE PICTURE IMAGE") };
+    let (first, second, target) = match &arguments[..] {
+        [first, second, target] => (first, second, target),
+        _ => fail("usage: picture-diff PICTURE PICTURE IMAGE"),
+    };
     let names = [first, second];
     let texts = names.map(|name| fs::read_to_string(name).unwrap_or_else(|error| fail(&format!("{name}: {error}"))));
     let texts = [&texts[0][..], &texts[1][..]];
     let told = |damage: compare::Damage| -> ! { fail(&format!("{}:{}: damaged", names[damage.picture], damage.line)) };
     print!("{}", compare::printed(texts).unwrap_or_else(|damage| told(damage)));
-    let Ok(pictures) = compare::read(texts).unwrap_or_else(|damage| told(damage)) else { process::exit(2) };
+    let pictures =
+        compare::read(texts).unwrap_or_else(|damage| told(damage)).unwrap_or_else(|_refused| process::exit(2));
     let [a, b] = &pictures.surfaces;
     let answer = compare::compare(pictures.width, pictures.height, a, b);
     let image = png::difference::image(&pictures, &answer);
