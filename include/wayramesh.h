@@ -5,7 +5,8 @@
  * from one scene to the next by drawing only the area in which they may differ. The scene file's format is paper 01's,
  * "The scene file", with paper 02's P8 (both sums of a block's check begin at the block's number, counted from 0),
  * P3 (a draw with segments whose sx * sy - shx * shy is 0, in whole numbers of 1/65,536, is refused) and P1 (radial
- * gradients). wayramesh_compare, at the end of this file, says where two pictures differ.
+ * gradients). At the end of this file, wayramesh_compare says where two pictures differ, and wayramesh_composite is the
+ * blending step on one pixel.
  *
  * Link with libwayramesh.a (x86-64; it needs memcpy and memset of the C library). The library allocates nothing, keeps
  * nothing between calls, and does no input or output. examples/panel.c is a whole program.
@@ -200,6 +201,56 @@ typedef struct wayramesh_comparison {
 wayramesh_comparison wayramesh_compare(uint32_t width, uint32_t height,
                                        const uint8_t *a, size_t a_len,
                                        const uint8_t *b, size_t b_len);
+
+/* ---- The blending step on one pixel ---- */
+
+/* The blend modes, by their numbers in the scene file. */
+#define WAYRAMESH_BLEND_SRC 0x2000u
+#define WAYRAMESH_BLEND_SRC_OVER 0x2001u
+#define WAYRAMESH_BLEND_DST_OVER 0x2002u
+#define WAYRAMESH_BLEND_SRC_IN 0x2003u
+#define WAYRAMESH_BLEND_DST_IN 0x2004u
+
+/* The samples of a pixel: the greatest coverage. */
+#define WAYRAMESH_SAMPLES 16u
+
+/*
+ * A pixel: four bytes in the order in which a surface has them, so that memcpy takes one out of a surface and puts one
+ * back. The colours are premultiplied by alpha, and any four bytes may be given.
+ */
+typedef struct wayramesh_pixel {
+    uint8_t r;
+    uint8_t g;
+    uint8_t b;
+    uint8_t a;
+} wayramesh_pixel;
+
+/*
+ * What wayramesh_composite answers.
+ *
+ *   code     WAYRAMESH_ACCEPTED, or WAYRAMESH_ILLEGAL_ARGUMENT if mode is none of the five or coverage is above
+ *            WAYRAMESH_SAMPLES; nothing else is refused.
+ *   pixel    What is to be stored; the destination as it was given if the call was refused.
+ */
+typedef struct wayramesh_composited {
+    uint32_t code;
+    wayramesh_pixel pixel;
+} wayramesh_composited;
+
+/*
+ * Blends a source into a destination, as a draw does at each of its pixels.
+ *
+ *   mode         One of WAYRAMESH_BLEND_...
+ *   coverage     How many of the pixel's WAYRAMESH_SAMPLES samples are covered.
+ *   source       The paint, premultiplied.
+ *   destination  What the surface holds there. With coverage 0 it is answered as it is. With any other it is read with
+ *                its colours clamped to 0..alpha, alpha itself as it is.
+ *
+ * It is proved that the call returns and that the answer is the one of the rules, for all numbers and bytes; and that if
+ * no colour of the source is above its alpha, none of a pixel that is answered with coverage above 0 is.
+ */
+wayramesh_composited wayramesh_composite(uint32_t mode, uint32_t coverage,
+                                         wayramesh_pixel source, wayramesh_pixel destination);
 
 #ifdef __cplusplus
 }

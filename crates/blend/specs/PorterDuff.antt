@@ -50,14 +50,22 @@ stored k blend d = (blend * k + d * (16 - k) + 8) / 16
 unfoldable pub compositeByte : ℕ → ℕ → ℕ → ℕ → ℕ → ℕ → ℕ
 compositeByte mode k sa da s d = stored k (blended s (sourceFactor mode da) d (destinationFactor mode sa)) d
 
--- the step on one pixel: mode, k, the paint's premultiplied bytes, the bytes that stand there
-abbrev pub composite : ℕ → ℕ → Pixel → Pixel → Pixel
-composite mode k s d = record {
+-- a destination as it is read: each channel cut to 0..alpha, which is never cut itself (paper 02, P2)
+abbrev pub clamped : Pixel → Pixel
+clamped d = record { r = min (d .r) (d .a); g = min (d .g) (d .a); b = min (d .b) (d .a); a = d .a }
+
+-- the four bytes that are stored over a destination as it is read
+abbrev pub compositeOn : ℕ → ℕ → Pixel → Pixel → Pixel
+compositeOn mode k s d = record {
   r = compositeByte mode k (s .a) (d .a) (s .r) (d .r);
   g = compositeByte mode k (s .a) (d .a) (s .g) (d .g);
   b = compositeByte mode k (s .a) (d .a) (s .b) (d .b);
   a = compositeByte mode k (s .a) (d .a) (s .a) (d .a);
 }
+
+-- the step on one pixel: mode, k, the paint's premultiplied bytes, the bytes that stand there. With k = 0 these stay, stray or not; else they are read clamped
+unfoldable pub composite : ℕ → ℕ → Pixel → Pixel → Pixel
+composite mode k s d = cond (eqb k 0) d (compositeOn mode k s (clamped d))
 
 -- the step called alone (paper 02, P2): any other mode or k is refused, and the pixel stays
 abbrev pub compositeAnswer : ℕ → ℕ → Pixel → Pixel → Composited

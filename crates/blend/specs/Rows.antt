@@ -1,10 +1,11 @@
--- The step at every pixel of a part of a row, as the row functions promise it. A reviewer of the paper need not read it: `engine` speaks of pixels.
+-- The step at every pixel of a part of a row, as the row functions promise it: the pixels are taken as they stand, since `engine` lends rows without
+-- stray bytes. A reviewer of the paper need not read it: `engine` speaks of pixels.
 use mathlib.Core.List.{List}
 use Prim.Native.Nat.{ℕ, _≤_, _<_}
 use lib.ListN.{length, getD}
 use Rattle.color.specs.declared.Pixel.{Pixel}
 use Rattle.raster.specs.Surface.{run, pixelIn}
-use Rattle.blend.specs.PorterDuff.{composite}
+use Rattle.blend.specs.PorterDuff.{compositeOn}
 
 -- each byte is a k of 0 to 16
 abbrev pub Coverage : List ℕ → Type 0
@@ -12,4 +13,4 @@ Coverage ks = (i : ℕ) → i < length ks → getD ks i 0 ≤ 16
 
 -- of the ith pixel that stands in d, under the ith k, with the ith pixel of the paint
 abbrev pub compositeRow : ℕ → List ℕ → (ℕ → Pixel) → List ℕ → List ℕ
-compositeRow mode ks paint d = run (length ks) (λ i. composite mode (getD ks i 0) (paint i) (pixelIn d i))
+compositeRow mode ks paint d = run (length ks) (λ i. compositeOn mode (getD ks i 0) (paint i) (pixelIn d i))

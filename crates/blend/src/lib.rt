@@ -10,6 +10,7 @@ pub use crate::step::composite;
 use color::Pixel;
 
 // What the step on one pixel answers: 0 and the new pixel, or a refusal and the old one.
+#[repr(C)]
 pub struct Composited {
     pub code: u32,
     pub pixel: Pixel,

@@ -1,17 +1,17 @@
-// The step along a part of a row, by its coverage bytes.
+// The step along a part of a row, by its coverage bytes. The row's pixels are taken as they stand: who lends one with stray bytes clamps it first.
 use crate::factor::destination_factor;
 use crate::factor::fixed_source;
 use crate::factor::hides;
 use crate::factor::source_factor;
 use crate::step::blend_pixel;
 use crate::step::blended_pixel;
-use crate::step::composite_pixel;
+use crate::step::composite_on;
 use color::Pixel;
 ghost use mathlib.Core.Path.{_≡_};
 ghost use Prim.Native.Nat.{_*_, _≤_, _<_};
 ghost use lib.ListN.{length};
 ghost use Rattle.raster.specs.Surface.{run, pixelIn};
-ghost use Rattle.blend.specs.PorterDuff.{composite};
+ghost use Rattle.blend.specs.PorterDuff.{compositeOn};
 ghost use Rattle.blend.specs.Rows.{Coverage, compositeRow};
 ghost use Rattle.blend.specs.Spans.{Span, blendedPixel};
 
@@ -23,7 +23,7 @@ pub fn composite_row(mode: u16, coverage: &[u8], src: &[u8], row: &mut [u8])
 {
     let mut i = 0;
     while i < coverage.len() {
-        let p = composite_pixel(
+        let p = composite_on(
             mode,
             coverage[i],
             raster::pixel(src, i),
@@ -69,7 +69,7 @@ fn span_end(coverage: &[u8], i: usize) -> usize
 // n pixels under one coverage: left as they are, filled, or blended.
 fn composite_span(mode: u16, coverage: u8, src: Pixel, row: &mut [u8], n: usize)
     requires { ⌜ (coverage ≤ 16) × (length (now row) ≡ n * 4) ⌝ }
-    ensures { λ _. ⌜ now (row .exit) ≡ run n (λ i. composite mode coverage src (pixelIn (now (row .entry)) i)) ⌝ }
+    ensures { λ _. ⌜ now (row .exit) ≡ run n (λ i. compositeOn mode coverage src (pixelIn (now (row .entry)) i)) ⌝ }
 {
     if coverage == 0 {
         return;
@@ -105,7 +105,7 @@ fn blend_covered(src: Pixel, fs: u8, row: &mut [u8], fd: u8, n: usize)
 // n pixels under one coverage, each blended.
 fn blend_span(mode: u16, coverage: u8, src: Pixel, row: &mut [u8], n: usize)
     requires { ⌜ (coverage ≤ 16) × (length (now row) ≡ n * 4) ⌝ }
-    ensures { λ _. ⌜ now (row .exit) ≡ run n (λ i. composite mode coverage src (pixelIn (now (row .entry)) i)) ⌝ }
+    ensures { λ _. ⌜ now (row .exit) ≡ run n (λ i. compositeOn mode coverage src (pixelIn (now (row .entry)) i)) ⌝ }
 {
     let mut i = 0;
     while i < n {

@@ -11,17 +11,17 @@ ghost use mathlib.Core.Path.{_≡_};
 ghost use mathlib.Core.Bool.{_&&_};
 ghost use Prim.Native.Nat.{min, _≤_};
 ghost use lib.Dec.{leb};
-ghost use Rattle.blend.specs.PorterDuff.{isMode, blended, stored, composite, compositeAnswer};
+ghost use Rattle.blend.specs.PorterDuff.{isMode, blended, stored, clamped, compositeOn, composite, compositeAnswer};
 ghost use Rattle.blend.specs.Spans.{blendedPixel};
 
-// The step called alone, on any bytes.
-pub fn composite(mode: u16, coverage: u8, src: Pixel, dst: Pixel) -> Composited
+// The step called alone, on any numbers and any bytes.
+pub fn composite(mode: u32, coverage: u32, src: Pixel, dst: Pixel) -> Composited
     ensures { λ r. ⌜ r ≡ compositeAnswer mode coverage src dst ⌝ }
 {
     if accepts(mode, coverage) {
         Composited {
             code: ACCEPTED,
-            pixel: composite_pixel(mode, coverage, src, dst),
+            pixel: composite_pixel(mode as u16, coverage as u8, src, dst),
         }
     } else {
         Composited {
@@ -31,35 +31,47 @@ pub fn composite(mode: u16, coverage: u8, src: Pixel, dst: Pixel) -> Composited
     }
 }
 
-// The step, with what needs no arithmetic first: no sample covered keeps the pixel, and the whole of the paint replaces it.
+// The step on any bytes: with no sample covered the pixel stays as it is, else it is read clamped.
 pub fn composite_pixel(mode: u16, coverage: u8, src: Pixel, dst: Pixel) -> Pixel
     requires { ⌜ coverage ≤ 16 ⌝ }
     ensures { λ r. ⌜ r ≡ composite mode coverage src dst ⌝ }
 {
+    let read = clamp(dst);
     if coverage == 0 {
         return dst;
+    }
+    composite_on(mode, coverage, src, read)
+}
+
+// The step on a destination as it is read, with what needs no arithmetic first: no sample covered keeps the pixel, and the whole of the paint replaces it.
+pub fn composite_on(mode: u16, coverage: u8, src: Pixel, read: Pixel) -> Pixel
+    requires { ⌜ coverage ≤ 16 ⌝ }
+    ensures { λ r. ⌜ r ≡ compositeOn mode coverage src read ⌝ }
+{
+    if coverage == 0 {
+        return read;
     }
     if coverage == 16 {
         if hides(mode, src.a) {
             return src;
         }
     }
-    blend_pixel(mode, coverage, src, dst)
+    blend_pixel(mode, coverage, src, read)
 }
 
-// The step's four bytes.
-pub fn blend_pixel(mode: u16, coverage: u8, src: Pixel, dst: Pixel) -> Pixel
+// Its four bytes.
+pub fn blend_pixel(mode: u16, coverage: u8, src: Pixel, read: Pixel) -> Pixel
     requires { ⌜ coverage ≤ 16 ⌝ }
-    ensures { λ r. ⌜ r ≡ composite mode coverage src dst ⌝ }
+    ensures { λ r. ⌜ r ≡ compositeOn mode coverage src read ⌝ }
 {
-    let fs = source_factor(mode, dst.a);
+    let fs = source_factor(mode, read.a);
     let fd = destination_factor(mode, src.a);
-    let b = blended_pixel(src, fs, dst, fd);
+    let b = blended_pixel(src, fs, read, fd);
     Pixel {
-        r: stored_byte(coverage, b.r, dst.r),
-        g: stored_byte(coverage, b.g, dst.g),
-        b: stored_byte(coverage, b.b, dst.b),
-        a: stored_byte(coverage, b.a, dst.a),
+        r: stored_byte(coverage, b.r, read.r),
+        g: stored_byte(coverage, b.g, read.g),
+        b: stored_byte(coverage, b.b, read.b),
+        a: stored_byte(coverage, b.a, read.a),
     }
 }
 
@@ -75,14 +87,36 @@ pub fn blended_pixel(src: Pixel, fs: u8, dst: Pixel, fd: u8) -> Pixel
     }
 }
 
-// What the step called alone takes.
-fn accepts(mode: u16, coverage: u8) -> bool
+// What the step called alone takes. A mode has 16 bits, as in the scene file; a larger number is none.
+fn accepts(mode: u32, coverage: u32) -> bool
     ensures { λ r. ⌜ r ≡ (isMode mode && leb coverage 16) ⌝ }
 {
-    if is_mode(mode) {
+    if mode > 65535 {
+        return false;
+    }
+    if is_mode(mode as u16) {
         return coverage <= 16;
     }
     false
+}
+
+// A destination as it is read: no channel above its alpha.
+fn clamp(dst: Pixel) -> Pixel
+    ensures { λ r. ⌜ r ≡ clamped dst ⌝ }
+{
+    Pixel {
+        r: cut(dst.r, dst.a),
+        g: cut(dst.g, dst.a),
+        b: cut(dst.b, dst.a),
+        a: dst.a,
+    }
+}
+
+// A channel, at most its alpha.
+fn cut(c: u8, a: u8) -> u8
+    ensures { λ r. ⌜ r ≡ min c a ⌝ }
+{
+    if c < a { c } else { a }
 }
 
 // B, divided by 255 with sums and shifts: up to 65,280, where B is 255, (n + n / 256) / 256 is (n - 1) / 255. So n is cut there, and 16 bits hold it.

@@ -3,7 +3,7 @@ use mathlib.Core.Path.{_≡_, refl}
 use mathlib.Core.List.{map}
 use lib.Ieee.{lt, mul, add, ofBits, toUnsigned, isNan}
 use Rattle.color.specs.Channels.{channelByte}
-use Rattle.blend.specs.PorterDuff.{sourceFactor, destinationFactor, compositeByte}
+use Rattle.blend.specs.PorterDuff.{sourceFactor, destinationFactor, compositeByte, composite}
 use Rattle.paint.specs.Ramps.{keptStops, withEnds, rampAt}
 use Rattle.path.specs.Segments.{pointsOf, penAfter, segmentCode}
 use Rattle.scene.specs.Blocks.{checksumOf, blockRightFrom}
@@ -14,7 +14,7 @@ use Rattle.cases.specs.Scenes.{squareDraw, red}
 use Rattle.cases.specs.Corners.{corners}
 
 pub corner-cases : map (λ r. r .given) corners ≡ map (λ r. r .paper) corners
-unfolding corners red squareDraw lt mul add ofBits toUnsigned isNan channelByte sourceFactor destinationFactor compositeByte keptStops withEnds rampAt
-    pointsOf penAfter segmentCode checksumOf blockRightFrom stopLimitOf countRules headRules floatRules circleRules firstStopAt stopRules listRules flatRule
-    pathRules restRules drawRules headerRules checkFaultsFrom
+unfolding corners red squareDraw lt mul add ofBits toUnsigned isNan channelByte sourceFactor destinationFactor compositeByte composite keptStops
+    withEnds rampAt pointsOf penAfter segmentCode checksumOf blockRightFrom stopLimitOf countRules headRules floatRules circleRules firstStopAt
+    stopRules listRules flatRule pathRules restRules drawRules headerRules checkFaultsFrom
 corner-cases = refl

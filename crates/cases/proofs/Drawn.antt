@@ -9,7 +9,7 @@ use lib.Ieee.{lt, mul, add, ofBits, toUnsigned, isNan}
 use Rattle.rect.specs.declared.Rect.{Rect}
 use Rattle.rect.specs.Rects.{whole}
 use Rattle.color.specs.Channels.{channelByte}
-use Rattle.blend.specs.PorterDuff.{sourceFactor, destinationFactor, compositeByte}
+use Rattle.blend.specs.PorterDuff.{sourceFactor, destinationFactor, compositeByte, composite}
 use Rattle.paint.specs.Gradient.{linearT, mapped}
 use Rattle.paint.specs.Ramps.{keptStops, withEnds, rampAt}
 use Rattle.paint.specs.Paints.{gradientColor, paintAt}
@@ -85,19 +85,19 @@ curve-accepted =
 red-picture : picture red ≡ redPicture
 unfolding red squareDraw squarePicture drawOf paintOf ofBits lt mul add toUnsigned channelByte sourceFactor destinationFactor compositeByte paintAt
     pointsOf penAfter cut curveEdges pathEdges upward spans atOrLeft sign weight counts winding coverage scissored drawEdges drawCoverage
-    drawPaint drawStep pixelAt picture
+    composite drawPaint drawStep pixelAt picture
 red-picture = refl
 
 blue-picture : picture blue ≡ bluePicture
 unfolding blue squareDraw squarePicture drawOf paintOf ofBits lt mul add toUnsigned channelByte sourceFactor destinationFactor compositeByte paintAt
     pointsOf penAfter cut curveEdges pathEdges upward spans atOrLeft sign weight counts winding coverage scissored drawEdges drawCoverage
-    drawPaint drawStep pixelAt picture
+    composite drawPaint drawStep pixelAt picture
 blue-picture = refl
 
 curve-picture : picture curve ≡ curvePicture
 unfolding curve curveDraw curvePicture linearT mapped keptStops withEnds rampAt gradientColor drawOf paintOf firstStopAt ofBits lt mul add toUnsigned
     channelByte sourceFactor destinationFactor compositeByte paintAt pointsOf penAfter cut curveEdges pathEdges upward spans atOrLeft sign weight counts
-    winding coverage scissored drawEdges drawCoverage drawPaint drawStep pixelAt picture
+    winding coverage scissored drawEdges drawCoverage composite drawPaint drawStep pixelAt picture
 curve-picture = refl
 
 red-blue-damage : acceptedAnswer (damage red blue) ≡ answer 0 0 3 3

@@ -7,7 +7,7 @@ use lib.IntN.{ℤ, pos, negsuc}
 use lib.Ieee.{Float, fin}
 use Rattle.color.specs.declared.Pixel.{Pixel}
 use Rattle.color.specs.Channels.{channelByte, premultiply}
-use Rattle.blend.specs.PorterDuff.{compositeByte, modeSrcOver}
+use Rattle.blend.specs.PorterDuff.{composite, modeSrcOver}
 use Rattle.paint.specs.declared.LinearPoints.{LinearPoints}
 use Rattle.paint.specs.Gradient.{fixedPoints, linearT, mapped, spreadPad, spreadRepeat, spreadReflect}
 use Rattle.paint.specs.Ramps.{rampOf, rampAt, black}
@@ -68,6 +68,13 @@ redAndBlueAtZero =
 abbrev bytesOf : Pixel → List ℤ
 bytesOf p = pos (p .r) ∷ pos (p .g) ∷ pos (p .b) ∷ pos (p .a) ∷ []
 
+-- ---- the byte that SrcOver stores under k, of a grey s with alpha sa over a grey d with alpha da
+abbrev grey : ℕ → ℕ → Pixel
+grey c a = record { r = c; g = c; b = c; a = a }
+
+abbrev over : ℕ → ℕ → ℕ → ℕ → ℕ → ℕ
+over k s sa d da = composite modeSrcOver k (grey s sa) (grey d da) .r
+
 -- ---- block 0 of the 2 by 1 scene with no draws and background 0, 0, 0, 255
 abbrev twoByOne : List ℕ
 twoByOne = 2 ∷ 0 ∷ 1 ∷ 0 ∷ 0 ∷ 0 ∷ 0 ∷ 0 ∷ 0 ∷ 0 ∷ 0 ∷ 255 ∷ replicate 496 0
@@ -88,14 +95,14 @@ unfoldable pub table : List Row
 table =
     -- C1
     row (pos (coverage (square (part 1 0)) false 0 0) ∷ pos (coverage (square (part 1 0)) false 1 0)
-    ∷ pos (compositeByte modeSrcOver (coverage (square (part 1 0)) false 1 0) 255 255 255 0) ∷ [])
+    ∷ pos (over (coverage (square (part 1 0)) false 1 0) 255 255 0 255) ∷ [])
     (pos 8 ∷ pos 8 ∷ pos 128 ∷ [])
     -- C2
     ∷ row (pos (coverage (square (part 1 2)) false 0 0) ∷ pos (coverage (square (part 1 2)) false 1 0) ∷ []) (pos 16 ∷ pos 0 ∷ [])
     -- C3
     ∷ row (pos (coverage squareTwice false 0 0) ∷ pos (coverage squareTwice true 0 0) ∷ []) (pos 0 ∷ pos 16 ∷ [])
-    -- C4
-    ∷ row (pos (compositeByte modeSrcOver 16 128 255 100 200) ∷ []) (pos 200 ∷ [])
+    -- C4: the destination has alpha 255 (paper 02, P2)
+    ∷ row (pos (over 16 100 128 200 255) ∷ []) (pos 200 ∷ [])
     -- C5
     ∷ row (pos (premultiply 255 128) ∷ []) (pos 128 ∷ [])
     -- C6

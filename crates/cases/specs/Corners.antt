@@ -7,7 +7,7 @@ use lib.ListN.{set, length, replicate}
 use lib.IntN.{ℤ, pos}
 use Rattle.color.specs.declared.Pixel.{Pixel}
 use Rattle.blend.specs.declared.Composited.{Composited}
-use Rattle.blend.specs.PorterDuff.{compositeAnswer, modeDstOver, modeSrcOver}
+use Rattle.blend.specs.PorterDuff.{compositeAnswer, modeDstOver, modeSrcIn, modeSrcOver}
 use Rattle.paint.specs.Ramps.{rampOf, rampAt}
 use Rattle.scene.specs.declared.Fault.{Fault}
 use Rattle.scene.specs.Rules.{inHeader, inDraw, headerRules, drawRules, flatRule, pathRules, restRules, checkFaults}
@@ -111,11 +111,16 @@ corners =
     ∷ row (path 772 18) (0x1005 ∷ 1 ∷ 3336 ∷ [])
     ∷ row (path 773 26) (illegal 1 3337)
     ∷ row (rest 777 1) (illegal 1 3341)
-    -- the step alone: a mode and a k that are refused; B cut at 255 where a stray byte is above its alpha; k of 15 over it
+    -- the step alone (P2): two numbers that are no mode and a k above 16 are refused; with k = 0 a stray pixel stays
     ∷ row (step 0x2005 16 (pixel 1 2 3 4) (pixel 255 6 7 0)) (0x1001 ∷ 255 ∷ 6 ∷ 7 ∷ 0 ∷ [])
+    ∷ row (step 0x12001 16 (pixel 1 2 3 4) (pixel 255 6 7 0)) (0x1001 ∷ 255 ∷ 6 ∷ 7 ∷ 0 ∷ [])
     ∷ row (step modeSrcOver 17 (pixel 1 2 3 4) (pixel 255 6 7 0)) (0x1001 ∷ 255 ∷ 6 ∷ 7 ∷ 0 ∷ [])
-    ∷ row (step modeDstOver 16 (pixel 200 0 0 200) (pixel 255 0 9 100)) (0 ∷ 255 ∷ 0 ∷ 9 ∷ 222 ∷ [])
-    ∷ row (step modeDstOver 15 (pixel 200 0 0 200) (pixel 250 0 9 100)) (0 ∷ 255 ∷ 0 ∷ 9 ∷ 214 ∷ [])
+    ∷ row (step modeSrcOver 0 (pixel 1 2 3 4) (pixel 255 6 7 0)) (0 ∷ 255 ∷ 6 ∷ 7 ∷ 0 ∷ [])
+    -- a stray destination is clamped in B, and in the coverage formula where B is 0; B is cut at 255 where the source is stray
+    ∷ row (step modeDstOver 16 (pixel 200 0 0 200) (pixel 255 0 9 100)) (0 ∷ 222 ∷ 0 ∷ 9 ∷ 222 ∷ [])
+    ∷ row (step modeDstOver 15 (pixel 200 0 0 200) (pixel 250 0 9 100)) (0 ∷ 214 ∷ 0 ∷ 9 ∷ 214 ∷ [])
+    ∷ row (step modeSrcIn 8 (pixel 0 0 0 0) (pixel 255 101 99 100)) (0 ∷ 50 ∷ 50 ∷ 50 ∷ 50 ∷ [])
+    ∷ row (step modeSrcOver 16 (pixel 255 0 0 100) (pixel 255 0 9 255)) (0 ∷ 255 ∷ 0 ∷ 5 ∷ 255 ∷ [])
     -- a last stop at 65,535 is copied to 65,536, one at 65,536 is not; colours on both sides of it
     ∷ row (length (rampOf false (stops almostOne) 2) ∷ length (rampOf false (stops one) 2) ∷ []) (3 ∷ 2 ∷ [])
     ∷ row (colorAt almostOne 32768) (127 ∷ 0 ∷ 128 ∷ 255 ∷ [])

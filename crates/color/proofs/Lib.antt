@@ -1,7 +1,7 @@
 -- Laws of channels and bytes:
 --     Cut         what a float's fraction dropped is, by tests of the float
 --     RoundTrip   a byte as a channel reads back
---     Alpha       premultiplied bytes
+--     Alpha       premultiplied bytes: they fit, and are at most their alpha
 pub mod Cut
 pub mod RoundTrip
 pub mod Alpha

@@ -1,5 +1,5 @@
 -- A colour's channel as a float and as a byte, and premultiplied bytes.
-use Prim.Native.Nat.{ℕ, _+_, _*_, _/_}
+use Prim.Native.Nat.{ℕ, _+_, _*_, _/_, _≤_}
 use mathlib.Core.Bool.{false, cond}
 use lib.IntN.{pos, negsuc}
 use lib.Ieee.{Float, fin, binary32, lt, mul, add, div, ofInt, toUnsigned}
@@ -44,3 +44,9 @@ premultiply c a = (c * a + 127) / 255
 
 abbrev pub premultiplied : Pixel → Pixel
 premultiplied p = record { r = premultiply (p .r) (p .a); g = premultiply (p .g) (p .a); b = premultiply (p .b) (p .a); a = p .a }
+
+-- no channel is above its alpha
+pub record UnderAlpha (p : Pixel) : Type 0 where
+  pub r : p .r ≤ p .a
+  pub g : p .g ≤ p .a
+  pub b : p .b ≤ p .a

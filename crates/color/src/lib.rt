@@ -12,6 +12,7 @@ pub struct Color {
 }
 
 // Four bytes of a surface, or of a colour.
+#[repr(C)]
 pub struct Pixel {
     pub r: u8,
     pub g: u8,

@@ -14,7 +14,7 @@ use Rattle.raster.specs.Surface.{pixelOf}
 use Rattle.raster.specs.Rows.{stepped}
 use Rattle.raster.proofs.Overlay.{overlay-same}
 use Rattle.fixed.specs.Floats.{atMost}
-use Rattle.blend.specs.PorterDuff.{composite}
+use Rattle.blend.specs.PorterDuff.{compositeOn}
 use Rattle.path.specs.declared.Edge.{Edge}
 use Rattle.paint.specs.declared.AnyGradient.the-variants as gradient
 use Rattle.paint.specs.declared.LinearGradient.{LinearGradient}
@@ -30,7 +30,8 @@ use Rattle.scene.specs.Rules.{stopLimitOf}
 use Rattle.scene.specs.Accepted.{AcceptedDraw}
 use Rattle.scene.proofs.Accepted.{stops-fit}
 use Rattle.lists.proofs.Laws.{part-length}
-use Rattle.engine.specs.Picture.{drawEdges, drawCoverage, drawPaint, drawStep}
+use Rattle.engine.specs.Picture.{drawEdges, drawCoverage, drawPaint}
+use Rattle.engine.specs.Unclamped.{unclampedStep}
 use Rattle.engine.specs.declared.Shade.{Shade}
 use Rattle.engine.specs.declared.Shade.the-variants.{Solid, Gradient}
 use Rattle.engine.specs.declared.Style.{Style}
@@ -63,13 +64,13 @@ module _ (d before after : List ℕ) where
 
 -- ---- the step
 own-step : (d : List ℕ) (n : ℕ) (shade : Shade) (ramp : List ℕ) (x y : ℕ) (q : Pixel) → shadeAt shade ramp x y ≡ drawPaint d x y
-    → stepWith (styleOf d n shade) (drawEdges d) (scissorsOf d) ramp x y q ≡ drawStep d x y q
-unfolding stepWith coverageWith drawStep drawCoverage
-own-step d n shade ramp x y q e = ap (λ (p : Pixel). composite (blendOf d) (drawCoverage d x y) p q) e
+    → stepWith (styleOf d n shade) (drawEdges d) (scissorsOf d) ramp x y q ≡ unclampedStep d x y q
+unfolding stepWith coverageWith unclampedStep drawCoverage
+own-step d n shade ramp x y q e = ap (λ (p : Pixel). compositeOn (blendOf d) (drawCoverage d x y) p q) e
 
 pub own-steps : (t : Target) (d s r : List ℕ) (style : Style) (n : ℕ) (shade : Shade) (es : List Edge) (scissors ramp : List ℕ)
     → style ≡ styleOf d n shade → es ≡ drawEdges d → scissors ≡ scissorsOf d → ((x y : ℕ) → shadeAt shade ramp x y ≡ drawPaint d x y)
-    → r ≡ stepped t (stepWith style es scissors ramp) s → r ≡ stepped t (drawStep d) s
+    → r ≡ stepped t (stepWith style es scissors ramp) s → r ≡ stepped t (unclampedStep d) s
 own-steps t d s r style n shade es scissors ramp e f g h o =
     o
     ∙ rw (e, f, g)

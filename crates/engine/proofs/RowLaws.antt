@@ -12,7 +12,7 @@ use Rattle.lists.proofs.Laws.{upto-same, tab-at, tab-length}
 use Rattle.color.specs.declared.Pixel.{Pixel}
 use Rattle.raster.specs.Surface.{run, pixelIn}
 use Rattle.raster.proofs.Pixels.{run-at}
-use Rattle.blend.specs.PorterDuff.{composite}
+use Rattle.blend.specs.PorterDuff.{compositeOn}
 use Rattle.blend.specs.Rows.{Coverage, compositeRow}
 use Rattle.raster.proofs.Runs.{run-same}
 use Rattle.path.specs.declared.Edge.{Edge}
@@ -67,7 +67,7 @@ module _ (style : Style) (es : List Edge) (scissors : List ℕ) (x y : ℕ) wher
       → r ≡ run n (λ i. stepWith style es scissors ramp (x + i) y (pixelIn d i))
   unfolding stepWith
   row-steps n k c d ramp r e o q =
-      let f : ℕ → ℕ → Pixel = λ i z. composite (style .mode) z (shadeAt (style .shade) ramp (x + i) y) (pixelIn d i) in
+      let f : ℕ → ℕ → Pixel = λ i z. compositeOn (style .mode) z (shadeAt (style .shade) ramp (x + i) y) (pixelIn d i) in
       q
       ∙ rw e
       (ap (λ (m : ℕ). run m (λ i. f i (getD c i 0))) (ap length o ∙ tab-length n _)
@@ -116,5 +116,5 @@ module _ (mode n x y : ℕ) (b row ramp r : List ℕ) (s : Shade) where
       ∙ rw (cover-part b q rest n h, paint-part b q rest n m h l, e)
       (run-same (length (take n b)) _ _
       (λ i k.
-      ap (λ (p : Pixel). composite mode (getD (take n b) i 0) p (pixelIn row i))
+      ap (λ (p : Pixel). compositeOn mode (getD (take n b) i 0) p (pixelIn row i))
       (ap (λ (z : List ℕ). pixelIn z i) o ∙ run-at n f i (rw (covered-length b n h) at k))))

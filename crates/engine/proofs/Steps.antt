@@ -1,4 +1,4 @@
--- The two laws of a draw that all above rests on: outside its box it changes nothing, and draws are taken one after the other.
+-- The two laws of a draw that all above rests on: outside its box it changes nothing, and draws are taken one after the other, as the rows are drawn.
 use mathlib.Core.Path.{_≡_, sym, ap, _∙_}
 use mathlib.Core.List.{List, foldl-append}
 use mathlib.Core.Bool.{true, false}
@@ -6,7 +6,7 @@ use Prim.Native.Nat.{ℕ, _+_, _<_}
 use native.Mathlib.Omega.{arith}
 use native.Mathlib.Numerals.{add-one}
 use Rattle.color.specs.declared.Pixel.{Pixel}
-use Rattle.color.specs.Channels.{premultiplied}
+use Rattle.color.specs.Channels.{premultiplied, UnderAlpha}
 use Rattle.rect.specs.declared.Rect.{Rect}
 use Rattle.rect.specs.Rects.{Inside, On, meetOf, emptyOf}
 use Rattle.rect.proofs.Laws.{empty-out, not-empty}
@@ -14,8 +14,8 @@ use Rattle.raster.specs.declared.Target.{Target}
 use Rattle.raster.specs.Surface.{overlay, pixelOf}
 use Rattle.raster.specs.Rows.{Part, stepped}
 use Rattle.raster.proofs.Overlay.{overlay-none, overlay-skip, overlay-then, overlay-same}
-use Rattle.blend.specs.PorterDuff.{composite}
-use Rattle.blend.proofs.Shortcuts.{uncovered-keeps}
+use Rattle.blend.specs.PorterDuff.{compositeOn, composite}
+use Rattle.blend.proofs.Shortcuts.{uncovered-keeps, uncovered-stores}
 use Rattle.path.specs.Boxes.{boxOf}
 use Rattle.path.specs.Closed.{Closed}
 use Rattle.path.specs.Matrices.{fixedMatrix}
@@ -27,6 +27,8 @@ use Rattle.scene.specs.Blocks.{drawOf}
 use Rattle.scene.specs.Header.{countOf, backgroundOf}
 use Rattle.scene.specs.Fields.{blendOf, matrixOf, segmentsOf, coordinatesOf, segmentCount, scissoring, scissorsOf, scissorCount, nonZeroRule}
 use Rattle.engine.specs.Picture.{drawEdges, drawCoverage, drawPaint, drawStep, drawAll, firstDraws, pixelAt}
+use Rattle.engine.specs.Unclamped.{unclampedStep, unclampedAll}
+use Rattle.engine.proofs.Unclamped.{all-same}
 
 pub draw-closed : (d : List ℕ) → Closed (drawEdges d)
 unfolding drawEdges
@@ -43,7 +45,14 @@ unfolding drawStep
 step-out d w h x y p k l o =
     ap (λ (n : ℕ). composite (blendOf d) n (drawPaint d x y) p) (uncovered d w h x y k l o) ∙ uncovered-keeps (blendOf d) (drawPaint d x y) p
 
-pub draws-more : (s : List ℕ) (n x y : ℕ) (p : Pixel) → drawAll (firstDraws s (n + 1)) x y p ≡ drawStep (drawOf s n) x y (drawAll (firstDraws s n) x y p)
+-- ---- the same without the clamp, as the rows are drawn
+unclamped-out : (d : List ℕ) (w h x y : ℕ) (p : Pixel) → x < w → y < h → (Inside (boxOf w h (drawEdges d)) x y → ⊥) → unclampedStep d x y p ≡ p
+unfolding unclampedStep
+unclamped-out d w h x y p k l o =
+    ap (λ (n : ℕ). compositeOn (blendOf d) n (drawPaint d x y) p) (uncovered d w h x y k l o) ∙ uncovered-stores (blendOf d) (drawPaint d x y) p
+
+draws-more : (s : List ℕ) (n x y : ℕ) (p : Pixel)
+    → unclampedAll (firstDraws s (n + 1)) x y p ≡ unclampedStep (drawOf s n) x y (unclampedAll (firstDraws s n) x y p)
 draws-more s n x y p = rw (add-one, foldl-append)
 
 -- ---- the pixels of the box are enough
@@ -54,13 +63,14 @@ meet-on w h a b o e =
 
 module _ (t : Target) (d s : List ℕ) where
   pub box-enough : (b : Rect) (r : List ℕ) → b ≡ meetOf (t .area) (boxOf (t .width) (t .height) (drawEdges d))
-      → r ≡ stepped (record { width = t .width; height = t .height; area = b }) (drawStep d) s → r ≡ stepped t (drawStep d) s
+      → r ≡ stepped (record { width = t .width; height = t .height; area = b }) (unclampedStep d) s → r ≡ stepped t (unclampedStep d) s
   box-enough b r e o =
       let box = boxOf (t .width) (t .height) (drawEdges d) in
-      overlay-skip (t .width) (t .height) (t .area) (drawStep d) box s r (λ x y p k l i. step-out d (t .width) (t .height) x y p k l i)
-      (o ∙ ap (λ (z : Rect). stepped (record { width = t .width; height = t .height; area = z }) (drawStep d) s) e)
+      overlay-skip (t .width) (t .height) (t .area) (unclampedStep d) box s r (λ x y p k l i. unclamped-out d (t .width) (t .height) x y p k l i)
+      (o ∙ ap (λ (z : Rect). stepped (record { width = t .width; height = t .height; area = z }) (unclampedStep d) s) e)
 
-  pub box-none : (b : Rect) → Part t s → b ≡ meetOf (t .area) (boxOf (t .width) (t .height) (drawEdges d)) → emptyOf b ≡ true → s ≡ stepped t (drawStep d) s
+  pub box-none : (b : Rect) → Part t s → b ≡ meetOf (t .area) (boxOf (t .width) (t .height) (drawEdges d)) → emptyOf b ≡ true
+      → s ≡ stepped t (unclampedStep d) s
   box-none b p e z = box-enough b s e (overlay-none (t .width) (t .height) b _ s (p .long) (λ x y i. empty-out b x y z i))
 
   -- and lie on the surface
@@ -72,23 +82,26 @@ module _ (t : Target) (d s : List ℕ) where
       record { placed = record { on = on; wide = p .placed .wide; high = p .placed .high }; long = p .long }
 
 -- ---- a turn of the loop over the draws, and the background before them
-pub draws-turn : (t : Target) (scene s r e d : List ℕ) (i : ℕ) → e ≡ drawOf scene i → s ≡ stepped t (drawAll (firstDraws scene i)) d
-    → r ≡ stepped t (drawStep e) s → r ≡ stepped t (drawAll (firstDraws scene (i + 1))) d
+pub draws-turn : (t : Target) (scene s r e d : List ℕ) (i : ℕ) → e ≡ drawOf scene i → s ≡ stepped t (unclampedAll (firstDraws scene i)) d
+    → r ≡ stepped t (unclampedStep e) s → r ≡ stepped t (unclampedAll (firstDraws scene (i + 1))) d
 draws-turn t scene s r e d i q o u =
     let w = t .width in
     let h = t .height in
     let a = t .area in
-    overlay-then w h a (drawStep (drawOf scene i)) (λ x y. drawAll (firstDraws scene i) x y (pixelOf w d x y)) s r d o
-    (u ∙ ap (λ (z : List ℕ). stepped t (drawStep z) s) q)
+    overlay-then w h a (unclampedStep (drawOf scene i)) (λ x y. unclampedAll (firstDraws scene i) x y (pixelOf w d x y)) s r d o
+    (u ∙ ap (λ (z : List ℕ). stepped t (unclampedStep z) s) q)
     ∙ overlay-same w h a _ _ d (λ x y k l j. sym (draws-more scene i x y (pixelOf w d x y)))
 
-pixel-is : (scene : List ℕ) (n : ℕ) (p : Pixel) (x y : ℕ) → n ≡ countOf scene → p ≡ premultiplied (backgroundOf scene)
-    → drawAll (firstDraws scene n) x y p ≡ pixelAt scene x y
+pixel-is : (scene : List ℕ) (n : ℕ) (p : Pixel) (x y : ℕ) → n ≡ countOf scene → p ≡ premultiplied (backgroundOf scene) → UnderAlpha p
+    → unclampedAll (firstDraws scene n) x y p ≡ pixelAt scene x y
 unfolding pixelAt
-pixel-is scene n p x y e f = ap (λ (k : ℕ). drawAll (firstDraws scene k) x y p) e ∙ ap (drawAll (firstDraws scene (countOf scene)) x y) f
+pixel-is scene n p x y e f h =
+    all-same (firstDraws scene n) x y p h
+    ∙ ap (λ (k : ℕ). drawAll (firstDraws scene k) x y p) e ∙ ap (drawAll (firstDraws scene (countOf scene)) x y) f
 
-pub background-then : (scene s t d : List ℕ) (w h n : ℕ) (p : Pixel) (a : Rect) → n ≡ countOf scene → p ≡ premultiplied (backgroundOf scene)
-    → s ≡ overlay w h a (λ x y. p) d → t ≡ overlay w h a (λ x y. drawAll (firstDraws scene n) x y (pixelOf w s x y)) s → t ≡ overlay w h a (pixelAt scene) d
-background-then scene s t d w h n p a e f o u =
-    overlay-then w h a (drawAll (firstDraws scene n)) (λ x y. p) s t d o u
-    ∙ overlay-same w h a (λ x y. drawAll (firstDraws scene n) x y p) (pixelAt scene) d (λ x y k l j. pixel-is scene n p x y e f)
+pub background-then : (scene s t d : List ℕ) (w h n : ℕ) (p : Pixel) (a : Rect) → n ≡ countOf scene → p ≡ premultiplied (backgroundOf scene) → UnderAlpha p
+    → s ≡ overlay w h a (λ x y. p) d → t ≡ overlay w h a (λ x y. unclampedAll (firstDraws scene n) x y (pixelOf w s x y)) s
+    → t ≡ overlay w h a (pixelAt scene) d
+background-then scene s t d w h n p a e f q o u =
+    overlay-then w h a (unclampedAll (firstDraws scene n)) (λ x y. p) s t d o u
+    ∙ overlay-same w h a (λ x y. unclampedAll (firstDraws scene n) x y p) (pixelAt scene) d (λ x y k l j. pixel-is scene n p x y e f q)

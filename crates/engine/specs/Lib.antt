@@ -1,3 +1,4 @@
 -- The definitions that contracts cite.
 pub mod Picture
+pub mod Unclamped
 pub mod Rows

@@ -13,7 +13,7 @@ use Rattle.path.specs.Stored.{edgesOf}
 use Rattle.coverage.specs.Scanline.{Outlined}
 use Rattle.coverage.specs.Scissors.{scissored}
 use Rattle.coverage.specs.Winding.{coverage}
-use Rattle.blend.specs.PorterDuff.{composite}
+use Rattle.blend.specs.PorterDuff.{compositeOn}
 use Rattle.paint.specs.declared.AnyGradient.{AnyGradient}
 use Rattle.paint.specs.declared.AnyGradient.the-variants.{Linear, Radial}
 use Rattle.paint.specs.declared.LinearGradient.{LinearGradient}
@@ -44,7 +44,7 @@ shadeAt (Gradient g) ramp x y = gradientAt g ramp x y
 
 -- what is stored
 unfoldable pub stepWith : Style → List Edge → List ℕ → List ℕ → ℕ → ℕ → Pixel → Pixel
-stepWith s es scissors ramp x y q = composite (s .mode) (coverageWith s es scissors x y) (shadeAt (s .shade) ramp x y) q
+stepWith s es scissors ramp x y q = compositeOn (s .mode) (coverageWith s es scissors x y) (shadeAt (s .shade) ramp x y) q
 
 -- ---- what is asked
 -- of the scissors

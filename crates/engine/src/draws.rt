@@ -12,7 +12,8 @@ ghost use Rattle.raster.specs.Rows.{Part, stepped};
 ghost use Rattle.scene.specs.Layout.{drawBytes};
 ghost use Rattle.scene.specs.Header.{countOf};
 ghost use Rattle.scene.specs.Accepted.{AcceptedDraw, AcceptedScene};
-ghost use Rattle.engine.specs.Picture.{drawStep, drawAll, firstDraws, pixelAt};
+ghost use Rattle.engine.specs.Picture.{firstDraws, pixelAt};
+ghost use Rattle.engine.specs.Unclamped.{unclampedStep, unclampedAll};
 ghost use Rattle.engine.specs.Rows.{Laid, Blank, Area};
 
 // The scene's picture, at every pixel of a.
@@ -58,7 +59,7 @@ fn paint_draws(
     requires { ⌜ Blank (now scratch) ⌝ }
     requires { ⌜ Part target (now surface) ⌝ }
     ensures { λ _. ⌜ now (scratch .exit) ≡ now (scratch .entry) ⌝ }
-    ensures { λ _. ⌜ now (surface .exit) ≡ stepped target (drawAll (firstDraws (now (scene .entry)) n)) (now (surface .entry)) ⌝ }
+    ensures { λ _. ⌜ now (surface .exit) ≡ stepped target (unclampedAll (firstDraws (now (scene .entry)) n)) (now (surface .entry)) ⌝ }
 {
     let mut i = 0;
     while i < n {
@@ -74,7 +75,7 @@ fn paint_draw(surface: &mut [u8], scratch: &mut [i32], d: &[u8], target: Target)
     requires { ⌜ Blank (now scratch) ⌝ }
     requires { ⌜ Part target (now surface) ⌝ }
     ensures { λ _. ⌜ now (scratch .exit) ≡ now (scratch .entry) ⌝ }
-    ensures { λ _. ⌜ now (surface .exit) ≡ stepped target (drawStep (now (d .entry))) (now (surface .entry)) ⌝ }
+    ensures { λ _. ⌜ now (surface .exit) ≡ stepped target (unclampedStep (now (d .entry))) (now (surface .entry)) ⌝ }
 {
     let n = lay_edges(scratch, d);
     paint_box(surface, scratch, n, d, target);
@@ -87,7 +88,7 @@ fn paint_box(surface: &mut [u8], scratch: &mut [i32], n: usize, d: &[u8], target
     requires { ⌜ Laid (now d) (now scratch) n ⌝ }
     requires { ⌜ Part target (now surface) ⌝ }
     ensures { λ _. ⌜ now (scratch .exit) ≡ now (scratch .entry) ⌝ }
-    ensures { λ _. ⌜ now (surface .exit) ≡ stepped target (drawStep (now (d .entry))) (now (surface .entry)) ⌝ }
+    ensures { λ _. ⌜ now (surface .exit) ≡ stepped target (unclampedStep (now (d .entry))) (now (surface .entry)) ⌝ }
 {
     let width = target.width;
     let height = target.height;

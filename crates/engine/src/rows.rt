@@ -18,7 +18,7 @@ ghost use Rattle.paint.specs.Buffers.{rampNumbers};
 ghost use Rattle.blend.specs.Rows.{Coverage, compositeRow};
 ghost use Rattle.scene.specs.Layout.{drawBytes};
 ghost use Rattle.scene.specs.Accepted.{AcceptedDraw};
-ghost use Rattle.engine.specs.Picture.{drawStep};
+ghost use Rattle.engine.specs.Unclamped.{unclampedStep};
 ghost use Rattle.engine.specs.Rows.{coverageWith, stepWith, shadeAt, Shaded, Scissors, OnSurface, Laid};
 
 // Bytes for the longest row: k and four bytes of paint to a pixel.
@@ -30,7 +30,7 @@ pub fn fill(surface: &mut [u8], scratch: &mut [i32], n: usize, d: &[u8], target:
     requires { ⌜ Laid (now d) (now scratch) n ⌝ }
     requires { ⌜ Part target (now surface) ⌝ }
     ensures { λ _. ⌜ now (scratch .exit) ≡ now (scratch .entry) ⌝ }
-    ensures { λ _. ⌜ now (surface .exit) ≡ stepped target (drawStep (now (d .entry))) (now (surface .entry)) ⌝ }
+    ensures { λ _. ⌜ now (surface .exit) ≡ stepped target (unclampedStep (now (d .entry))) (now (surface .entry)) ⌝ }
 {
     let mut ramp = [0u32; RAMP_NUMBERS];
     let mut buffer = [0u8; ROW_BYTES];
@@ -52,7 +52,7 @@ fn fill_with(
     requires { ⌜ Part target (now surface) ⌝ }
     requires { ⌜ (rampNumbers ≤ length (now ramp)) × (5120 ≤ length (now buffer)) ⌝ }
     ensures { λ _. ⌜ now (scratch .exit) ≡ now (scratch .entry) ⌝ }
-    ensures { λ _. ⌜ now (surface .exit) ≡ stepped target (drawStep (now (d .entry))) (now (surface .entry)) ⌝ }
+    ensures { λ _. ⌜ now (surface .exit) ≡ stepped target (unclampedStep (now (d .entry))) (now (surface .entry)) ⌝ }
 {
     let s = style(d, n, shade(d, ramp));
     let m = (target.area.x1 - target.area.x0) * 5;

@@ -20,7 +20,8 @@
 --     Ends        which stops are kept, and the two ends
 --
 -- For callers:
---     Sound       what buffers that hold a ramp keep to, and that paint is made of bytes
+--     Sound       what the stops of a ramp keep to, and a run of numbers that holds one
+--     Under       no channel of a paint is above its alpha
 pub mod Sizes
 pub mod Slope
 pub mod Folded
@@ -35,3 +36,4 @@ pub mod Lookup
 pub mod Built
 pub mod Ends
 pub mod Sound
+pub mod Under

@@ -1,8 +1,11 @@
 // The C interface: include/wayramesh.h tells a C caller what these functions take and answer.
+use blend::Composited;
+use color::Pixel;
 use difference::Comparison;
 use render::Answer;
 ghost use mathlib.Core.Path.{_≡_};
 ghost use lib.ListN.{length};
+ghost use Rattle.blend.specs.PorterDuff.{compositeAnswer};
 ghost use Rattle.difference.specs.Compare.{compareAnswer};
 ghost use Rattle.render.specs.Answers.{drawAnswer, drawSurface, drawScratch, redrawAnswer, redrawSurface, redrawScratch};
 
@@ -37,4 +40,17 @@ pub extern "C" fn wayramesh_compare(width: u32, height: u32, a: &[u8], b: &[u8])
     ensures { λ r. ⌜ r ≡ compareAnswer width height (now (a .entry)) (now (b .entry)) ⌝ }
 {
     difference::compare(width, height, a, b)
+}
+
+// The blending step on one pixel.
+#[no_mangle]
+pub extern "C" fn wayramesh_composite(
+    mode: u32,
+    coverage: u32,
+    source: Pixel,
+    destination: Pixel,
+) -> Composited
+    ensures { λ r. ⌜ r ≡ compositeAnswer mode coverage source destination ⌝ }
+{
+    blend::composite(mode, coverage, source, destination)
 }

@@ -3,6 +3,8 @@
 #![forbid(unsafe_code)]
 
 use std::fmt::Debug;
+use std::path::{Path, PathBuf};
+use std::process::Command;
 use std::{env, fs};
 
 use generate::Random;
@@ -167,4 +169,22 @@ fn save(name: &str, call: &Call) {
 /// How many times the usual number of cases to try, from WAYRAMESH_ROUNDS.
 pub fn rounds() -> u64 {
     env::var("WAYRAMESH_ROUNDS").map_or(1, |text| text.parse().expect("WAYRAMESH_ROUNDS is a whole number"))
+}
+
+/// Compiles a C program of the folder examples with the library, as its first comment says, into a folder.
+pub fn compiled_example(name: &str, folder: &str) -> PathBuf {
+    let root = Path::new(env!("CARGO_MANIFEST_DIR")).join("../..");
+    let archive = env::var_os("WAYRAMESH_LIB_DIR").map_or(root.join("target/staticlib"), PathBuf::from);
+    let program = Path::new(folder).join(name);
+    let status = Command::new("cc")
+        .args(["-std=c99", "-Wall", "-Wextra", "-Wpedantic", "-Werror", "-I"])
+        .arg(root.join("include"))
+        .arg(root.join("examples").join(name).with_extension("c"))
+        .arg(archive.join("libwayramesh.a"))
+        .arg("-o")
+        .arg(&program)
+        .status()
+        .expect("a C compiler");
+    assert!(status.success(), "{name}.c");
+    program
 }

@@ -1,10 +1,10 @@
 //! The panel of the folder scenes, drawn and redrawn, and the C example on it.
 
+use std::fs;
 use std::path::{Path, PathBuf};
 use std::process::Command;
-use std::{env, fs};
 
-use differential::{compare, Buffers, Call};
+use differential::{compare, compiled_example, Buffers, Call};
 use generate::{places, Random};
 use reference::picture::SCRATCH_NUMBERS;
 
@@ -55,21 +55,8 @@ fn blocks_out_of_place() {
 /// examples/panel.c compiles as it stands, and its picture of the small panel's next frame is the reference's.
 #[test]
 fn c_example() {
-    let root = repository();
-    let archive = env::var_os("WAYRAMESH_LIB_DIR").map_or(root.join("target/staticlib"), PathBuf::from);
-    let program = Path::new(env!("CARGO_TARGET_TMPDIR")).join("panel-example");
-    let compiled = Command::new("cc")
-        .args(["-std=c99", "-Wall", "-Wextra", "-Wpedantic", "-Werror", "-I"])
-        .arg(root.join("include"))
-        .arg(root.join("examples/panel.c"))
-        .arg(archive.join("libwayramesh.a"))
-        .arg("-o")
-        .arg(&program)
-        .status()
-        .expect("a C compiler");
-    assert!(compiled.success());
-
-    let scenes = ["panel-small.scene", "panel-small-next.scene"].map(|name| root.join("scenes").join(name));
+    let program = compiled_example("panel", env!("CARGO_TARGET_TMPDIR"));
+    let scenes = ["panel-small.scene", "panel-small-next.scene"].map(|name| repository().join("scenes").join(name));
     let output = Command::new(&program).args(&scenes).output().expect("the example runs");
     assert!(output.status.success());
     let header = b"P7\nWIDTH 256\nHEIGHT 150\nDEPTH 4\nMAXVAL 255\nTUPLTYPE RGB_ALPHA\nENDHDR\n";

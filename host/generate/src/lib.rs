@@ -4,6 +4,7 @@
 //! - [`damage`]: random scenes spoiled in a few bytes, with their checks made fresh or not.
 //! - [`places`]: blocks of a sound file out of place.
 //! - [`rules`]: both sides of every rule, with the answer that the paper gives.
+//! - [`steps`]: calls of the blending step alone, on any bytes.
 #![forbid(unsafe_code)]
 
 pub mod damage;
@@ -13,5 +14,6 @@ pub mod radial;
 pub mod random;
 pub mod rules;
 pub mod scenes;
+pub mod steps;
 
 pub use random::Random;

@@ -22,8 +22,10 @@ pub const SCRATCH_NUMBERS: usize = 12_300;
 pub const OUT_OF_MEMORY: u32 = 0x1002;
 
 mod compare;
+mod composite;
 
 pub use compare::{compare, Comparison};
+pub use composite::{composite, Composited, Pixel};
 
 mod ffi {
     use super::Answer;

@@ -1,5 +1,6 @@
 //! Blending: the Porter-Duff factors of document 001, Table 15, and the stored byte at a coverage.
 
+use crate::answer::{ACCEPTED, ILLEGAL_ARGUMENT};
 use crate::paint::Pixel;
 
 const ALPHA: usize = 3;
@@ -37,12 +38,30 @@ impl Blend {
     }
 }
 
+/// The step called alone (paper 02, P2): its code, and the pixel that it leaves. Every byte is taken.
+pub fn step(mode: u32, coverage: u32, source: Pixel, destination: Pixel) -> (u32, Pixel) {
+    let mode = u16::try_from(mode).ok().and_then(Blend::from_number);
+    match mode {
+        Some(mode) if coverage <= 16 => (ACCEPTED, composite(mode, source, destination, coverage.into())),
+        _ => (ILLEGAL_ARGUMENT, destination),
+    }
+}
+
 /// The four bytes stored over `destination`, both premultiplied, at a coverage of 0 to 16.
 pub fn composite(mode: Blend, source: Pixel, destination: Pixel, coverage: i64) -> Pixel {
+    if coverage == 0 {
+        return destination;
+    }
+    let destination = read(destination);
     let (fs, fd) = mode.factors(source[ALPHA].into(), destination[ALPHA].into());
     std::array::from_fn(|channel| {
         let (s, d) = (i64::from(source[channel]), i64::from(destination[channel]));
         let blended = ((s * fs + d * fd + 127) / 255).min(255);
         ((blended * coverage + d * (16 - coverage) + 8) / 16) as u8
     })
+}
+
+/// A premultiplied destination as it is read: its colours are clamped to 0..alpha.
+fn read(stored: Pixel) -> Pixel {
+    stored.map(|channel| channel.min(stored[ALPHA]))
 }

@@ -8,7 +8,7 @@ use Rattle.color.specs.declared.Pixel.{Pixel}
 use Rattle.raster.specs.Surface.{pixelIn}
 use Rattle.raster.specs.Rows.{Stored}
 use Rattle.raster.proofs.Runs.{stored-none, stored-all}
-use Rattle.blend.specs.PorterDuff.{composite}
+use Rattle.blend.specs.PorterDuff.{compositeOn}
 use Rattle.blend.proofs.Spans.{span-turn}
 use borrow.Author.Needs.{needs}
 use Rattle.blend.proofs.row.composite_run.Statement.{statement}
@@ -16,7 +16,7 @@ use Rattle.blend.proofs.row.composite_run.Tie as tie
 
 abbrev Inv-loop : tie.InvT-loop
 Inv-loop mode coverage src row₀ i₀ row i =
-    (i ≤ length coverage) × Stored (λ j. composite mode (getD coverage j 0) src (pixelIn row₀ j)) row₀ i row
+    (i ≤ length coverage) × Stored (λ j. compositeOn mode (getD coverage j 0) src (pixelIn row₀ j)) row₀ i row
 
 abbrev μ-loop : tie.MeasureT-loop
 μ-loop mode coverage src row₀ i₀ row i = length coverage - i
@@ -77,7 +77,7 @@ loop-again c =
     let span = after-span-end .span-end in
     let call = after-composite-span .composite-span in (
       span .ensures .within,
-      span-turn (λ k p. composite (a .mode) k (a .src) p) (a .coverage .now) (l .row) (a .row .now) (call .last .1 .1 .1 .0) (l .i) (span .result)
+      span-turn (λ k p. compositeOn (a .mode) k (a .src) p) (a .coverage .now) (l .row) (a .row .now) (call .last .1 .1 .1 .0) (l .i) (span .result)
           (span .ensures)
           (omega arith) (l .inv .1) (call .ensures),
     )

@@ -1,30 +1,25 @@
--- `blend::composite_pixel` meets its contract: what it answers without arithmetic is the same by the channel's laws. Assumes nothing.
+-- `blend::composite_pixel` meets its contract: it stays at k = 0, and is read clamped elsewhere. Assumes nothing.
 use mathlib.Core.Path.{sym, _∙_}
-use native.Mathlib.Omega.{arith}
 use borrow.Author.Needs.{needs}
-use Rattle.blend.proofs.Shortcuts.{uncovered-keeps, hiding-replaces}
+use Rattle.blend.proofs.Shortcuts.{uncovered-keeps, covered-reads}
 use Rattle.blend.proofs.step.composite_pixel.Statement.{statement}
 use Rattle.blend.proofs.step.composite_pixel.Tie as tie
 
 returns : tie.Need-returns
 returns c =
-    let entry = c .before in
+    let entry = c .before .before in
     rw (c .if1 .taken) (sym (uncovered-keeps (entry .args .mode) (entry .args .src) (entry .args .dst)))
+
+composite-on-requires : tie.Need-composite-on-requires
+composite-on-requires c κs = search needs
 
 returns-2 : tie.Need-returns-2
 returns-2 c =
-    let then2 = c .before .before in
-    let entry = then2 .before .before in
-    let a = entry .args in
-    rw (then2 .if2 .taken)
-    (sym (hiding-replaces (a .mode) (a .src) (a .dst) (omega arith) (omega arith) (omega arith) (omega arith) (sym (c .before .hides .ensures)
-    ∙ c .if3 .taken)))
-
-blend-pixel-requires : tie.Need-blend-pixel-requires
-blend-pixel-requires c κs = search needs
-
-returns-3 : tie.Need-returns-3
-returns-3 c = c .blend-pixel .ensures
+    let else1 = c .before in
+    let after-clamp = else1 .before in
+    let a = after-clamp .before .args in
+    c .composite-on .ensures
+    ∙ rw (after-clamp .clamp .ensures) (covered-reads (a .mode) (a .coverage) (a .src) (a .dst) (else1 .if1 .left))
 
 pub composite-pixel-spec : {M : Type 1} → statement M
-composite-pixel-spec = tie.close (tie.spec returns (λ c κs. tt) returns-2 blend-pixel-requires returns-3)
+composite-pixel-spec = tie.close (tie.spec (λ c κs. tt) returns composite-on-requires returns-2)

@@ -1,7 +1,8 @@
 -- `draws::paint_area` meets its contract: the background, and every draw over it.
 use mathlib.Core.Path.{refl, ap, _∙_}
 use native.Mathlib.Omega.{arith}
-use Rattle.color.specs.Channels.{premultiplied}
+use Rattle.color.specs.Channels.{premultiplied, UnderAlpha}
+use Rattle.color.proofs.Alpha.{premultiplied-under}
 use Rattle.raster.specs.declared.Target.{Target}
 use Rattle.raster.specs.Rows.{Placed, Part}
 use Rattle.engine.proofs.Steps.{background-then}
@@ -40,6 +41,9 @@ paint-draws-requires c κs =
     let p = entry .pre in
     ((p .0 .0, (p .0 .1, refl)), (p .1 .0, record { placed = placed entry; long = after-fill-rect .fill-rect .kept .0 ∙ p .1 .1 .0 }))
 
+under : (c : tie.After-premultiplied) → UnderAlpha (c .premultiplied .result)
+under c = rw (c .premultiplied .ensures) (premultiplied-under (c .before .background .result) (omega arith) (omega arith) (omega arith))
+
 same-length : tie.Need-same-length
 same-length c = search needs
 
@@ -59,7 +63,7 @@ returns c =
     let p = after-premultiplied .premultiplied in (
       draws .ensures .0,
       background-then (a .scene .now) (filled .last .0) (draws .last .0) (a .surface .now) (a .width) (a .height) (a .n) (p .result) (a .a) (entry .pre .0 .1)
-          (p .ensures ∙ ap premultiplied (after-background .background .ensures)) (filled .ensures) (draws .ensures .1),
+          (p .ensures ∙ ap premultiplied (after-background .background .ensures)) (under after-premultiplied) (filled .ensures) (draws .ensures .1),
     )
 
 pub paint-area-spec : {M : Type 1} → statement M

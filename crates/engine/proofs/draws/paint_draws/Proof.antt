@@ -10,7 +10,8 @@ use Rattle.raster.proofs.Overlay.{overlay-keep}
 use Rattle.scene.specs.Blocks.{drawOf}
 use Rattle.scene.specs.Accepted.{AcceptedDraw}
 use Rattle.scene.proofs.Accepted.{accepted-draw}
-use Rattle.engine.specs.Picture.{drawAll, firstDraws}
+use Rattle.engine.specs.Picture.{firstDraws}
+use Rattle.engine.specs.Unclamped.{unclampedAll}
 use Rattle.engine.specs.Rows.{Blank}
 use Rattle.engine.proofs.Steps.{draws-turn}
 use borrow.Author.Needs.{needs}
@@ -20,7 +21,7 @@ use Rattle.engine.proofs.draws.paint_draws.Tie as tie
 abbrev Inv-loop : tie.InvT-loop
 Inv-loop surface₀ scratch₀ scene n d₀ target i₀ surface scratch d i =
     (i ≤ n) × (length surface ≡ length surface₀) × (scratch ≡ scratch₀) × (length d ≡ length d₀)
-    × (surface ≡ stepped target (drawAll (firstDraws scene i)) surface₀)
+    × (surface ≡ stepped target (unclampedAll (firstDraws scene i)) surface₀)
 
 abbrev μ-loop : tie.MeasureT-loop
 μ-loop surface₀ scratch₀ scene n d₀ target i₀ surface scratch d i = n - i
@@ -93,7 +94,7 @@ returns c =
     let a = entry .args in
     let l = c .before .loop in
     let e : l .i ≡ a .n = omega arith in
-    (l .inv .2, l .inv .4 ∙ ap (λ (k : ℕ). stepped (a .target) (drawAll (firstDraws (a .scene .now) k)) (a .surface .now)) e)
+    (l .inv .2, l .inv .4 ∙ ap (λ (k : ℕ). stepped (a .target) (unclampedAll (firstDraws (a .scene .now) k)) (a .surface .now)) e)
 
 pub paint-draws-spec : {M : Type 1} → statement M
 paint-draws-spec =

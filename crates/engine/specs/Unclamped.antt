@@ -1,0 +1,20 @@
+-- The drawing by paper 01's step, which reads a destination as it stands. Kept for one theorem, that paper 02's P2 changes no picture
+-- (proofs/Unclamped.antt); by that theorem the rows are drawn in this way, and no promise to a caller outside cites it.
+use Prim.Native.Nat.{ℕ}
+use mathlib.Core.List.{List, foldl}
+use Rattle.color.specs.declared.Pixel.{Pixel}
+use Rattle.color.specs.Channels.{premultiplied}
+use Rattle.raster.specs.Surface.{raster}
+use Rattle.blend.specs.PorterDuff.{compositeOn}
+use Rattle.scene.specs.Header.{widthOf, heightOf, countOf, backgroundOf}
+use Rattle.scene.specs.Fields.{blendOf}
+use Rattle.engine.specs.Picture.{drawCoverage, drawPaint, firstDraws}
+
+unfoldable pub unclampedStep : List ℕ → ℕ → ℕ → Pixel → Pixel
+unclampedStep d x y p = compositeOn (blendOf d) (drawCoverage d x y) (drawPaint d x y) p
+
+abbrev pub unclampedAll : List (List ℕ) → ℕ → ℕ → Pixel → Pixel
+unclampedAll ds x y p = foldl (λ q d. unclampedStep d x y q) p ds
+
+unfoldable pub unclampedPicture : List ℕ → List ℕ
+unclampedPicture s = raster (widthOf s) (heightOf s) (λ x y. unclampedAll (firstDraws s (countOf s)) x y (premultiplied (backgroundOf s)))

@@ -1,0 +1,74 @@
+//! Calls of the blending step alone: pixels of any bytes, numbers that it does not take, and the cases of a text.
+
+use crate::Random;
+
+/// Four bytes R, G, B, A, premultiplied or stray.
+pub type Pixel = [u8; 4];
+
+/// The arguments of a call.
+#[derive(Clone, Copy, Debug, PartialEq, Eq)]
+pub struct Step {
+    pub mode: u32,
+    pub coverage: u32,
+    pub source: Pixel,
+    pub destination: Pixel,
+}
+
+/// A call with its code and the pixel that it leaves.
+pub struct Case {
+    pub step: Step,
+    pub code: u32,
+    pub pixel: Pixel,
+}
+
+pub const MODES: [u32; 5] = [0x2000, 0x2001, 0x2002, 0x2003, 0x2004];
+pub const MOST_COVERAGE: u32 = 16;
+
+/// No modes: OpenVG's other ones, and numbers that would be modes with fewer bits.
+pub const NO_MODES: [u32; 13] =
+    [0, 1, 4, 0x1FFF, 0x2005, 0x2006, 0x2009, 0x2100, 0x1_2001, 0x8000_2001, 0x2001_0000, 0x7FFF_FFFF, u32::MAX];
+
+/// No coverages; some would be with fewer bits, or signed.
+pub const NO_COVERAGES: [u32; 9] = [17, 18, 32, 255, 256, 256 + 8, 65_536 + 16, 0x8000_0000, u32::MAX];
+
+/// A pixel of any bytes, or one whose colours are not above its alpha.
+pub fn pixel(random: &mut Random) -> Pixel {
+    let mut pixel = [0; 4].map(|_: u8| byte(random));
+    if random.once_in(3) {
+        let alpha = pixel[3];
+        pixel = pixel.map(|channel| channel.min(alpha));
+    }
+    pixel
+}
+
+/// Often at an end of the range or in its middle, or next to it.
+fn byte(random: &mut Random) -> u8 {
+    let any = random.byte();
+    random.pick(&[any, any, any, 0, 1, 2, 127, 128, 129, 253, 254, 255])
+}
+
+/// The cases of a text, a line each: `MODE SOURCE DESTINATION COVERAGE : PIXEL`, or `refused CODE PIXEL` behind the
+/// colon; coverages are decimal, all other numbers hexadecimal. A line that begins with # is none.
+pub fn cases(text: &str) -> Vec<Case> {
+    text.lines().filter(|line| !line.starts_with('#')).map(case).collect()
+}
+
+fn case(line: &str) -> Case {
+    let words: Vec<&str> = line.split_whitespace().collect();
+    let (step, code, pixel) = match words[..] {
+        [mode, source, destination, coverage, ":", pixel] => ((mode, source, destination, coverage), "0", pixel),
+        [mode, source, destination, coverage, ":", "refused", code, pixel] => {
+            ((mode, source, destination, coverage), code, pixel)
+        }
+        _ => panic!("no case of the step: {line}"),
+    };
+    let number = |word: &str| u32::from_str_radix(word, 16).expect("a hexadecimal number");
+    let (mode, source, destination, coverage) = step;
+    let step = Step {
+        mode: number(mode),
+        coverage: coverage.parse().expect("a coverage"),
+        source: number(source).to_be_bytes(),
+        destination: number(destination).to_be_bytes(),
+    };
+    Case { step, code: number(code), pixel: number(pixel).to_be_bytes() }
+}
