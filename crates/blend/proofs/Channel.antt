@@ -5,9 +5,9 @@ use native.Mathlib.Nat.{mul-le-mul-right}
 use native.Mathlib.Omega.{arith}
 use Rattle.blend.specs.PorterDuff.{blended, stored}
 
--- up to 65,280 the quotient by 255 is had by sums and shifts, and what is cut there is 255
-pub by-shifts : (p q m : ℕ) → p ≤ 65025 → m ≡ min q (65280 - (p + 128)) → (p + 128 + m + (p + 128 + m) / 256) / 256 ≡ min 255 ((p + q + 127) / 255)
-by-shifts p q m h e = omega arith
+-- a sum that is cut at 65,279 has the quotient 255
+pub cut-quotient : (p q m : ℕ) → p ≤ 65025 → m ≡ min q (65279 - (p + 127)) → (p + 127 + m) / 255 ≡ min 255 ((p + q + 127) / 255)
+cut-quotient p q m h e = omega arith
 
 -- what is divided by 16
 pub stored-small : (k b d : ℕ) → k ≤ 16 → b < 256 → d < 256 → b * k + d * (16 - k) ≤ 4080

@@ -7,6 +7,7 @@ use crate::factor::source_factor;
 use codes::ACCEPTED;
 use codes::ILLEGAL_ARGUMENT;
 use color::Pixel;
+use color::over_255;
 ghost use mathlib.Core.Path.{_≡_};
 ghost use mathlib.Core.Bool.{_&&_};
 ghost use Prim.Native.Nat.{min, _≤_};
@@ -119,13 +120,12 @@ fn cut(c: u8, a: u8) -> u8
     if c < a { c } else { a }
 }
 
-// B, divided by 255 with sums and shifts: up to 65,280, where B is 255, (n + n / 256) / 256 is (n - 1) / 255. So n is cut there, and 16 bits hold it.
+// B. What is divided by 255 may be up to 130,177; from 65,025 on B is 255, so it is cut where the division ends.
 fn blended_byte(s: u8, fs: u8, d: u8, fd: u8) -> u8
     ensures { λ r. ⌜ r ≡ blended s fs d fd ⌝ }
 {
-    let p = (s as u16) * (fs as u16) + 128;
-    let n = p + least((d as u16) * (fd as u16), 65280 - p);
-    ((n + (n >> 8)) >> 8) as u8
+    let p = (s as u16) * (fs as u16) + 127;
+    over_255(p + least((d as u16) * (fd as u16), 65279 - p))
 }
 
 // The smaller of two.

@@ -1,5 +1,6 @@
 // Colours as floats and pixels as bytes: a channel's byte and back, and bytes premultiplied by their alpha.
 ghost use mathlib.Core.Path.{_≡_};
+ghost use Prim.Native.Nat.{_/_, _≤_};
 ghost use lib.Ieee as Ieee;
 ghost use Rattle.color.specs.Channels.{clamped, channelByte, byteChannel, bytesOfColor, colorOfBytes, premultiply, premultiplied};
 
@@ -78,7 +79,16 @@ pub fn byte_channel(c: u8) -> f32
 pub fn premultiply(c: u8, a: u8) -> u8
     ensures { λ r. ⌜ r ≡ premultiply c a ⌝ }
 {
-    (((c as u32) * (a as u32) + 127) / 255) as u8
+    over_255((c as u16) * (a as u16) + 127)
+}
+
+// n / 255 by sums and shifts, the one way in which bytes are divided. Up to 65,279, where the quotient is 255, the sums fit 16 bits.
+pub fn over_255(n: u16) -> u8
+    requires { ⌜ n ≤ 65279 ⌝ }
+    ensures { λ r. ⌜ r ≡ n / 255 ⌝ }
+{
+    let m = n + 1;
+    ((m + (m >> 8)) >> 8) as u8
 }
 
 // v cut to 0..1.

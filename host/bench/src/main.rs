@@ -1,13 +1,15 @@
 //! Times full drawings and quick redraws through libwayramesh.a, and prints a table.
 //!
-//!     cargo run --offline --release -p bench [SECONDS [WORKLOAD]]
+//!     cargo run --offline --release -p bench [SECONDS [PART]]
 //!
-//! Each workload is a scene and its next frame, for about SECONDS (2); all are timed, or the named one. Full drawings
-//! and redraws take turns in one run: a frame is drawn, then redrawn to the other. The buffers are not cleared between
-//! calls. A redraw's time includes the rules on both scenes, a full drawing's those on one. Then come the stages of the
-//! full drawing of the first frame.
+//! Each part takes about SECONDS (2); all are timed, or the named one. A workload is a scene and its next frame: `panel`,
+//! `panel small`, `largest`. Full drawings and redraws take turns in one run: a frame is drawn, then redrawn to the other.
+//! The buffers are not cleared between calls. A redraw's time includes the rules on both scenes, a full drawing's those on
+//! one. Then come the stages of the full drawing of the first frame. The other parts are `paints`, a full drawing in each
+//! kind of paint, `blending`, blended pixels alone, and `compare`.
 #![forbid(unsafe_code)]
 
+mod blending;
 mod compare;
 mod stages;
 mod workloads;
@@ -21,26 +23,38 @@ use workloads::Workload;
 
 fn main() {
     let seconds = env::args().nth(1).map_or(2.0, |text| text.parse().expect("a number of seconds"));
+    let budget = Duration::from_secs_f64(seconds);
     let chosen = env::args().nth(2);
+    let wanted = |part: &str| chosen.as_deref().map_or(true, |name| name == part);
+    print_workloads(workloads::all().into_iter().filter(|workload| wanted(workload.name)).collect(), budget);
+    if wanted("paints") {
+        print_paints(budget);
+    }
+    if wanted("blending") {
+        blending::print(budget);
+    }
+    if wanted("compare") {
+        compare::print(budget);
+    }
+}
+
+/// A line for each workload, and its stages below.
+fn print_workloads(workloads: Vec<Workload>, budget: Duration) {
+    if workloads.is_empty() {
+        return;
+    }
     println!(
         "{:<14} {:>10} {:>10} {:>10} {:>10} {:>8} {:>7}",
         "", "full", "median", "redraw", "median", "area", "ratio"
     );
-    for workload in workloads::all().into_iter().filter(|w| chosen.as_deref().map_or(true, |name| name == w.name)) {
-        let times = whole_calls(&workload, Duration::from_secs_f64(seconds));
-        print_line(&workload, times);
-        print_stages(&workload, Duration::from_secs_f64(seconds));
-    }
-    if chosen.is_none() {
-        print_paints(Duration::from_secs_f64(seconds));
+    for workload in workloads {
+        print_line(&workload, whole_calls(&workload, budget));
+        print_stages(&workload, budget);
     }
     println!("Times in microseconds, the best and the median. Area: the redrawn share of the surface. Ratio: redraw to full.");
     println!(
         "Stages: the difference of the best times of drawings that stop short, and its share of the full drawing."
     );
-    if chosen.map_or(true, |name| name == "compare") {
-        compare::print(Duration::from_secs_f64(seconds));
-    }
 }
 
 /// A dial in each kind of paint, in turn: the best time of a full drawing for each pixel.
