@@ -3,11 +3,11 @@
  *
  *     cc -std=c99 -I include examples/composite.c target/staticlib/libwayramesh.a -o composite
  *     echo 2001 80000080 0000ffff 16 | ./composite         half-transparent red over blue: 80007fff
- *     ./composite < tests/vectors/step/P02.txt
+ *     ./composite < tests/vectors/step/P06.txt
  *
- * A line has the blend mode, the source and the destination in hexadecimal, R, G, B, A and premultiplied, and the
- * coverage. What follows is not read, and a line that begins with # is none. The pixel to be stored is printed, or the
- * code of the refusal and the destination.
+ * A line has the blend mode, the source and the destination in hexadecimal, R, G, B, A and premultiplied, the coverage,
+ * and the mask's byte, or 255 where there is none. What follows is not read, and a line that begins with # is none. The
+ * pixel to be stored is printed, or the code of the refusal and the destination.
  */
 
 #include "wayramesh.h"
@@ -30,16 +30,17 @@ int main(void)
 {
     char line[256];
     while (fgets(line, sizeof line, stdin) != NULL) {
-        uint32_t mode, source, destination, coverage;
+        uint32_t mode, source, destination, coverage, mask = 255;
         if (line[0] == '#') {
             continue;
         }
-        if (sscanf(line, "%" SCNx32 " %" SCNx32 " %" SCNx32 " %" SCNu32, &mode, &source, &destination, &coverage) != 4) {
+        if (sscanf(line, "%" SCNx32 " %" SCNx32 " %" SCNx32 " %" SCNu32 " %" SCNu32, &mode, &source, &destination,
+                   &coverage, &mask) < 4) {
             fprintf(stderr, "no call: %s", line);
             return 1;
         }
         wayramesh_composited answer =
-            wayramesh_composite(mode, coverage, pixel_of(source), pixel_of(destination));
+            wayramesh_composite(mode, coverage, mask, pixel_of(source), pixel_of(destination));
         if (answer.code != WAYRAMESH_ACCEPTED) {
             printf("refused %04" PRIx32 " ", answer.code);
         }

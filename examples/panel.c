@@ -2,8 +2,10 @@
  * panel.c: draws a scene, redraws it to the next one, and writes the picture as a PAM image.
  *
  *     cc -std=c99 -I include examples/panel.c target/staticlib/libwayramesh.a -o panel
- *     ./panel > panel.pam                                             a gauge that is made here
+ *     ./panel > panel.pam                                             a gauge and a mask that are made here
  *     ./panel scenes/panel.scene scenes/panel-next.scene > panel.pam  two scene files
+ *     ./panel scenes/panel-soft.scene scenes/panel-soft-next.scene scenes/panel-soft.mask > panel.pam
+ *                                                                     and a mask for both, a byte for each pixel
  *
  * What the two calls answered goes to standard error.
  */
@@ -18,6 +20,10 @@
 
 enum { PAYLOAD = 508, DRAW_BLOCKS = 4, DRAW_BYTES = PAYLOAD * DRAW_BLOCKS, GAUGE_DRAWS = 3 };
 enum { GAUGE_BYTES = (int)WAYRAMESH_BLOCK_BYTES * (1 + DRAW_BLOCKS * GAUGE_DRAWS) };
+enum { GAUGE_WIDTH = 64, GAUGE_HEIGHT = 24, BEZEL = 4, FADE = 6 };
+
+/* The flag of a draw that asks for the mask. */
+enum { MASKED = 1 << 3 };
 
 static void put_u16(uint8_t *at, unsigned value)
 {
@@ -109,7 +115,7 @@ static void put_circle(uint8_t *at, float cx, float cy, float fx, float fy, floa
 
 /*
  * A bar gauge of 64 by 24 pixels: its trough, lit from above by a radial gradient, its filling, a ramp from green to
- * red, and a needle at a column.
+ * red that fades under the mask, and a needle at a column.
  */
 static void gauge(uint8_t *scene, int needle)
 {
@@ -119,8 +125,8 @@ static void gauge(uint8_t *scene, int needle)
     uint8_t payload[PAYLOAD] = {0};
     uint8_t draws[GAUGE_DRAWS][DRAW_BYTES];
 
-    put_u16(payload, 64);
-    put_u16(payload + 2, 24);
+    put_u16(payload, GAUGE_WIDTH);
+    put_u16(payload + 2, GAUGE_HEIGHT);
     put_u16(payload + 4, GAUGE_DRAWS);
     payload[11] = 255;
     put_block(scene, 0, payload);
@@ -134,6 +140,7 @@ static void gauge(uint8_t *scene, int needle)
     polygon(draws[0], trough, 4);
 
     begin_draw(draws[1], 0.0f, 0.0f, 0.0f);
+    put_u16(draws[1], MASKED);
     put_u16(draws[1] + 4, 0x1B01);
     draws[1][10] = 2;
     put_f32(draws[1] + 52, 4.0f);
@@ -152,7 +159,16 @@ static void gauge(uint8_t *scene, int needle)
     }
 }
 
-/* ---- Scenes from files, and the picture out ------------------------------------------------------------------- */
+/* The mask's byte at a pixel: none of a paint on the bezel, all of it in the middle, and less and less in between. */
+static uint8_t mask_byte(int x, int y)
+{
+    int column = x < GAUGE_WIDTH - 1 - x ? x : GAUGE_WIDTH - 1 - x;
+    int row = y < GAUGE_HEIGHT - 1 - y ? y : GAUGE_HEIGHT - 1 - y;
+    int depth = (column < row ? column : row) - BEZEL;
+    return (uint8_t)(depth <= 0 ? 0 : depth >= FADE ? 255 : 255 * depth / FADE);
+}
+
+/* ---- Scenes and masks from files, and the picture out --------------------------------------------------------- */
 
 typedef struct {
     uint8_t *bytes;
@@ -169,16 +185,16 @@ static void *allocate(size_t bytes)
     return memory;
 }
 
-/* Reads a file, and no more of it than one byte past the longest scene. */
-static file read_file(const char *name)
+/* Reads a file, and no more of it than one byte past the most that makes sense. */
+static file read_file(const char *name, size_t most)
 {
-    file f = {allocate(WAYRAMESH_MAX_SCENE_BYTES + 1), 0};
+    file f = {allocate(most + 1), 0};
     FILE *stream = fopen(name, "rb");
     if (stream == NULL) {
         perror(name);
         exit(1);
     }
-    f.length = fread(f.bytes, 1, WAYRAMESH_MAX_SCENE_BYTES + 1, stream);
+    f.length = fread(f.bytes, 1, most + 1, stream);
     fclose(stream);
     return f;
 }
@@ -187,6 +203,24 @@ static file gauge_file(int needle)
 {
     file f = {allocate(GAUGE_BYTES), GAUGE_BYTES};
     gauge(f.bytes, needle);
+    return f;
+}
+
+static file gauge_mask(void)
+{
+    file f = {allocate(GAUGE_WIDTH * GAUGE_HEIGHT), GAUGE_WIDTH * GAUGE_HEIGHT};
+    for (int y = 0; y < GAUGE_HEIGHT; y++) {
+        for (int x = 0; x < GAUGE_WIDTH; x++) {
+            f.bytes[GAUGE_WIDTH * y + x] = mask_byte(x, y);
+        }
+    }
+    return f;
+}
+
+/* A run of no bytes, which has an address as every run has. */
+static file no_mask(void)
+{
+    file f = {allocate(1), 0};
     return f;
 }
 
@@ -230,25 +264,32 @@ static void write_pam(const uint8_t *surface, unsigned width, unsigned height)
 int main(int argc, char **argv)
 {
     static int32_t scratch[WAYRAMESH_SCRATCH_NUMBERS];
-    if (argc != 1 && argc != 3) {
-        fprintf(stderr, "usage: panel [OLD NEW] > PICTURE\n");
+    if (argc == 2 || argc > 4) {
+        fprintf(stderr, "usage: panel [OLD NEW [MASK]] > PICTURE\n");
         return 2;
     }
-    file old_scene = argc == 3 ? read_file(argv[1]) : gauge_file(16);
-    file new_scene = argc == 3 ? read_file(argv[2]) : gauge_file(44);
+    int made_here = argc == 1;
+    file old_scene = made_here ? gauge_file(16) : read_file(argv[1], WAYRAMESH_MAX_SCENE_BYTES);
+    file new_scene = made_here ? gauge_file(44) : read_file(argv[2], WAYRAMESH_MAX_SCENE_BYTES);
+    uint32_t mask_lent = made_here || argc == 4;
+    file mask = made_here ? gauge_mask()
+                : mask_lent ? read_file(argv[3], WAYRAMESH_MAX_SIDE * WAYRAMESH_MAX_SIDE)
+                            : no_mask();
 
     /* The sides are looked at only for the surface's length: the call judges them. */
     unsigned width = header_number(old_scene, 0), height = header_number(old_scene, 2);
     size_t surface_len = 4 * (size_t)width * height;
     uint8_t *surface = allocate(surface_len + 1);
 
-    report("draw", wayramesh_draw(old_scene.bytes, old_scene.length, surface, surface_len, scratch,
-                                  WAYRAMESH_SCRATCH_NUMBERS));
-    report("redraw", wayramesh_redraw(old_scene.bytes, old_scene.length, new_scene.bytes, new_scene.length, surface,
-                                      surface_len, scratch, WAYRAMESH_SCRATCH_NUMBERS));
+    report("draw", wayramesh_draw(old_scene.bytes, old_scene.length, mask_lent, mask.bytes, mask.length, surface,
+                                  surface_len, scratch, WAYRAMESH_SCRATCH_NUMBERS));
+    report("redraw", wayramesh_redraw(old_scene.bytes, old_scene.length, new_scene.bytes, new_scene.length, mask_lent,
+                                      mask.bytes, mask.length, surface, surface_len, scratch,
+                                      WAYRAMESH_SCRATCH_NUMBERS));
     write_pam(surface, width, height);
 
     free(surface);
+    free(mask.bytes);
     free(new_scene.bytes);
     free(old_scene.bytes);
     return 0;

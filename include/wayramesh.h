@@ -4,9 +4,9 @@
  * A scene file goes in, and pixels come out. wayramesh_draw draws a scene in full. wayramesh_redraw takes a surface
  * from one scene to the next by drawing only the area in which they may differ. The scene file's format is paper 01's,
  * "The scene file", with paper 02's P8 (both sums of a block's check begin at the block's number, counted from 0),
- * P3 (a draw with segments whose sx * sy - shx * shy is 0, in whole numbers of 1/65,536, is refused) and P1 (radial
- * gradients). At the end of this file, wayramesh_compare says where two pictures differ, and wayramesh_composite is the
- * blending step on one pixel.
+ * P3 (a draw with segments whose sx * sy - shx * shy is 0, in whole numbers of 1/65,536, is refused), P1 (radial
+ * gradients) and P6 (flag bit 3, by which a draw asks for a mask). At the end of this file, wayramesh_compare says where
+ * two pictures differ, and wayramesh_composite is the blending step on one pixel.
  *
  * Link with libwayramesh.a (x86-64; it needs memcpy and memset of the C library). The library allocates nothing, keeps
  * nothing between calls, and does no input or output. examples/panel.c is a whole program.
@@ -17,21 +17,23 @@
  *      draw and scene number, and which area an accepted one answers.
  *   2. After a refused call surface and scratch hold what they held. After an accepted call every number of the scratch
  *      is zero.
- *   3. After an accepted wayramesh_draw the surface holds the picture of the scene, whatever surface and scratch held.
+ *   3. After an accepted wayramesh_draw the surface holds the picture of the scene under the mask, or without one, whatever
+ *      surface and scratch held.
  *   4. After an accepted wayramesh_redraw the surface holds the new scene's picture in the area that is answered, and
- *      outside it every byte that it held. If it held the old scene's picture, it holds the whole of the new one's.
+ *      outside it every byte that it held. If it held the old scene's picture under the same mask, or both without one, it
+ *      holds the whole of the new one's.
  *
- * The scenes are not changed. This speaks of what the buffers hold when a call has returned: while it runs, the area
+ * Scenes and mask are not changed. This speaks of what the buffers hold when a call has returned: while it runs, the area
  * shows the background and part of the draws, so a display that reads the surface meanwhile may show that.
  *
  * What the proof takes for granted of a caller, as docs/REVIEW.md has it:
  *
  *   1. Pointers. None is NULL. Each leads to as many items as its length says, and they stay there during the call. A
  *      run of length 0 is not read or written.
- *   2. Alignment. The scratch is aligned for int32_t. Scenes and surface may lie at any address.
- *   3. Overlap. Surface and scratch overlap neither each other nor a scene. The two scenes of a redraw may overlap or be
- *      the same.
- *   4. Others. During a call no one else writes the scenes, and no one else reads or writes surface and scratch.
+ *   2. Alignment. The scratch is aligned for int32_t. Scenes, mask and surface may lie at any address.
+ *   3. Overlap. Surface and scratch overlap neither each other nor a scene nor the mask. Scenes and mask may overlap, and
+ *      the two scenes of a redraw may be the same.
+ *   4. Others. During a call no one else writes scenes and mask, and no one else reads or writes surface and scratch.
  *   5. Stack. There are 32 KiB of stack free.
  *   6. Floating-point environment. Round to nearest, as C programs start (fesetround(FE_TONEAREST)), and nothing flushed
  *      to zero. In another rounding mode some colours differ by 1. A call leaves the mode as it is.
@@ -52,7 +54,7 @@ extern "C" {
 
 /*
  * Codes. Every call returns one of these and no other (proved too). A scene is judged from its start to its end, and the
- * first rule that it breaks decides; then come the surface and the scratch, in this order:
+ * first rule that it breaks decides; then come the surface, the mask and the scratch, in this order:
  *
  *   the length of the file: at least 512, and a multiple of 512           WAYRAMESH_BAD_LENGTH
  *   the check of block 0                                                  WAYRAMESH_BAD_CHECKSUM
@@ -67,6 +69,7 @@ extern "C" {
  *   (a redraw judges the old scene, then the new one, then compares
  *   their sizes                                                           WAYRAMESH_ILLEGAL_ARGUMENT)
  *   the surface                                                           WAYRAMESH_UNSUPPORTED_IMAGE_FORMAT
+ *   the mask, if one is lent                                              WAYRAMESH_UNSUPPORTED_IMAGE_FORMAT
  *   the scratch                                                           WAYRAMESH_OUT_OF_MEMORY
  */
 
@@ -79,14 +82,14 @@ extern "C" {
 /* The check of a block is not the one of its payload and its number: a block is spoiled or out of its place. */
 #define WAYRAMESH_BAD_CHECKSUM 0xB001u
 
-/* A field, float, segment or coordinate breaks a rule, a matrix is flat, or the two scenes of a redraw differ in width
-   or height. */
+/* A field, float, segment or coordinate breaks a rule, a matrix is flat, a draw asks for a mask where none is lent, or the
+   two scenes of a redraw differ in width or height. */
 #define WAYRAMESH_ILLEGAL_ARGUMENT 0x1001u
 
 /* A segment is an arc. */
 #define WAYRAMESH_UNSUPPORTED_PATH_FORMAT 0x1005u
 
-/* surface_len is not 4 * width * height. */
+/* surface_len is not 4 * width * height, or mask_len of a mask that is lent is not width * height. */
 #define WAYRAMESH_UNSUPPORTED_IMAGE_FORMAT 0x1004u
 
 /* scratch_len is below WAYRAMESH_SCRATCH_NUMBERS. */
@@ -111,13 +114,14 @@ extern "C" {
  *   code     WAYRAMESH_ACCEPTED, or why the call was refused.
  *   draw     The number, from 0, of the draw that broke a rule. WAYRAMESH_NO_DRAW if the call was accepted, or what was
  *            wrong is in no draw.
- *   scene    1 if the new scene of a redraw broke a rule or its size differs from the old one's; else 0.
+ *   scene    1 if the new scene of a redraw broke a rule or its size differs from the old one's; else 0, as for surface,
+ *            mask and scratch.
  *   x, y, width, height
  *            The pixels that an accepted call has drawn: columns x to x + width - 1 and rows y to y + height - 1, where
  *            row 0 is the lowest. They lie on the surface. A full drawing answers the whole surface. A redraw answers
  *            the smallest rectangle that holds the old and the new box of every changed draw, or the whole surface if
  *            the background changed; all four are 0 where no such box has a pixel, and in every refusal. A draw's box
- *            is that of its path's edges, in whole pixels, cut to the surface; scissors do not count.
+ *            is that of its path's edges, in whole pixels, cut to the surface; scissors and mask do not count.
  */
 typedef struct wayramesh_answer {
     uint32_t code;
@@ -130,9 +134,14 @@ typedef struct wayramesh_answer {
 } wayramesh_answer;
 
 /*
- * Draws a scene in full.
+ * Draws a scene in full, with a mask or none.
  *
  *   scene, scene_len      The scene file. Any bytes may be given: those that are no scene are refused.
+ *   mask_lent             0 if no mask is lent, whatever the run holds and however long it is; any other number if one is.
+ *   mask, mask_len        The mask, a byte for each pixel: that of pixel (x, y) is at y * width + x. Draws with flag bit 3
+ *                         are drawn with so many 255ths of their coverage there as the byte says, all others as if it were
+ *                         255. mask_len of a mask that is lent must be width * height, also where no draw asks for it.
+ *                         Where none is lent, a scene with a draw that asks for it is refused.
  *   surface, surface_len  Where the picture goes. Pixel (x, y) is the four bytes R, G, B, A at 4 * (y * width + x), the
  *                         colours premultiplied by alpha; row 0 is the lowest. The scene's block 0 has width and height
  *                         as its first two 16-bit numbers, little-endian; surface_len must be 4 * width * height.
@@ -144,15 +153,28 @@ typedef struct wayramesh_answer {
  * less with more scratch (docs/SPEED.md).
  */
 wayramesh_answer wayramesh_draw(const uint8_t *scene, size_t scene_len,
+                                uint32_t mask_lent, const uint8_t *mask, size_t mask_len,
                                 uint8_t *surface, size_t surface_len,
                                 int32_t *scratch, size_t scratch_len);
 
+/* The same without a mask. */
+static inline wayramesh_answer wayramesh_draw_unmasked(const uint8_t *scene, size_t scene_len,
+                                                       uint8_t *surface, size_t surface_len,
+                                                       int32_t *scratch, size_t scratch_len)
+{
+    return wayramesh_draw(scene, scene_len, 0, scene, 0, surface, surface_len, scratch, scratch_len);
+}
+
 /*
- * Redraws a surface that holds the picture of the old scene, so that it holds that of the new one.
+ * Redraws a surface that holds the picture of the old scene, so that it holds that of the new one, both under one mask or
+ * none.
  *
  *   old, old_len          The scene file that the surface was drawn from.
  *   new_scene, new_len    The scene file to show next, of the same width and height. The two may be the same bytes in
  *                         memory.
+ *   mask_lent, mask, mask_len
+ *                         As in wayramesh_draw, for both scenes: the mask under which the surface was drawn. No draw counts
+ *                         as changed because the mask is another: draw in full when it is.
  *   surface, surface_len  As in wayramesh_draw. Pixels outside the answered area are as before.
  *   scratch, scratch_len  As in wayramesh_draw.
  *
@@ -163,8 +185,18 @@ wayramesh_answer wayramesh_draw(const uint8_t *scene, size_t scene_len,
  */
 wayramesh_answer wayramesh_redraw(const uint8_t *old, size_t old_len,
                                   const uint8_t *new_scene, size_t new_len,
+                                  uint32_t mask_lent, const uint8_t *mask, size_t mask_len,
                                   uint8_t *surface, size_t surface_len,
                                   int32_t *scratch, size_t scratch_len);
+
+/* The same without a mask. */
+static inline wayramesh_answer wayramesh_redraw_unmasked(const uint8_t *old, size_t old_len,
+                                                         const uint8_t *new_scene, size_t new_len,
+                                                         uint8_t *surface, size_t surface_len,
+                                                         int32_t *scratch, size_t scratch_len)
+{
+    return wayramesh_redraw(old, old_len, new_scene, new_len, 0, old, 0, surface, surface_len, scratch, scratch_len);
+}
 
 /* ---- Two pictures compared ---- */
 
@@ -228,8 +260,8 @@ typedef struct wayramesh_pixel {
 /*
  * What wayramesh_composite answers.
  *
- *   code     WAYRAMESH_ACCEPTED, or WAYRAMESH_ILLEGAL_ARGUMENT if mode is none of the five or coverage is above
- *            WAYRAMESH_SAMPLES; nothing else is refused.
+ *   code     WAYRAMESH_ACCEPTED, or WAYRAMESH_ILLEGAL_ARGUMENT if mode is none of the five, coverage is above
+ *            WAYRAMESH_SAMPLES or mask is above 255; nothing else is refused.
  *   pixel    What is to be stored; the destination as it was given if the call was refused.
  */
 typedef struct wayramesh_composited {
@@ -242,6 +274,7 @@ typedef struct wayramesh_composited {
  *
  *   mode         One of WAYRAMESH_BLEND_...
  *   coverage     How many of the pixel's WAYRAMESH_SAMPLES samples are covered.
+ *   mask         The mask's byte, 0 to 255; 255 where there is no mask.
  *   source       The paint, premultiplied.
  *   destination  What the surface holds there. With coverage 0 it is answered as it is. With any other it is read with
  *                its colours clamped to 0..alpha, alpha itself as it is.
@@ -249,7 +282,7 @@ typedef struct wayramesh_composited {
  * It is proved that the call returns and that the answer is the one of the rules, for all numbers and bytes; and that if
  * no colour of the source is above its alpha, none of a pixel that is answered with coverage above 0 is.
  */
-wayramesh_composited wayramesh_composite(uint32_t mode, uint32_t coverage,
+wayramesh_composited wayramesh_composite(uint32_t mode, uint32_t coverage, uint32_t mask,
                                          wayramesh_pixel source, wayramesh_pixel destination);
 
 #ifdef __cplusplus

@@ -3,7 +3,7 @@ use mathlib.Core.Path.{_≡_}
 use Prim.Native.Nat.{ℕ, min, _+_, _-_, _*_, _/_, _≤_, _<_}
 use native.Mathlib.Nat.{mul-le-mul-right}
 use native.Mathlib.Omega.{arith}
-use Rattle.blend.specs.PorterDuff.{blended, stored}
+use Rattle.blend.specs.PorterDuff.{blended, storedUnmasked}
 
 -- a sum that is cut at 65,279 has the quotient 255
 pub cut-quotient : (p q m : ℕ) → p ≤ 65025 → m ≡ min q (65279 - (p + 127)) → (p + 127 + m) / 255 ≡ min 255 ((p + q + 127) / 255)
@@ -17,11 +17,11 @@ stored-small k b d h1 h2 h3 =
     omega (arith, mul-le-mul-right k hb, mul-le-mul-right (16 - k) hd)
 
 -- the byte stored where nothing is covered, where B is all, and where B is the source's own byte
-pub uncovered-byte : (b d : ℕ) → stored 0 b d ≡ d
+pub uncovered-byte : (b d : ℕ) → storedUnmasked 0 b d ≡ d
 uncovered-byte b d = omega arith
 
-pub covered-byte : (b d : ℕ) → stored 16 b d ≡ b
+pub covered-byte : (b d : ℕ) → storedUnmasked 16 b d ≡ b
 covered-byte b d = omega arith
 
-pub replaced-byte : (s d : ℕ) → s < 256 → stored 16 (blended s 255 d 0) d ≡ s
+pub replaced-byte : (s d : ℕ) → s < 256 → storedUnmasked 16 (blended s 255 d 0) d ≡ s
 replaced-byte s d h = omega arith

@@ -2,8 +2,10 @@
 --     Channel     the arithmetic of one channel
 --     Shortcuts   where the step on a pixel needs less of it
 --     Spans       pixels that are covered alike
+--     Masks       the step under a mask, and that a whole one is none
 --     Under       no channel above its alpha, and what is read clamped
 pub mod Channel
 pub mod Shortcuts
 pub mod Spans
+pub mod Masks
 pub mod Under

@@ -6,22 +6,23 @@ use lib.Dec.{T, eqb}
 use borrow.Author.Tests.{eqb-true, ne-eqb}
 use Rattle.color.specs.declared.Pixel.{Pixel}
 use Rattle.blend.specs.PorterDuff.{modeSrc, modeSrcOver, modeDstOver, modeSrcIn, sourceFactor, destinationFactor}
-use Rattle.blend.specs.PorterDuff.{compositeByte, clamped, compositeOn, composite}
+use Rattle.blend.specs.PorterDuff.{clamped, compositeOn, composite}
+use Rattle.blend.specs.Unmasked.{unmaskedByte, unmaskedOn}
 use Rattle.blend.specs.Spans.{hides, fixedSource, blendedPixel}
 use Rattle.blend.proofs.Channel.{uncovered-byte, covered-byte, replaced-byte}
 
 -- where no sample is covered the pixel stays as it is; elsewhere it is read clamped
-pub uncovered-keeps : (mode : ℕ) (s d : Pixel) → composite mode 0 s d ≡ d
+pub uncovered-keeps : (mode m : ℕ) (s d : Pixel) → composite mode 0 m s d ≡ d
 unfolding composite
-uncovered-keeps mode s d = refl
+uncovered-keeps mode m s d = refl
 
-pub covered-reads : (mode k : ℕ) (s d : Pixel) → (k ≡ 0 → ⊥) → compositeOn mode k s (clamped d) ≡ composite mode k s d
+pub covered-reads : (mode k m : ℕ) (s d : Pixel) → (k ≡ 0 → ⊥) → compositeOn mode k m s (clamped d) ≡ composite mode k m s d
 unfolding composite
-covered-reads mode k s d h = rw (ne-eqb k 0 h)
+covered-reads mode k m s d h = rw (ne-eqb k 0 h)
 
 -- what is stored over a pixel where no sample is covered is that pixel
-pub uncovered-stores : (mode : ℕ) (s d : Pixel) → compositeOn mode 0 s d ≡ d
-unfolding compositeByte
+pub uncovered-stores : (mode : ℕ) (s d : Pixel) → unmaskedOn mode 0 s d ≡ d
+unfolding unmaskedByte
 uncovered-stores mode s d =
     rw (uncovered-byte _ (d .r), uncovered-byte _ (d .g), uncovered-byte _ (d .b), uncovered-byte _ (d .a))
 
@@ -46,8 +47,8 @@ unfolding destinationFactor
 hiding-destination mode sa h = by-hiding mode sa h (λ e. rw e) (λ e q. rw (e, q))
 
 -- under a full coverage its bytes are stored
-pub hiding-replaces : (mode : ℕ) (s d : Pixel) → s .r < 256 → s .g < 256 → s .b < 256 → s .a < 256 → hides mode (s .a) ≡ true → compositeOn mode 16 s d ≡ s
-unfolding compositeByte
+pub hiding-replaces : (mode : ℕ) (s d : Pixel) → s .r < 256 → s .g < 256 → s .b < 256 → s .a < 256 → hides mode (s .a) ≡ true → unmaskedOn mode 16 s d ≡ s
+unfolding unmaskedByte
 hiding-replaces mode s d r g b a h =
     rw (
       hiding-source mode (s .a) (d .a) h,
@@ -70,7 +71,7 @@ fixed-source mode da h = by-neither (eqb mode modeDstOver) (eqb mode modeSrcIn) 
 
 -- under a full coverage B is stored
 pub covered-stores : (mode : ℕ) (s d : Pixel) → fixedSource mode ≡ true → blendedPixel s (sourceFactor mode 0) d (destinationFactor mode (s .a))
-    ≡ compositeOn mode 16 s d
-unfolding compositeByte
+    ≡ unmaskedOn mode 16 s d
+unfolding unmaskedByte
 covered-stores mode s d h =
     rw (← fixed-source mode (d .a) h, covered-byte _ (d .r), covered-byte _ (d .g), covered-byte _ (d .b), covered-byte _ (d .a))

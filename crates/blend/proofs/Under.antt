@@ -1,4 +1,5 @@
--- No channel above its alpha (paper 02, P2): the step keeps to it, whatever the mode and the coverage, and a destination that keeps to it is read as it stands.
+-- No channel above its alpha (paper 02, P2): the step keeps to it, whatever the mode, the coverage and the mask, and a destination that keeps to it
+-- is read as it stands.
 use mathlib.Core.Path.{_≡_, refl, sym, ap, _∙_}
 use mathlib.Core.Bool.{Bool, true, false, cond}
 use Prim.Native.Nat.{ℕ, min, _-_, _*_, _≤_, _<_}
@@ -9,25 +10,26 @@ use borrow.Author.Tests.{eqb-true}
 use Rattle.color.specs.declared.Pixel.{Pixel}
 use Rattle.color.specs.Channels.{UnderAlpha}
 use Rattle.blend.specs.PorterDuff.{sourceFactor, destinationFactor, blended, stored, compositeByte, clamped, compositeOn, composite}
-use Rattle.blend.proofs.Shortcuts.{covered-reads, uncovered-stores}
+use Rattle.blend.proofs.Masks.{uncovered-masked}
+use Rattle.blend.proofs.Shortcuts.{covered-reads}
 
 -- ---- both formulas grow with their bytes
 blended-grows : (s t d e fs fd : ℕ) → s ≤ t → d ≤ e → blended s fs d fd ≤ blended t fs e fd
 blended-grows s t d e fs fd h k = omega (arith, mul-le-mul-right fs h, mul-le-mul-right fd k)
 
-stored-grows : (k b c d e : ℕ) → b ≤ c → d ≤ e → stored k b d ≤ stored k c e
-stored-grows k b c d e h l = omega (arith, mul-le-mul-right k h, mul-le-mul-right (16 - k) l)
+stored-grows : (k m b c d e : ℕ) → b ≤ c → d ≤ e → stored k m b d ≤ stored k m c e
+stored-grows k m b c d e h l = omega (arith, mul-le-mul-right m (mul-le-mul-right k h), mul-le-mul-right (4080 - k * m) l)
 
 -- and a channel and its alpha have the same factors
-byte-under : (mode k sa da s d : ℕ) → s ≤ sa → d ≤ da → compositeByte mode k sa da s d ≤ compositeByte mode k sa da sa da
+byte-under : (mode k m sa da s d : ℕ) → s ≤ sa → d ≤ da → compositeByte mode k m sa da s d ≤ compositeByte mode k m sa da sa da
 unfolding compositeByte
-byte-under mode k sa da s d h l = stored-grows k _ _ d da (blended-grows s sa d da (sourceFactor mode da) (destinationFactor mode sa) h l) l
+byte-under mode k m sa da s d h l = stored-grows k m _ _ d da (blended-grows s sa d da (sourceFactor mode da) (destinationFactor mode sa) h l) l
 
-pub stored-under : (mode k : ℕ) (s d : Pixel) → UnderAlpha s → UnderAlpha d → UnderAlpha (compositeOn mode k s d)
-stored-under mode k s d p q = record {
-  r = byte-under mode k (s .a) (d .a) (s .r) (d .r) (p .r) (q .r);
-  g = byte-under mode k (s .a) (d .a) (s .g) (d .g) (p .g) (q .g);
-  b = byte-under mode k (s .a) (d .a) (s .b) (d .b) (p .b) (q .b);
+pub stored-under : (mode k m : ℕ) (s d : Pixel) → UnderAlpha s → UnderAlpha d → UnderAlpha (compositeOn mode k m s d)
+stored-under mode k m s d p q = record {
+  r = byte-under mode k m (s .a) (d .a) (s .r) (d .r) (p .r) (q .r);
+  g = byte-under mode k m (s .a) (d .a) (s .g) (d .g) (p .g) (q .g);
+  b = byte-under mode k m (s .a) (d .a) (s .b) (d .b) (p .b) (q .b);
 }
 
 -- ---- a destination as it is read
@@ -42,14 +44,14 @@ clamp-keeps d h =
     rw (r, g, b)
 
 -- ---- what is stored with k above 0, on any destination
-pub composite-under : (mode k : ℕ) (s d : Pixel) → 0 < k → UnderAlpha s → UnderAlpha (composite mode k s d)
-composite-under mode k s d h p = rw (← covered-reads mode k s d (λ e. omega (arith, e))) (stored-under mode k s (clamped d) p (clamped-under d))
+pub composite-under : (mode k m : ℕ) (s d : Pixel) → 0 < k → UnderAlpha s → UnderAlpha (composite mode k m s d)
+composite-under mode k m s d h p = rw (← covered-reads mode k m s d (λ e. omega (arith, e))) (stored-under mode k m s (clamped d) p (clamped-under d))
 
 -- ---- on a destination with no channel above its alpha the step is the one without the clamp
-pub sound-as-stands : (mode k : ℕ) (s d : Pixel) → UnderAlpha d → compositeOn mode k s d ≡ composite mode k s d
+pub sound-as-stands : (mode k m : ℕ) (s d : Pixel) → UnderAlpha d → compositeOn mode k m s d ≡ composite mode k m s d
 unfolding composite
-sound-as-stands mode k s d h = by (eqb k 0) refl
+sound-as-stands mode k m s d h = by (eqb k 0) refl
   where
-    by : (t : Bool) → eqb k 0 ≡ t → compositeOn mode k s d ≡ cond t d (compositeOn mode k s (clamped d))
-    by true e = ap (λ (j : ℕ). compositeOn mode j s d) (eqb-true k 0 e) ∙ uncovered-stores mode s d
-    by false e = ap (compositeOn mode k s) (sym (clamp-keeps d h))
+    by : (t : Bool) → eqb k 0 ≡ t → compositeOn mode k m s d ≡ cond t d (compositeOn mode k m s (clamped d))
+    by true e = ap (λ (j : ℕ). compositeOn mode j m s d) (eqb-true k 0 e) ∙ uncovered-masked mode m s d
+    by false e = ap (compositeOn mode k m s) (sym (clamp-keeps d h))

@@ -1,4 +1,5 @@
 -- The definitions that contracts cite.
 pub mod PorterDuff
+pub mod Unmasked
 pub mod Rows
 pub mod Spans

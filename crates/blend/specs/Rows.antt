@@ -11,6 +11,6 @@ use Rattle.blend.specs.PorterDuff.{compositeOn}
 abbrev pub Coverage : List ℕ → Type 0
 Coverage ks = (i : ℕ) → i < length ks → getD ks i 0 ≤ 16
 
--- of the ith pixel that stands in d, under the ith k, with the ith pixel of the paint
-abbrev pub compositeRow : ℕ → List ℕ → (ℕ → Pixel) → List ℕ → List ℕ
-compositeRow mode ks paint d = run (length ks) (λ i. compositeOn mode (getD ks i 0) (paint i) (pixelIn d i))
+-- of the ith pixel that stands in d, under the ith k and the mask's byte for it, with the ith pixel of the paint
+abbrev pub compositeRow : ℕ → List ℕ → (ℕ → ℕ) → (ℕ → Pixel) → List ℕ → List ℕ
+compositeRow mode ks mask paint d = run (length ks) (λ i. compositeOn mode (getD ks i 0) (mask i) (paint i) (pixelIn d i))

@@ -5,6 +5,7 @@ pub mod step;
 
 pub use crate::factor::is_mode;
 pub use crate::row::composite_row;
+pub use crate::row::composite_row_masked;
 pub use crate::row::composite_run;
 pub use crate::step::composite;
 use color::Pixel;

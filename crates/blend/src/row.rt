@@ -1,4 +1,5 @@
-// The step along a part of a row, by its coverage bytes. The row's pixels are taken as they stand: who lends one with stray bytes clamps it first.
+// The step along a part of a row, by its coverage bytes, with a mask or without. The row's pixels are taken as they stand: who lends one with stray
+// bytes clamps it first.
 use crate::factor::destination_factor;
 use crate::factor::fixed_source;
 use crate::factor::hides;
@@ -6,12 +7,13 @@ use crate::factor::source_factor;
 use crate::step::blend_pixel;
 use crate::step::blended_pixel;
 use crate::step::composite_on;
+use crate::step::unmasked_on;
 use color::Pixel;
 ghost use mathlib.Core.Path.{_≡_};
 ghost use Prim.Native.Nat.{_*_, _≤_, _<_};
-ghost use lib.ListN.{length};
+ghost use lib.ListN.{length, getD};
 ghost use Rattle.raster.specs.Surface.{run, pixelIn};
-ghost use Rattle.blend.specs.PorterDuff.{compositeOn};
+ghost use Rattle.blend.specs.Unmasked.{unmaskedOn};
 ghost use Rattle.blend.specs.Rows.{Coverage, compositeRow};
 ghost use Rattle.blend.specs.Spans.{Span, blendedPixel};
 
@@ -19,13 +21,36 @@ ghost use Rattle.blend.specs.Spans.{Span, blendedPixel};
 pub fn composite_row(mode: u16, coverage: &[u8], src: &[u8], row: &mut [u8])
     requires { ⌜ (length (now src) ≡ length (now coverage) * 4) × (length (now row) ≡ length (now coverage) * 4) ⌝ }
     requires { ⌜ Coverage (now coverage) ⌝ }
-    ensures { λ _. ⌜ now (row .exit) ≡ compositeRow mode (now (coverage .entry)) (pixelIn (now (src .entry))) (now (row .entry)) ⌝ }
+    ensures { λ _. ⌜ now (row .exit) ≡ compositeRow mode (now (coverage .entry)) (λ i. 255) (pixelIn (now (src .entry))) (now (row .entry)) ⌝ }
+{
+    let mut i = 0;
+    while i < coverage.len() {
+        let p = unmasked_on(
+            mode,
+            coverage[i],
+            raster::pixel(src, i),
+            raster::pixel(row, i),
+        );
+        raster::put_pixel(row, i, p);
+        i += 1;
+    }
+}
+
+// The same through a mask of one byte for each pixel.
+pub fn composite_row_masked(mode: u16, coverage: &[u8], mask: &[u8], src: &[u8], row: &mut [u8])
+    requires { ⌜ (length (now src) ≡ length (now coverage) * 4) × (length (now row) ≡ length (now coverage) * 4) ⌝ }
+    requires { ⌜ Coverage (now coverage) × (length (now mask) ≡ length (now coverage)) ⌝ }
+    ensures { λ _. ⌜
+        now (row .exit)
+        ≡ compositeRow mode (now (coverage .entry)) (λ i. getD (now (mask .entry)) i 0) (pixelIn (now (src .entry))) (now (row .entry))
+        ⌝ }
 {
     let mut i = 0;
     while i < coverage.len() {
         let p = composite_on(
             mode,
             coverage[i],
+            mask[i],
             raster::pixel(src, i),
             raster::pixel(row, i),
         );
@@ -38,7 +63,7 @@ pub fn composite_row(mode: u16, coverage: &[u8], src: &[u8], row: &mut [u8])
 pub fn composite_run(mode: u16, coverage: &[u8], src: Pixel, row: &mut [u8])
     requires { ⌜ length (now row) ≡ length (now coverage) * 4 ⌝ }
     requires { ⌜ Coverage (now coverage) ⌝ }
-    ensures { λ _. ⌜ now (row .exit) ≡ compositeRow mode (now (coverage .entry)) (λ i. src) (now (row .entry)) ⌝ }
+    ensures { λ _. ⌜ now (row .exit) ≡ compositeRow mode (now (coverage .entry)) (λ i. 255) (λ i. src) (now (row .entry)) ⌝ }
 {
     let mut i = 0;
     while i < coverage.len() {
@@ -69,7 +94,7 @@ fn span_end(coverage: &[u8], i: usize) -> usize
 // n pixels under one coverage: left as they are, filled, or blended.
 fn composite_span(mode: u16, coverage: u8, src: Pixel, row: &mut [u8], n: usize)
     requires { ⌜ (coverage ≤ 16) × (length (now row) ≡ n * 4) ⌝ }
-    ensures { λ _. ⌜ now (row .exit) ≡ run n (λ i. compositeOn mode coverage src (pixelIn (now (row .entry)) i)) ⌝ }
+    ensures { λ _. ⌜ now (row .exit) ≡ run n (λ i. unmaskedOn mode coverage src (pixelIn (now (row .entry)) i)) ⌝ }
 {
     if coverage == 0 {
         return;
@@ -105,7 +130,7 @@ fn blend_covered(src: Pixel, fs: u8, row: &mut [u8], fd: u8, n: usize)
 // n pixels under one coverage, each blended.
 fn blend_span(mode: u16, coverage: u8, src: Pixel, row: &mut [u8], n: usize)
     requires { ⌜ (coverage ≤ 16) × (length (now row) ≡ n * 4) ⌝ }
-    ensures { λ _. ⌜ now (row .exit) ≡ run n (λ i. compositeOn mode coverage src (pixelIn (now (row .entry)) i)) ⌝ }
+    ensures { λ _. ⌜ now (row .exit) ≡ run n (λ i. unmaskedOn mode coverage src (pixelIn (now (row .entry)) i)) ⌝ }
 {
     let mut i = 0;
     while i < n {

@@ -1,4 +1,4 @@
-// The step on one pixel: the paint blended with what stands there, then stored by its coverage.
+// The step on one pixel: the paint blended with what stands there, then stored by its coverage and the mask's byte.
 use crate::Composited;
 use crate::factor::destination_factor;
 use crate::factor::hides;
@@ -12,17 +12,18 @@ ghost use mathlib.Core.Path.{_≡_};
 ghost use mathlib.Core.Bool.{_&&_};
 ghost use Prim.Native.Nat.{min, _≤_};
 ghost use lib.Dec.{leb};
-ghost use Rattle.blend.specs.PorterDuff.{isMode, blended, stored, clamped, compositeOn, composite, compositeAnswer};
+ghost use Rattle.blend.specs.PorterDuff.{isMode, blended, stored, storedUnmasked, clamped, compositeOn, composite, compositeAnswer};
+ghost use Rattle.blend.specs.Unmasked.{unmaskedOn};
 ghost use Rattle.blend.specs.Spans.{blendedPixel};
 
 // The step called alone, on any numbers and any bytes.
-pub fn composite(mode: u32, coverage: u32, src: Pixel, dst: Pixel) -> Composited
-    ensures { λ r. ⌜ r ≡ compositeAnswer mode coverage src dst ⌝ }
+pub fn composite(mode: u32, coverage: u32, mask: u32, src: Pixel, dst: Pixel) -> Composited
+    ensures { λ r. ⌜ r ≡ compositeAnswer mode coverage mask src dst ⌝ }
 {
-    if accepts(mode, coverage) {
+    if accepts(mode, coverage, mask) {
         Composited {
             code: ACCEPTED,
-            pixel: composite_pixel(mode as u16, coverage as u8, src, dst),
+            pixel: composite_pixel(mode as u16, coverage as u8, mask as u8, src, dst),
         }
     } else {
         Composited {
@@ -33,21 +34,51 @@ pub fn composite(mode: u32, coverage: u32, src: Pixel, dst: Pixel) -> Composited
 }
 
 // The step on any bytes: with no sample covered the pixel stays as it is, else it is read clamped.
-pub fn composite_pixel(mode: u16, coverage: u8, src: Pixel, dst: Pixel) -> Pixel
+pub fn composite_pixel(mode: u16, coverage: u8, mask: u8, src: Pixel, dst: Pixel) -> Pixel
     requires { ⌜ coverage ≤ 16 ⌝ }
-    ensures { λ r. ⌜ r ≡ composite mode coverage src dst ⌝ }
+    ensures { λ r. ⌜ r ≡ composite mode coverage mask src dst ⌝ }
 {
     let read = clamp(dst);
     if coverage == 0 {
         return dst;
     }
-    composite_on(mode, coverage, src, read)
+    composite_on(mode, coverage, mask, src, read)
 }
 
-// The step on a destination as it is read, with what needs no arithmetic first: no sample covered keeps the pixel, and the whole of the paint replaces it.
-pub fn composite_on(mode: u16, coverage: u8, src: Pixel, read: Pixel) -> Pixel
+// The step on a destination as it is read. A whole mask byte is none, and no sample covered keeps the pixel.
+pub fn composite_on(mode: u16, coverage: u8, mask: u8, src: Pixel, read: Pixel) -> Pixel
     requires { ⌜ coverage ≤ 16 ⌝ }
-    ensures { λ r. ⌜ r ≡ compositeOn mode coverage src read ⌝ }
+    ensures { λ r. ⌜ r ≡ compositeOn mode coverage mask src read ⌝ }
+{
+    if mask == 255 {
+        return unmasked_on(mode, coverage, src, read);
+    }
+    if coverage == 0 {
+        return read;
+    }
+    masked_pixel(mode, coverage, mask, src, read)
+}
+
+// Its four bytes under a mask.
+fn masked_pixel(mode: u16, coverage: u8, mask: u8, src: Pixel, read: Pixel) -> Pixel
+    requires { ⌜ coverage ≤ 16 ⌝ }
+    ensures { λ r. ⌜ r ≡ compositeOn mode coverage mask src read ⌝ }
+{
+    let fs = source_factor(mode, read.a);
+    let fd = destination_factor(mode, src.a);
+    let b = blended_pixel(src, fs, read, fd);
+    Pixel {
+        r: masked_byte(coverage, mask, b.r, read.r),
+        g: masked_byte(coverage, mask, b.g, read.g),
+        b: masked_byte(coverage, mask, b.b, read.b),
+        a: masked_byte(coverage, mask, b.a, read.a),
+    }
+}
+
+// The step without a mask, with what needs no arithmetic first: no sample covered keeps the pixel, and the whole of the paint replaces it.
+pub fn unmasked_on(mode: u16, coverage: u8, src: Pixel, read: Pixel) -> Pixel
+    requires { ⌜ coverage ≤ 16 ⌝ }
+    ensures { λ r. ⌜ r ≡ unmaskedOn mode coverage src read ⌝ }
 {
     if coverage == 0 {
         return read;
@@ -63,7 +94,7 @@ pub fn composite_on(mode: u16, coverage: u8, src: Pixel, read: Pixel) -> Pixel
 // Its four bytes.
 pub fn blend_pixel(mode: u16, coverage: u8, src: Pixel, read: Pixel) -> Pixel
     requires { ⌜ coverage ≤ 16 ⌝ }
-    ensures { λ r. ⌜ r ≡ compositeOn mode coverage src read ⌝ }
+    ensures { λ r. ⌜ r ≡ unmaskedOn mode coverage src read ⌝ }
 {
     let fs = source_factor(mode, read.a);
     let fd = destination_factor(mode, src.a);
@@ -89,16 +120,16 @@ pub fn blended_pixel(src: Pixel, fs: u8, dst: Pixel, fd: u8) -> Pixel
 }
 
 // What the step called alone takes. A mode has 16 bits, as in the scene file; a larger number is none.
-fn accepts(mode: u32, coverage: u32) -> bool
-    ensures { λ r. ⌜ r ≡ (isMode mode && leb coverage 16) ⌝ }
+fn accepts(mode: u32, coverage: u32, mask: u32) -> bool
+    ensures { λ r. ⌜ r ≡ (isMode mode && (leb coverage 16 && leb mask 255)) ⌝ }
 {
     if mode > 65535 {
         return false;
     }
-    if is_mode(mode as u16) {
-        return coverage <= 16;
+    if !is_mode(mode as u16) {
+        return false;
     }
-    false
+    coverage <= 16 && mask <= 255
 }
 
 // A destination as it is read: no channel above its alpha.
@@ -135,11 +166,21 @@ fn least(a: u16, b: u16) -> u16
     if a < b { a } else { b }
 }
 
-// What is stored of B over d.
+// What is stored of B over d, without a mask.
 fn stored_byte(coverage: u8, b: u8, d: u8) -> u8
     requires { ⌜ coverage ≤ 16 ⌝ }
-    ensures { λ r. ⌜ r ≡ stored coverage b d ⌝ }
+    ensures { λ r. ⌜ r ≡ storedUnmasked coverage b d ⌝ }
 {
     let k = coverage as u16;
     (((b as u16) * k + (d as u16) * (16 - k) + 8) >> 4) as u8
+}
+
+// What is stored of B over d, under the mask's byte: 4,080 is 16 times 255.
+fn masked_byte(coverage: u8, mask: u8, b: u8, d: u8) -> u8
+    requires { ⌜ coverage ≤ 16 ⌝ }
+    ensures { λ r. ⌜ r ≡ stored coverage mask b d ⌝ }
+{
+    let w = (coverage as u32) * (mask as u32);
+    let n = (b as u32) * w + (d as u32) * (4080 - w) + 2040;
+    over_255((n >> 4) as u16)
 }

@@ -1,6 +1,6 @@
 -- How a scene of one draw is judged without reading each byte from the start of the file: zero bytes at once, and a block's check by the block's own bytes.
 use mathlib.Core.Path.{_≡_, refl, sym, ap, _∙_}
-use mathlib.Core.Bool.{true, false}
+use mathlib.Core.Bool.{Bool, true, false}
 use mathlib.Core.List.{List, _++_}
 use Prim.Native.Nat.{ℕ, zero, suc, _+_, _*_, _-_, _≤_, _<_}
 use native.Mathlib.Omega.{arith}
@@ -49,13 +49,14 @@ module _ (d : List ℕ) (a m b n : ℕ) (first : drop a d ≡ replicate m 0 ++ d
   rest-judged segments m-end used n-end =
       rw (segments, unused-zeros d a m first coordinatesAt m-end, used, unused-zeros d b n second drawBytes n-end)
 
-pub draw-judged : (d : List ℕ) → headRules d .code ≡ 0 → floatRules d .code ≡ 0 → listRules d .code ≡ 0 → flatRule d .code ≡ 0 → pathRules d .code ≡ 0
-    → restRules d .code ≡ 0 → drawRules d .code ≡ 0
+pub draw-judged : (lent : Bool) (d : List ℕ) → headRules lent d .code ≡ 0 → floatRules d .code ≡ 0 → listRules d .code ≡ 0 → flatRule d .code ≡ 0
+    → pathRules d .code ≡ 0
+    → restRules d .code ≡ 0 → drawRules lent d .code ≡ 0
 unfolding drawRules
-draw-judged d head floats lists flat path rest = rw (head, floats, lists, flat, path, rest)
+draw-judged lent d head floats lists flat path rest = rw (head, floats, lists, flat, path, rest)
 
-pub scene-judged : (s d : List ℕ) → length s ≡ 2560 → countOf s ≡ 1 → headerRules s .code ≡ 0 → blockRight s 0 ≡ true
-    → blockRight s 1 ≡ true → blockRight s 2 ≡ true → blockRight s 3 ≡ true → blockRight s 4 ≡ true → drawOf s 0 ≡ d → drawRules d .code ≡ 0
-    → sceneFault s .code ≡ 0
+pub scene-judged : (lent : Bool) (s d : List ℕ) → length s ≡ 2560 → countOf s ≡ 1 → headerRules s .code ≡ 0 → blockRight s 0 ≡ true
+    → blockRight s 1 ≡ true → blockRight s 2 ≡ true → blockRight s 3 ≡ true → blockRight s 4 ≡ true → drawOf s 0 ≡ d → drawRules lent d .code ≡ 0
+    → sceneFault lent s .code ≡ 0
 unfolding sceneFaultFrom drawFaultFrom checkFaultsFrom
-scene-judged s d whole one header b0 b1 b2 b3 b4 bytes rules = rw (whole, b0, header, one, b1, b2, b3, b4, bytes, rules)
+scene-judged lent s d whole one header b0 b1 b2 b3 b4 bytes rules = rw (whole, b0, header, one, b1, b2, b3, b4, bytes, rules)

@@ -68,12 +68,12 @@ redAndBlueAtZero =
 abbrev bytesOf : Pixel → List ℤ
 bytesOf p = pos (p .r) ∷ pos (p .g) ∷ pos (p .b) ∷ pos (p .a) ∷ []
 
--- ---- the byte that SrcOver stores under k, of a grey s with alpha sa over a grey d with alpha da
+-- ---- the byte that SrcOver stores under k without a mask, of a grey s with alpha sa over a grey d with alpha da
 abbrev grey : ℕ → ℕ → Pixel
 grey c a = record { r = c; g = c; b = c; a = a }
 
 abbrev over : ℕ → ℕ → ℕ → ℕ → ℕ → ℕ
-over k s sa d da = composite modeSrcOver k (grey s sa) (grey d da) .r
+over k s sa d da = composite modeSrcOver k 255 (grey s sa) (grey d da) .r
 
 -- ---- block 0 of the 2 by 1 scene with no draws and background 0, 0, 0, 255
 abbrev twoByOne : List ℕ

@@ -2,7 +2,7 @@
 -- give, beside what is asked; nearly all faults and offsets are those of edge vectors with these names (tests/vectors/edges.txt).
 use Prim.Native.Nat.{ℕ, _+_}
 use mathlib.Core.List.{List, [], _∷_, _++_, map}
-use mathlib.Core.Bool.{false}
+use mathlib.Core.Bool.{true, false}
 use lib.ListN.{set, length, replicate}
 use lib.IntN.{ℤ, pos}
 use Rattle.color.specs.declared.Pixel.{Pixel}
@@ -10,7 +10,7 @@ use Rattle.blend.specs.declared.Composited.{Composited}
 use Rattle.blend.specs.PorterDuff.{compositeAnswer, modeDstOver, modeSrcIn, modeSrcOver}
 use Rattle.paint.specs.Ramps.{rampOf, rampAt}
 use Rattle.scene.specs.declared.Fault.{Fault}
-use Rattle.scene.specs.Rules.{inHeader, inDraw, headerRules, drawRules, flatRule, pathRules, restRules, checkFaults}
+use Rattle.scene.specs.Rules.{inHeader, inDraw, headerRules, headRules, drawRules, flatRule, pathRules, restRules, checkFaults}
 use Rattle.cases.specs.Bench.{Row}
 use Rattle.cases.specs.Scenes.{red, redDraw}
 
@@ -23,10 +23,10 @@ numbers f = f .code ∷ f .draw ∷ f .offset ∷ []
 
 -- the draw of the red square, as draw 1, with another byte, or two, at a place
 abbrev draw : ℕ → ℕ → List ℕ
-draw place byte = numbers (inDraw 1 (drawRules (set redDraw place byte)))
+draw place byte = numbers (inDraw 1 (drawRules false (set redDraw place byte)))
 
 abbrev draw2 : ℕ → ℕ → ℕ → List ℕ
-draw2 place low high = numbers (inDraw 1 (drawRules (set (set redDraw place low) (place + 1) high)))
+draw2 place low high = numbers (inDraw 1 (drawRules false (set (set redDraw place low) (place + 1) high)))
 
 -- its matrix alone, with two bytes of zero; its path alone; its unused segments and coordinates alone
 abbrev flat : ℕ → List ℕ
@@ -55,8 +55,8 @@ pixel r g b a = record { r = r; g = g; b = b; a = a }
 abbrev bytes : Pixel → List ℕ
 bytes p = p .r ∷ p .g ∷ p .b ∷ p .a ∷ []
 
-abbrev step : ℕ → ℕ → Pixel → Pixel → List ℕ
-step mode k s d = compositeAnswer mode k s d .code ∷ bytes (compositeAnswer mode k s d .pixel)
+abbrev step : ℕ → ℕ → ℕ → Pixel → Pixel → List ℕ
+step mode k m s d = compositeAnswer mode k m s d .code ∷ bytes (compositeAnswer mode k m s d .pixel)
 
 -- ---- two stops of five f32: opaque red at 0, and opaque blue at the offset with these bytes
 abbrev nought : List ℕ
@@ -86,9 +86,11 @@ corners =
     ∷ row (header 12 1) (illegal 64 12)
     ∷ row (checks []) (0xB001 ∷ 0 ∷ 1020 ∷ [])
     ∷ row (checks (replicate 1020 0 ++ (1 ∷ 0 ∷ 1 ∷ 0 ∷ []))) (0xB001 ∷ 0 ∷ 1532 ∷ [])
-    -- a draw's fields: flag bit 3, blend 2005, paint 0, spread 0, 129 segments, 5 scissors, 33 stops, the zero byte
+    -- a draw's fields where no mask is lent: flag bit 3, blend 2005, paint 0, spread 0, 129 segments, 5 scissors, 33 stops, the zero byte
     ∷ row (draw 0 8) (illegal 1 2560)
     ∷ row (draw 2 5) (illegal 1 2562)
+    -- where one is lent, bit 3 passes the head's rules, and bit 4 does not
+    ∷ row (headRules true (set redDraw 0 8) .code ∷ headRules true (set redDraw 0 16) .code ∷ []) (0 ∷ 0x1001 ∷ [])
     ∷ row (draw 5 0) (illegal 1 2564)
     ∷ row (draw 7 0) (illegal 1 2566)
     ∷ row (draw 8 129) (illegal 1 2568)
@@ -112,15 +114,20 @@ corners =
     ∷ row (path 773 26) (illegal 1 3337)
     ∷ row (rest 777 1) (illegal 1 3341)
     -- the step alone (P2): two numbers that are no mode and a k above 16 are refused; with k = 0 a stray pixel stays
-    ∷ row (step 0x2005 16 (pixel 1 2 3 4) (pixel 255 6 7 0)) (0x1001 ∷ 255 ∷ 6 ∷ 7 ∷ 0 ∷ [])
-    ∷ row (step 0x12001 16 (pixel 1 2 3 4) (pixel 255 6 7 0)) (0x1001 ∷ 255 ∷ 6 ∷ 7 ∷ 0 ∷ [])
-    ∷ row (step modeSrcOver 17 (pixel 1 2 3 4) (pixel 255 6 7 0)) (0x1001 ∷ 255 ∷ 6 ∷ 7 ∷ 0 ∷ [])
-    ∷ row (step modeSrcOver 0 (pixel 1 2 3 4) (pixel 255 6 7 0)) (0 ∷ 255 ∷ 6 ∷ 7 ∷ 0 ∷ [])
+    ∷ row (step 0x2005 16 255 (pixel 1 2 3 4) (pixel 255 6 7 0)) (0x1001 ∷ 255 ∷ 6 ∷ 7 ∷ 0 ∷ [])
+    ∷ row (step 0x12001 16 255 (pixel 1 2 3 4) (pixel 255 6 7 0)) (0x1001 ∷ 255 ∷ 6 ∷ 7 ∷ 0 ∷ [])
+    ∷ row (step modeSrcOver 17 255 (pixel 1 2 3 4) (pixel 255 6 7 0)) (0x1001 ∷ 255 ∷ 6 ∷ 7 ∷ 0 ∷ [])
+    ∷ row (step modeSrcOver 0 255 (pixel 1 2 3 4) (pixel 255 6 7 0)) (0 ∷ 255 ∷ 6 ∷ 7 ∷ 0 ∷ [])
     -- a stray destination is clamped in B, and in the coverage formula where B is 0; B is cut at 255 where the source is stray
-    ∷ row (step modeDstOver 16 (pixel 200 0 0 200) (pixel 255 0 9 100)) (0 ∷ 222 ∷ 0 ∷ 9 ∷ 222 ∷ [])
-    ∷ row (step modeDstOver 15 (pixel 200 0 0 200) (pixel 250 0 9 100)) (0 ∷ 214 ∷ 0 ∷ 9 ∷ 214 ∷ [])
-    ∷ row (step modeSrcIn 8 (pixel 0 0 0 0) (pixel 255 101 99 100)) (0 ∷ 50 ∷ 50 ∷ 50 ∷ 50 ∷ [])
-    ∷ row (step modeSrcOver 16 (pixel 255 0 0 100) (pixel 255 0 9 255)) (0 ∷ 255 ∷ 0 ∷ 5 ∷ 255 ∷ [])
+    ∷ row (step modeDstOver 16 255 (pixel 200 0 0 200) (pixel 255 0 9 100)) (0 ∷ 222 ∷ 0 ∷ 9 ∷ 222 ∷ [])
+    ∷ row (step modeDstOver 15 255 (pixel 200 0 0 200) (pixel 250 0 9 100)) (0 ∷ 214 ∷ 0 ∷ 9 ∷ 214 ∷ [])
+    ∷ row (step modeSrcIn 8 255 (pixel 0 0 0 0) (pixel 255 101 99 100)) (0 ∷ 50 ∷ 50 ∷ 50 ∷ 50 ∷ [])
+    ∷ row (step modeSrcOver 16 255 (pixel 255 0 0 100) (pixel 255 0 9 255)) (0 ∷ 255 ∷ 0 ∷ 5 ∷ 255 ∷ [])
+    -- under a mask (P6): 0 leaves the clamped destination, 128 is halfway; with k = 0 a stray pixel stays; 256 is no byte
+    ∷ row (step modeSrcOver 16 0 (pixel 1 2 3 4) (pixel 255 6 7 5)) (0 ∷ 5 ∷ 5 ∷ 5 ∷ 5 ∷ [])
+    ∷ row (step modeSrcOver 16 128 (pixel 200 0 0 200) (pixel 0 0 9 100)) (0 ∷ 100 ∷ 0 ∷ 5 ∷ 161 ∷ [])
+    ∷ row (step modeSrcOver 0 128 (pixel 1 2 3 4) (pixel 255 6 7 0)) (0 ∷ 255 ∷ 6 ∷ 7 ∷ 0 ∷ [])
+    ∷ row (step modeSrcOver 16 256 (pixel 1 2 3 4) (pixel 255 6 7 0)) (0x1001 ∷ 255 ∷ 6 ∷ 7 ∷ 0 ∷ [])
     -- a last stop at 65,535 is copied to 65,536, one at 65,536 is not; colours on both sides of it
     ∷ row (length (rampOf false (stops almostOne) 2) ∷ length (rampOf false (stops one) 2) ∷ []) (3 ∷ 2 ∷ [])
     ∷ row (colorAt almostOne 32768) (127 ∷ 0 ∷ 128 ∷ 255 ∷ [])

@@ -25,20 +25,20 @@ use Rattle.damage.proofs.Changes.{same-equal, draw-length, changed-past
 use Rattle.damage.proofs.Smallest.{damage-holds}
 
 -- what draw i does to a pixel: nothing where the scene has no such draw
-abbrev stepAt : List ℕ → ℕ → ℕ → ℕ → Pixel → Pixel
-stepAt s i x y p = cond (has s i) (drawStep (drawOf s i) x y p) p
+abbrev stepAt : (ℕ → ℕ → ℕ) → List ℕ → ℕ → ℕ → ℕ → Pixel → Pixel
+stepAt mask s i x y p = cond (has s i) (drawStep (drawOf s i) mask x y p) p
 
 -- the first n draws, as far as there are any
-abbrev runTo : List ℕ → ℕ → ℕ → ℕ → Pixel → Pixel
-runTo s zero x y p = p
-runTo s (suc n) x y p = stepAt s n x y (runTo s n x y p)
+abbrev runTo : (ℕ → ℕ → ℕ) → List ℕ → ℕ → ℕ → ℕ → Pixel → Pixel
+runTo mask s zero x y p = p
+runTo mask s (suc n) x y p = stepAt mask s n x y (runTo mask s n x y p)
 
-module _ (s : List ℕ) (x y : ℕ) (p : Pixel) where
-  run-is : (n : ℕ) → n ≤ countOf s → runTo s n x y p ≡ drawAll (firstDraws s n) x y p
+module _ (mask : ℕ → ℕ → ℕ) (s : List ℕ) (x y : ℕ) (p : Pixel) where
+  run-is : (n : ℕ) → n ≤ countOf s → runTo mask s n x y p ≡ drawAll (firstDraws s n) mask x y p
   run-is zero l = refl
   run-is (suc n) l = rw (lt-ltb n (countOf s) l, run-is n (omega arith), foldl-append)
 
-  run-all : (n : ℕ) → countOf s ≤ n → runTo s n x y p ≡ drawAll (firstDraws s (countOf s)) x y p
+  run-all : (n : ℕ) → countOf s ≤ n → runTo mask s n x y p ≡ drawAll (firstDraws s (countOf s)) mask x y p
   run-all zero l =
       let e : countOf s ≡ 0 = omega arith in
       rw e
@@ -48,19 +48,19 @@ module _ (s : List ℕ) (x y : ℕ) (p : Pixel) where
       (eq-or-lt-of-le l)
 
 module _
-    (old new : List ℕ) (w h : ℕ)
+    (mask : ℕ → ℕ → ℕ) (old new : List ℕ) (w h : ℕ)
     (bo : length old ≡ 512 * (1 + 4 * countOf old)) (bn : length new ≡ 512 * (1 + 4 * countOf new))
   where
     -- outside its box, draw i does nothing
-    step-none : (s : List ℕ) (i x y : ℕ) (p : Pixel) → x < w → y < h → (Inside (boxAt w h s i) x y → ⊥) → stepAt s i x y p ≡ p
+    step-none : (s : List ℕ) (i x y : ℕ) (p : Pixel) → x < w → y < h → (Inside (boxAt w h s i) x y → ⊥) → stepAt mask s i x y p ≡ p
     unfolding drawBox
     step-none s i x y p k l o =
         less-or i (countOf s)
-        (λ m. rw (lt-ltb i (countOf s) m) (step-out (drawOf s i) w h x y p k l (rw (box-there w h s i m) at o)))
+        (λ m. rw (lt-ltb i (countOf s) m) (step-out (drawOf s i) mask w h x y p k l (rw (box-there w h s i m) at o)))
         (λ m. rw (le-ltb i (countOf s) m))
 
     -- a draw that is not changed does the same in both scenes
-    step-kept : (i x y : ℕ) (p : Pixel) → changedAt old new i ≡ false → stepAt old i x y p ≡ stepAt new i x y p
+    step-kept : (i x y : ℕ) (p : Pixel) → changedAt old new i ≡ false → stepAt mask old i x y p ≡ stepAt mask new i x y p
     step-kept i x y p c =
         less-or i (countOf old)
         (λ a.
@@ -78,30 +78,32 @@ module _
         (i : ℕ) → i < max (countOf old) (countOf new) → changedAt old new i ≡ true → (Inside (boxAt w h old i) x y → ⊥) × (Inside (boxAt w h new i) x y → ⊥)
 
     -- there each draw does the same in both scenes
-    step-same : (i x y : ℕ) (p : Pixel) → i < max (countOf old) (countOf new) → x < w → y < h → Untouched x y → stepAt old i x y p ≡ stepAt new i x y p
+    step-same : (i x y : ℕ) (p : Pixel) → i < max (countOf old) (countOf new) → x < w → y < h → Untouched x y → stepAt mask old i x y p
+        ≡ stepAt mask new i x y p
     step-same i x y p b k l away =
         either (changedAt old new i)
         (λ c. step-none old i x y p k l (away i b c .0) ∙ sym (step-none new i x y p k l (away i b c .1)))
         (λ c. step-kept i x y p c)
 
-    runs-same : (x y : ℕ) (p : Pixel) → x < w → y < h → Untouched x y → (i : ℕ) → i ≤ max (countOf old) (countOf new) → runTo old i x y p ≡ runTo new i x y p
+    runs-same : (x y : ℕ) (p : Pixel) → x < w → y < h → Untouched x y → (i : ℕ) → i ≤ max (countOf old) (countOf new) → runTo mask old i x y p
+        ≡ runTo mask new i x y p
     runs-same x y p k l away zero b = refl
     runs-same x y p k l away (suc i) b =
-        step-same i x y (runTo old i x y p) b k l away ∙ ap (stepAt new i x y) (runs-same x y p k l away i (omega arith))
+        step-same i x y (runTo mask old i x y p) b k l away ∙ ap (stepAt mask new i x y) (runs-same x y p k l away i (omega arith))
 
     -- so with one background both scenes have the same pixel there
-    pub untouched-same : sameBackground old new ≡ true → (x y : ℕ) → x < w → y < h → Untouched x y → pixelAt old x y ≡ pixelAt new x y
+    pub untouched-same : sameBackground old new ≡ true → (x y : ℕ) → x < w → y < h → Untouched x y → pixelAt old mask x y ≡ pixelAt new mask x y
     unfolding pixelAt
     untouched-same b x y k l away =
         let all = max (countOf old) (countOf new) in
         let p = premultiplied (backgroundOf old) in
-        sym (run-all old x y p all (omega arith))
+        sym (run-all mask old x y p all (omega arith))
         ∙ runs-same x y p k l away all (omega arith)
-        ∙ run-all new x y p all (omega arith)
-        ∙ ap (λ (c : Pixel). drawAll (firstDraws new (countOf new)) x y (premultiplied c)) (same-background old new b)
+        ∙ run-all mask new x y p all (omega arith)
+        ∙ ap (λ (c : Pixel). drawAll (firstDraws new (countOf new)) mask x y (premultiplied c)) (same-background old new b)
 
     -- outside the area both scenes have the same pixels
-    pub outside-same : (x y : ℕ) → x < w → y < h → (Inside (damageOf w h old new) x y → ⊥) → pixelAt old x y ≡ pixelAt new x y
+    pub outside-same : (x y : ℕ) → x < w → y < h → (Inside (damageOf w h old new) x y → ⊥) → pixelAt old mask x y ≡ pixelAt new mask x y
     outside-same x y k l out =
         either (sameBackground old new)
         (λ e.
@@ -110,12 +112,13 @@ module _
         (λ e. absurd (out (rw (damage-whole w h old new e) (record { left = omega arith; right = k; below = omega arith; above = l }))))
 
     -- on a surface that holds the old scene's pixels, the new scene's inside the area make the new scene's picture
-    pub redraw-right : overlay w h (damageOf w h old new) (pixelAt new) (raster w h (pixelAt old)) ≡ raster w h (pixelAt new)
+    pub redraw-right : overlay w h (damageOf w h old new) (pixelAt new mask) (raster w h (pixelAt old mask)) ≡ raster w h (pixelAt new mask)
     redraw-right =
-        surface-same w h _ (raster w h (pixelAt new)) (overlay-length w h (damageOf w h old new) (pixelAt new) (raster w h (pixelAt old)))
-        (raster-length w h (pixelAt new))
+        surface-same w h _ (raster w h (pixelAt new mask)) (overlay-length w h (damageOf w h old new) (pixelAt new mask) (raster w h (pixelAt old mask)))
+        (raster-length w h (pixelAt new mask))
         (λ x y k l.
         in-or-out (damageOf w h old new) x y
-        (λ i. overlay-in w h (damageOf w h old new) (pixelAt new) (raster w h (pixelAt old)) x y k l i ∙ sym (raster-at w h (pixelAt new) x y k l))
-        (λ i. overlay-out w h (damageOf w h old new) (pixelAt new) (raster w h (pixelAt old)) x y k l i
-        ∙ raster-at w h (pixelAt old) x y k l ∙ outside-same x y k l i ∙ sym (raster-at w h (pixelAt new) x y k l)))
+        (λ i. overlay-in w h (damageOf w h old new) (pixelAt new mask) (raster w h (pixelAt old mask)) x y k l i
+        ∙ sym (raster-at w h (pixelAt new mask) x y k l))
+        (λ i. overlay-out w h (damageOf w h old new) (pixelAt new mask) (raster w h (pixelAt old mask)) x y k l i
+        ∙ raster-at w h (pixelAt old mask) x y k l ∙ outside-same x y k l i ∙ sym (raster-at w h (pixelAt new mask) x y k l)))

@@ -63,7 +63,7 @@ fn draw_picture(scene: &[u8], surface: &mut [u8], size: Size)
     requires { ⌜ Surface size (now surface) ⌝ }
 {
     let mut scratch = [0i32; SCRATCH_NUMBERS];
-    let answer = render::draw(scene, surface, &mut scratch);
+    let answer = render::draw_unmasked(scene, surface, &mut scratch);
     if answer.code != ACCEPTED {
         Line::new()
             .word(b"refused")

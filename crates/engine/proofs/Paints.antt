@@ -30,7 +30,7 @@ use Rattle.scene.specs.Rules.{stopLimitOf}
 use Rattle.scene.specs.Accepted.{AcceptedDraw}
 use Rattle.scene.proofs.Accepted.{stops-fit}
 use Rattle.lists.proofs.Laws.{part-length}
-use Rattle.engine.specs.Picture.{drawEdges, drawCoverage, drawPaint}
+use Rattle.engine.specs.Picture.{drawEdges, drawCoverage, drawPaint, drawMask}
 use Rattle.engine.specs.Unclamped.{unclampedStep}
 use Rattle.engine.specs.declared.Shade.{Shade}
 use Rattle.engine.specs.declared.Shade.the-variants.{Solid, Gradient}
@@ -63,18 +63,18 @@ module _ (d before after : List ℕ) where
   }
 
 -- ---- the step
-own-step : (d : List ℕ) (n : ℕ) (shade : Shade) (ramp : List ℕ) (x y : ℕ) (q : Pixel) → shadeAt shade ramp x y ≡ drawPaint d x y
-    → stepWith (styleOf d n shade) (drawEdges d) (scissorsOf d) ramp x y q ≡ unclampedStep d x y q
-unfolding stepWith coverageWith unclampedStep drawCoverage
-own-step d n shade ramp x y q e = ap (λ (p : Pixel). compositeOn (blendOf d) (drawCoverage d x y) p q) e
+own-step : (d : List ℕ) (mask : ℕ → ℕ → ℕ) (n : ℕ) (shade : Shade) (ramp : List ℕ) (x y : ℕ) (q : Pixel) → shadeAt shade ramp x y ≡ drawPaint d x y
+    → stepWith (styleOf d n shade) (drawEdges d) (scissorsOf d) ramp (mask x y) x y q ≡ unclampedStep d mask x y q
+unfolding stepWith coverageWith unclampedStep drawCoverage drawMask
+own-step d mask n shade ramp x y q e = ap (λ (p : Pixel). compositeOn (blendOf d) (drawCoverage d x y) (drawMask d mask x y) p q) e
 
-pub own-steps : (t : Target) (d s r : List ℕ) (style : Style) (n : ℕ) (shade : Shade) (es : List Edge) (scissors ramp : List ℕ)
+pub own-steps : (t : Target) (d : List ℕ) (mask : ℕ → ℕ → ℕ) (s r : List ℕ) (style : Style) (n : ℕ) (shade : Shade) (es : List Edge) (scissors ramp : List ℕ)
     → style ≡ styleOf d n shade → es ≡ drawEdges d → scissors ≡ scissorsOf d → ((x y : ℕ) → shadeAt shade ramp x y ≡ drawPaint d x y)
-    → r ≡ stepped t (stepWith style es scissors ramp) s → r ≡ stepped t (unclampedStep d) s
-own-steps t d s r style n shade es scissors ramp e f g h o =
+    → r ≡ stepped t (λ x y. stepWith style es scissors ramp (mask x y) x y) s → r ≡ stepped t (unclampedStep d mask) s
+own-steps t d mask s r style n shade es scissors ramp e f g h o =
     o
     ∙ rw (e, f, g)
-    (overlay-same (t .width) (t .height) (t .area) _ _ s (λ x y k l i. own-step d n shade ramp x y (pixelOf (t .width) s x y) (h x y)))
+    (overlay-same (t .width) (t .height) (t .area) _ _ s (λ x y k l i. own-step d mask n shade ramp x y (pixelOf (t .width) s x y) (h x y)))
 
 -- ---- what the gradient's functions ask
 abbrev pointsOf : LinearPoints → Paint → LinearPoints

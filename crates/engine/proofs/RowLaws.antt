@@ -24,7 +24,7 @@ use Rattle.paint.specs.Circles.{gradientAt}
 use Rattle.engine.specs.declared.Style.{Style}
 use Rattle.engine.specs.declared.Shade.{Shade}
 use Rattle.engine.specs.declared.Shade.the-variants.{Solid, Gradient}
-use Rattle.engine.specs.Rows.{coverageWith, stepWith, shadeAt}
+use Rattle.engine.specs.Rows.{coverageWith, maskWith, stepWith, shadeAt}
 
 tab-same : {A : Type 0} (n : ℕ) (f g : ℕ → A) → ((k : ℕ) → k < n → f k ≡ g k) → tab n f ≡ tab n g
 tab-same n f g h = upto-same n (λ k. f k ∷ []) (λ k. g k ∷ []) (λ k l. ap (λ a. a ∷ []) (h k l))
@@ -62,12 +62,13 @@ module _ (style : Style) (es : List Edge) (scissors : List ℕ) (x y : ℕ) wher
       rw (ap (λ (s : List ℕ). getD s i 0) o ∙ tab-at n (λ i. coverageWith style es scissors (x + i) y) i 0 m) (with-at-most (x + i))
 
   -- a row of pixels under that coverage
-  pub row-steps : (n : ℕ) (k c d ramp r : List ℕ) → k ≡ c → c ≡ tab n (λ i. coverageWith style es scissors (x + i) y)
-      → r ≡ compositeRow (style .mode) k (λ i. shadeAt (style .shade) ramp (x + i) y) d
-      → r ≡ run n (λ i. stepWith style es scissors ramp (x + i) y (pixelIn d i))
+  pub row-steps : (n : ℕ) (k c d ramp mask r : List ℕ) → k ≡ c → c ≡ tab n (λ i. coverageWith style es scissors (x + i) y)
+      → r ≡ compositeRow (style .mode) k (λ i. maskWith style (getD mask i 0)) (λ i. shadeAt (style .shade) ramp (x + i) y) d
+      → r ≡ run n (λ i. stepWith style es scissors ramp (getD mask i 0) (x + i) y (pixelIn d i))
   unfolding stepWith
-  row-steps n k c d ramp r e o q =
-      let f : ℕ → ℕ → Pixel = λ i z. compositeOn (style .mode) z (shadeAt (style .shade) ramp (x + i) y) (pixelIn d i) in
+  row-steps n k c d ramp mask r e o q =
+      let f : ℕ → ℕ → Pixel = λ i z.
+      compositeOn (style .mode) z (maskWith style (getD mask i 0)) (shadeAt (style .shade) ramp (x + i) y) (pixelIn d i) in
       q
       ∙ rw e
       (ap (λ (m : ℕ). run m (λ i. f i (getD c i 0))) (ap length o ∙ tab-length n _)
@@ -97,24 +98,32 @@ module _ (b q rest : List ℕ) (n : ℕ) where
   pub paint-part : (m : ℕ) → n ≤ length b → length q ≡ m - n → take (m - n) (drop n (take n b ++ (q ++ rest))) ≡ q
   paint-part m h e = rw (drop-at (take n b) (q ++ rest) n (covered-length b n h)) (take-at q rest (m - n) e)
 
--- ---- a shade's row, blended
-module _ (mode n x y : ℕ) (b row ramp r : List ℕ) (s : Shade) where
-  pub solid-row : (p : Pixel) → s ≡ Solid p → r ≡ compositeRow mode (take (n - 0) (drop 0 b)) (λ i. p) row
-      → r ≡ compositeRow mode (take n b) (λ i. shadeAt s ramp (x + i) y) row
+-- ---- a shade's row
+module _ (n x y : ℕ) (ramp q : List ℕ) (s : Shade) where
+  pub solid-pixels : (p : Pixel) → s ≡ Solid p → q ≡ run n (λ i. p) → q ≡ run n (λ i. shadeAt s ramp (x + i) y)
+  unfolding shadeAt
+  solid-pixels p e o = o ∙ rw e
+
+  pub gradient-pixels : (g : AnyGradient) → s ≡ Gradient g → q ≡ run n (λ i. gradientAt g ramp (x + i) y) → q ≡ run n (λ i. shadeAt s ramp (x + i) y)
+  unfolding shadeAt
+  gradient-pixels g e o = o ∙ rw e
+
+-- blended, through any mask
+module _ (mode n x y : ℕ) (mask : ℕ → ℕ) (b row ramp r : List ℕ) (s : Shade) where
+  pub solid-row : (p : Pixel) → s ≡ Solid p → r ≡ compositeRow mode (take (n - 0) (drop 0 b)) mask (λ i. p) row
+      → r ≡ compositeRow mode (take n b) mask (λ i. shadeAt s ramp (x + i) y) row
   unfolding shadeAt
   solid-row p e o = o ∙ rw (e, first-of b n)
 
   -- the paint's pixels come from q
-  pub gradient-row : (g : AnyGradient) (q rest : List ℕ) (m : ℕ) → s ≡ Gradient g → n ≤ length b → length q ≡ m - n
-      → q ≡ run n (λ i. gradientAt g ramp (x + i) y)
-      → r ≡ compositeRow mode (take (n - 0) (drop 0 (take n b ++ (q ++ rest)))) (pixelIn (take (m - n) (drop n (take n b ++ (q ++ rest))))) row
-      → r ≡ compositeRow mode (take n b) (λ i. shadeAt s ramp (x + i) y) row
-  unfolding shadeAt
-  gradient-row g q rest m e h l o u =
-      let f : ℕ → Pixel = λ i. gradientAt g ramp (x + i) y in
+  pub painted-row : (q rest : List ℕ) (m : ℕ) → n ≤ length b → length q ≡ m - n → q ≡ run n (λ i. shadeAt s ramp (x + i) y)
+      → r ≡ compositeRow mode (take (n - 0) (drop 0 (take n b ++ (q ++ rest)))) mask (pixelIn (take (m - n) (drop n (take n b ++ (q ++ rest))))) row
+      → r ≡ compositeRow mode (take n b) mask (λ i. shadeAt s ramp (x + i) y) row
+  painted-row q rest m h l o u =
+      let f : ℕ → Pixel = λ i. shadeAt s ramp (x + i) y in
       u
-      ∙ rw (cover-part b q rest n h, paint-part b q rest n m h l, e)
+      ∙ rw (cover-part b q rest n h, paint-part b q rest n m h l)
       (run-same (length (take n b)) _ _
       (λ i k.
-      ap (λ (p : Pixel). compositeOn mode (getD (take n b) i 0) p (pixelIn row i))
+      ap (λ (p : Pixel). compositeOn mode (getD (take n b) i 0) (mask i) p (pixelIn row i))
       (ap (λ (z : List ℕ). pixelIn z i) o ∙ run-at n f i (rw (covered-length b n h) at k))))

@@ -1,7 +1,7 @@
 -- What the row functions compute of a draw that was taken apart. A reviewer of the paper need not read it.
 use Prim.Native.Nat.{ℕ, _+_, _*_, _≤_, _<_}
 use mathlib.Core.Path.{_≡_}
-use mathlib.Core.Bool.{true}
+use mathlib.Core.Bool.{Bool, true, cond}
 use mathlib.Core.List.{List}
 use lib.IntN.{ℤ, pos}
 use lib.ListN.{length, replicate}
@@ -25,7 +25,9 @@ use Rattle.paint.specs.Radial.{fixedCircle, focalAllowed}
 use Rattle.paint.specs.Ramps.{rampOf}
 use Rattle.paint.specs.Buffers.{LimitedPoints, HeldRamp, Written}
 use Rattle.paint.specs.Circles.{LimitedCircle, HeldGradient, gradientAt}
-use Rattle.scene.specs.Fields.{blendOf, nonZeroRule, scissoring, scissorCount, spreadOf, rampPremultiplied, stopsOf, stopCount}
+use Rattle.scene.specs.Blocks.{drawOf}
+use Rattle.scene.specs.Header.{countOf}
+use Rattle.scene.specs.Fields.{blendOf, nonZeroRule, scissoring, scissorCount, spreadOf, rampPremultiplied, usesMask, stopsOf, stopCount}
 use Rattle.engine.specs.Picture.{drawEdges, drawPaint}
 use Rattle.engine.specs.declared.Style.{Style}
 use Rattle.engine.specs.declared.Strip.{Strip}
@@ -42,9 +44,13 @@ unfoldable pub shadeAt : Shade → List ℕ → ℕ → ℕ → Pixel
 shadeAt (Solid p) ramp x y = p
 shadeAt (Gradient g) ramp x y = gradientAt g ramp x y
 
--- what is stored
-unfoldable pub stepWith : Style → List Edge → List ℕ → List ℕ → ℕ → ℕ → Pixel → Pixel
-stepWith s es scissors ramp x y q = compositeOn (s .mode) (coverageWith s es scissors x y) (shadeAt (s .shade) ramp x y) q
+-- m, of the mask's byte
+abbrev pub maskWith : Style → ℕ → ℕ
+maskWith s m = cond (s .masked) m 255
+
+-- what is stored, with the mask's byte m
+unfoldable pub stepWith : Style → List Edge → List ℕ → List ℕ → ℕ → ℕ → ℕ → Pixel → Pixel
+stepWith s es scissors ramp m x y q = compositeOn (s .mode) (coverageWith s es scissors x y) (maskWith s m) (shadeAt (s .shade) ramp x y) q
 
 -- ---- what is asked
 -- of the scissors
@@ -64,6 +70,14 @@ OnSurface s = (s .y < 1024) × (s .x + s .length ≤ 1024)
 abbrev pub Area : ℕ → ℕ → Rect → List ℕ → Type 0
 Area width height a surface = (length surface ≡ height * (width * 4)) × (On width height a × ((width ≤ 1024) × (height ≤ 1024)))
 
+-- of the mask's bytes, n of them, where they are asked for
+abbrev pub MaskFor : Bool → ℕ → List ℕ → Type 0
+MaskFor masked n mask = masked ≡ true → length mask ≡ n
+
+-- by any draw of a scene
+abbrev pub MaskForScene : List ℕ → ℕ → List ℕ → Type 0
+MaskForScene s n mask = (i : ℕ) → i < countOf s → MaskFor (usesMask (drawOf s i)) n mask
+
 -- of the scratch before and after a draw: enough numbers, all zero
 abbrev pub Blank : List ℤ → Type 0
 Blank scratch = (12300 ≤ length scratch) × (scratch ≡ replicate (length scratch) (pos 0))
@@ -80,6 +94,7 @@ styleOf d n shade = record {
   nonzero = nonZeroRule d;
   scissoring = scissoring d;
   scissors = scissorCount d;
+  masked = usesMask d;
   mode = blendOf d;
   shade = shade;
 }

@@ -8,13 +8,14 @@ use Rattle.raster.specs.Surface.{raster}
 use Rattle.blend.specs.PorterDuff.{compositeOn}
 use Rattle.scene.specs.Header.{widthOf, heightOf, countOf, backgroundOf}
 use Rattle.scene.specs.Fields.{blendOf}
-use Rattle.engine.specs.Picture.{drawCoverage, drawPaint, firstDraws}
+use Rattle.engine.specs.Picture.{drawCoverage, drawPaint, drawMask, firstDraws, maskAt}
 
-unfoldable pub unclampedStep : List ℕ → ℕ → ℕ → Pixel → Pixel
-unclampedStep d x y p = compositeOn (blendOf d) (drawCoverage d x y) (drawPaint d x y) p
+unfoldable pub unclampedStep : List ℕ → (ℕ → ℕ → ℕ) → ℕ → ℕ → Pixel → Pixel
+unclampedStep d mask x y p = compositeOn (blendOf d) (drawCoverage d x y) (drawMask d mask x y) (drawPaint d x y) p
 
-abbrev pub unclampedAll : List (List ℕ) → ℕ → ℕ → Pixel → Pixel
-unclampedAll ds x y p = foldl (λ q d. unclampedStep d x y q) p ds
+abbrev pub unclampedAll : List (List ℕ) → (ℕ → ℕ → ℕ) → ℕ → ℕ → Pixel → Pixel
+unclampedAll ds mask x y p = foldl (λ q d. unclampedStep d mask x y q) p ds
 
-unfoldable pub unclampedPicture : List ℕ → List ℕ
-unclampedPicture s = raster (widthOf s) (heightOf s) (λ x y. unclampedAll (firstDraws s (countOf s)) x y (premultiplied (backgroundOf s)))
+unfoldable pub unclampedPicture : List ℕ → List ℕ → List ℕ
+unclampedPicture s mask =
+    raster (widthOf s) (heightOf s) (λ x y. unclampedAll (firstDraws s (countOf s)) (maskAt (widthOf s) mask) x y (premultiplied (backgroundOf s)))

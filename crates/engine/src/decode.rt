@@ -27,6 +27,7 @@ pub fn style(d: &[u8], n: usize, shade: Shade) -> Style
         nonzero: scene::fields::non_zero_rule(d),
         scissoring: scene::fields::scissoring(d),
         scissors: scene::fields::scissor_count(d),
+        masked: scene::fields::uses_mask(d),
         mode: scene::fields::blend_mode(d),
         shade,
     }

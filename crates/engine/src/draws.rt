@@ -6,21 +6,24 @@ use raster::Target;
 use rect::Rect;
 use scene::layout::DRAW_BYTES;
 ghost use mathlib.Core.Path.{_≡_};
+ghost use Prim.Native.Nat.{_*_};
 ghost use lib.ListN.{length};
 ghost use Rattle.raster.specs.Surface.{overlay};
 ghost use Rattle.raster.specs.Rows.{Part, stepped};
 ghost use Rattle.scene.specs.Layout.{drawBytes};
 ghost use Rattle.scene.specs.Header.{countOf};
+ghost use Rattle.scene.specs.Fields.{usesMask};
 ghost use Rattle.scene.specs.Accepted.{AcceptedDraw, AcceptedScene};
-ghost use Rattle.engine.specs.Picture.{firstDraws, pixelAt};
+ghost use Rattle.engine.specs.Picture.{firstDraws, pixelAt, maskAt};
 ghost use Rattle.engine.specs.Unclamped.{unclampedStep, unclampedAll};
-ghost use Rattle.engine.specs.Rows.{Laid, Blank, Area};
+ghost use Rattle.engine.specs.Rows.{Laid, Blank, Area, MaskFor, MaskForScene};
 
-// The scene's picture, at every pixel of a.
+// The scene's picture under a mask, at every pixel of a.
 pub fn paint_area(
     surface: &mut [u8],
     scratch: &mut [i32],
     scene: &[u8],
+    mask: &[u8],
     width: usize,
     height: usize,
     n: usize,
@@ -28,9 +31,9 @@ pub fn paint_area(
 )
     requires { ⌜ AcceptedScene (now scene) × (n ≡ countOf (now scene)) ⌝ }
     requires { ⌜ Blank (now scratch) ⌝ }
-    requires { ⌜ Area width height a (now surface) ⌝ }
+    requires { ⌜ Area width height a (now surface) × MaskForScene (now scene) (height * width) (now mask) ⌝ }
     ensures { λ _. ⌜ now (scratch .exit) ≡ now (scratch .entry) ⌝ }
-    ensures { λ _. ⌜ now (surface .exit) ≡ overlay width height a (pixelAt (now (scene .entry))) (now (surface .entry)) ⌝ }
+    ensures { λ _. ⌜ now (surface .exit) ≡ overlay width height a (pixelAt (now (scene .entry)) (maskAt width (now (mask .entry)))) (now (surface .entry)) ⌝ }
 {
     let target = Target {
         width,
@@ -43,7 +46,7 @@ pub fn paint_area(
         scene::header::background(scene).premultiplied(),
     );
     let mut d = [0u8; DRAW_BYTES];
-    paint_draws(surface, scratch, scene, n, &mut d, target);
+    paint_draws(surface, scratch, scene, mask, n, &mut d, target);
 }
 
 // The first n draws of a scene, at every pixel of the target; d is a buffer for a draw. What it holds afterwards is free.
@@ -51,44 +54,61 @@ fn paint_draws(
     surface: &mut [u8],
     scratch: &mut [i32],
     scene: &[u8],
+    mask: &[u8],
     n: usize,
     d: &mut [u8],
     target: Target,
 )
     requires { ⌜ AcceptedScene (now scene) × ((n ≡ countOf (now scene)) × (length (now d) ≡ drawBytes)) ⌝ }
     requires { ⌜ Blank (now scratch) ⌝ }
-    requires { ⌜ Part target (now surface) ⌝ }
+    requires { ⌜ Part target (now surface) × MaskForScene (now scene) (target .height * target .width) (now mask) ⌝ }
     ensures { λ _. ⌜ now (scratch .exit) ≡ now (scratch .entry) ⌝ }
-    ensures { λ _. ⌜ now (surface .exit) ≡ stepped target (unclampedAll (firstDraws (now (scene .entry)) n)) (now (surface .entry)) ⌝ }
+    ensures { λ _. ⌜
+        now (surface .exit)
+        ≡ stepped target (unclampedAll (firstDraws (now (scene .entry)) n) (maskAt (target .width) (now (mask .entry)))) (now (surface .entry))
+        ⌝ }
 {
     let mut i = 0;
     while i < n {
         scene::blocks::read_draw(scene, i, d);
-        paint_draw(surface, scratch, d, target);
+        paint_draw(surface, scratch, mask, d, target);
         i += 1;
     }
 }
 
 // A draw, at every pixel of the target.
-fn paint_draw(surface: &mut [u8], scratch: &mut [i32], d: &[u8], target: Target)
+fn paint_draw(surface: &mut [u8], scratch: &mut [i32], mask: &[u8], d: &[u8], target: Target)
     requires { ⌜ (length (now d) ≡ drawBytes) × AcceptedDraw (now d) ⌝ }
     requires { ⌜ Blank (now scratch) ⌝ }
-    requires { ⌜ Part target (now surface) ⌝ }
+    requires { ⌜ Part target (now surface) × MaskFor (usesMask (now d)) (target .height * target .width) (now mask) ⌝ }
     ensures { λ _. ⌜ now (scratch .exit) ≡ now (scratch .entry) ⌝ }
-    ensures { λ _. ⌜ now (surface .exit) ≡ stepped target (unclampedStep (now (d .entry))) (now (surface .entry)) ⌝ }
+    ensures { λ _. ⌜
+        now (surface .exit)
+        ≡ stepped target (unclampedStep (now (d .entry)) (maskAt (target .width) (now (mask .entry)))) (now (surface .entry))
+        ⌝ }
 {
     let n = lay_edges(scratch, d);
-    paint_box(surface, scratch, n, d, target);
+    paint_box(surface, scratch, mask, n, d, target);
     clear_edges(scratch, n);
 }
 
 // A draw of n edges, at every pixel of the target: only the pixels of its box are gone through.
-fn paint_box(surface: &mut [u8], scratch: &mut [i32], n: usize, d: &[u8], target: Target)
+fn paint_box(
+    surface: &mut [u8],
+    scratch: &mut [i32],
+    mask: &[u8],
+    n: usize,
+    d: &[u8],
+    target: Target,
+)
     requires { ⌜ (length (now d) ≡ drawBytes) × AcceptedDraw (now d) ⌝ }
     requires { ⌜ Laid (now d) (now scratch) n ⌝ }
-    requires { ⌜ Part target (now surface) ⌝ }
+    requires { ⌜ Part target (now surface) × MaskFor (usesMask (now d)) (target .height * target .width) (now mask) ⌝ }
     ensures { λ _. ⌜ now (scratch .exit) ≡ now (scratch .entry) ⌝ }
-    ensures { λ _. ⌜ now (surface .exit) ≡ stepped target (unclampedStep (now (d .entry))) (now (surface .entry)) ⌝ }
+    ensures { λ _. ⌜
+        now (surface .exit)
+        ≡ stepped target (unclampedStep (now (d .entry)) (maskAt (target .width) (now (mask .entry)))) (now (surface .entry))
+        ⌝ }
 {
     let width = target.width;
     let height = target.height;
@@ -104,5 +124,5 @@ fn paint_box(surface: &mut [u8], scratch: &mut [i32], n: usize, d: &[u8], target
         height,
         area: b,
     };
-    fill(surface, scratch, n, d, inner);
+    fill(surface, scratch, mask, n, d, inner);
 }

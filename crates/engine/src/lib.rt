@@ -15,12 +15,14 @@ pub mod rows;
 use color::Pixel;
 use paint::AnyGradient;
 
-// How a draw is filled: the number of its edges, its fill rule, whether scissoring is on and by how many scissors, its blend mode, its paint.
+// How a draw is filled: the number of its edges, its fill rule, whether scissoring is on and by how many scissors, whether it is drawn through the
+// mask, its blend mode, its paint.
 pub struct Style {
     pub edges: usize,
     pub nonzero: bool,
     pub scissoring: bool,
     pub scissors: usize,
+    pub masked: bool,
     pub mode: u16,
     pub shade: Shade,
 }

@@ -5,10 +5,12 @@ use crate::Style;
 use crate::decode::shade;
 use crate::decode::style;
 use paint::build::RAMP_NUMBERS;
+use raster::Range;
 use raster::Target;
 ghost use mathlib.Core.Path.{_≡_};
-ghost use Prim.Native.Nat.{_+_, _-_, _*_, _≤_, _<_};
-ghost use lib.ListN.{length, take};
+ghost use mathlib.Core.Bool.{cond};
+ghost use Prim.Native.Nat.{_+_, _-_, _*_, _/_, _≤_, _<_};
+ghost use lib.ListN.{length, take, getD};
 ghost use Rattle.lists.specs.Lists.{tab};
 ghost use Rattle.raster.specs.Surface.{run, pixelIn};
 ghost use Rattle.raster.specs.Rows.{Part, stepped};
@@ -17,30 +19,43 @@ ghost use Rattle.coverage.specs.Scanline.{Outlined};
 ghost use Rattle.paint.specs.Buffers.{rampNumbers};
 ghost use Rattle.blend.specs.Rows.{Coverage, compositeRow};
 ghost use Rattle.scene.specs.Layout.{drawBytes};
+ghost use Rattle.scene.specs.Fields.{usesMask};
 ghost use Rattle.scene.specs.Accepted.{AcceptedDraw};
+ghost use Rattle.engine.specs.Picture.{maskAt};
 ghost use Rattle.engine.specs.Unclamped.{unclampedStep};
-ghost use Rattle.engine.specs.Rows.{coverageWith, stepWith, shadeAt, Shaded, Scissors, OnSurface, Laid};
+ghost use Rattle.engine.specs.Rows.{coverageWith, maskWith, stepWith, shadeAt, Shaded, Scissors, OnSurface, MaskFor, Laid};
 
 // Bytes for the longest row: k and four bytes of paint to a pixel.
 const ROW_BYTES: usize = 5120;
 
 // The draw of n edges, at every pixel of the target.
-pub fn fill(surface: &mut [u8], scratch: &mut [i32], n: usize, d: &[u8], target: Target)
+pub fn fill(
+    surface: &mut [u8],
+    scratch: &mut [i32],
+    mask: &[u8],
+    n: usize,
+    d: &[u8],
+    target: Target,
+)
     requires { ⌜ (length (now d) ≡ drawBytes) × AcceptedDraw (now d) ⌝ }
     requires { ⌜ Laid (now d) (now scratch) n ⌝ }
-    requires { ⌜ Part target (now surface) ⌝ }
+    requires { ⌜ Part target (now surface) × MaskFor (usesMask (now d)) (target .height * target .width) (now mask) ⌝ }
     ensures { λ _. ⌜ now (scratch .exit) ≡ now (scratch .entry) ⌝ }
-    ensures { λ _. ⌜ now (surface .exit) ≡ stepped target (unclampedStep (now (d .entry))) (now (surface .entry)) ⌝ }
+    ensures { λ _. ⌜
+        now (surface .exit)
+        ≡ stepped target (unclampedStep (now (d .entry)) (maskAt (target .width) (now (mask .entry)))) (now (surface .entry))
+        ⌝ }
 {
     let mut ramp = [0u32; RAMP_NUMBERS];
     let mut buffer = [0u8; ROW_BYTES];
-    fill_with(surface, scratch, n, d, target, &mut ramp, &mut buffer);
+    fill_with(surface, scratch, mask, n, d, target, &mut ramp, &mut buffer);
 }
 
 // The same with a run for its ramp and a buffer for a row. What these hold afterwards is free.
 fn fill_with(
     surface: &mut [u8],
     scratch: &mut [i32],
+    mask: &[u8],
     n: usize,
     d: &[u8],
     target: Target,
@@ -49,10 +64,13 @@ fn fill_with(
 )
     requires { ⌜ (length (now d) ≡ drawBytes) × AcceptedDraw (now d) ⌝ }
     requires { ⌜ Laid (now d) (now scratch) n ⌝ }
-    requires { ⌜ Part target (now surface) ⌝ }
+    requires { ⌜ Part target (now surface) × MaskFor (usesMask (now d)) (target .height * target .width) (now mask) ⌝ }
     requires { ⌜ (rampNumbers ≤ length (now ramp)) × (5120 ≤ length (now buffer)) ⌝ }
     ensures { λ _. ⌜ now (scratch .exit) ≡ now (scratch .entry) ⌝ }
-    ensures { λ _. ⌜ now (surface .exit) ≡ stepped target (unclampedStep (now (d .entry))) (now (surface .entry)) ⌝ }
+    ensures { λ _. ⌜
+        now (surface .exit)
+        ≡ stepped target (unclampedStep (now (d .entry)) (maskAt (target .width) (now (mask .entry)))) (now (surface .entry))
+        ⌝ }
 {
     let s = style(d, n, shade(d, ramp));
     let m = (target.area.x1 - target.area.x0) * 5;
@@ -61,6 +79,7 @@ fn fill_with(
         scratch,
         scene::fields::scissors(d),
         ramp,
+        mask,
         &mut buffer[0..m],
         s,
         target,
@@ -73,6 +92,7 @@ fn draw_rect(
     scratch: &mut [i32],
     scissors: &[u8],
     ramp: &[u32],
+    mask: &[u8],
     buffer: &mut [u8],
     style: Style,
     target: Target,
@@ -80,10 +100,14 @@ fn draw_rect(
     requires { ⌜ Outlined (now scratch) (style .edges) ⌝ }
     requires { ⌜ Scissors style (now scissors) × Shaded (style .shade) (now ramp) ⌝ }
     requires { ⌜ Part target (now surface) × (length (now buffer) ≡ (target .area .x1 - target .area .x0) * 5) ⌝ }
+    requires { ⌜ MaskFor (style .masked) (target .height * target .width) (now mask) ⌝ }
     ensures { λ _. ⌜ now (scratch .exit) ≡ now (scratch .entry) ⌝ }
     ensures { λ _. ⌜
         now (surface .exit)
-        ≡ stepped target (stepWith style (edgesOf (now (scratch .entry)) (style .edges)) (now (scissors .entry)) (now (ramp .entry))) (now (surface .entry))
+        ≡ stepped target
+        (λ x y. stepWith style (edgesOf (now (scratch .entry)) (style .edges)) (now (scissors .entry)) (now (ramp .entry))
+        (maskAt (target .width) (now (mask .entry)) x y) x y)
+        (now (surface .entry))
         ⌝ }
 {
     let x = target.area.x0;
@@ -94,12 +118,16 @@ fn draw_rect(
         let r = raster::row_bytes(target, y);
         let from = r.from;
         let to = r.to;
+        let m = mask_bytes(style.masked, r);
+        let mask_from = m.from;
+        let mask_to = m.to;
         let strip = Strip { x, y, length };
         draw_row(
             &mut surface[from..to],
             scratch,
             scissors,
             ramp,
+            &mask[mask_from..mask_to],
             buffer,
             style,
             strip,
@@ -108,12 +136,26 @@ fn draw_rect(
     }
 }
 
+// Where the mask's bytes of a row lie, whose pixels have those bytes in the surface: none are taken for a draw without the mask.
+fn mask_bytes(masked: bool, row: Range) -> Range
+    ensures { λ r. ⌜ (r .from ≡ cond masked (row .from / 4) 0) × (r .to ≡ cond masked (row .to / 4) 0) ⌝ }
+{
+    if masked {
+        return Range {
+            from: row.from / 4,
+            to: row.to / 4,
+        };
+    }
+    Range { from: 0, to: 0 }
+}
+
 // One row: the buffer's first bytes take k of each pixel, the others its paint.
 fn draw_row(
     row: &mut [u8],
     scratch: &mut [i32],
     scissors: &[u8],
     ramp: &[u32],
+    mask: &[u8],
     buffer: &mut [u8],
     style: Style,
     strip: Strip,
@@ -121,17 +163,18 @@ fn draw_row(
     requires { ⌜ Outlined (now scratch) (style .edges) ⌝ }
     requires { ⌜ Scissors style (now scissors) × Shaded (style .shade) (now ramp) ⌝ }
     requires { ⌜ OnSurface strip × (length (now row) ≡ strip .length * 4) × (length (now buffer) ≡ strip .length * 5) ⌝ }
+    requires { ⌜ MaskFor (style .masked) (strip .length) (now mask) ⌝ }
     ensures { λ _. ⌜ now (scratch .exit) ≡ now (scratch .entry) ⌝ }
     ensures { λ _. ⌜
         now (row .exit)
         ≡ run (strip .length)
         (λ i. stepWith style (edgesOf (now (scratch .entry)) (style .edges)) (now (scissors .entry)) (now (ramp .entry))
-        (strip .x + i) (strip .y) (pixelIn (now (row .entry)) i))
+        (getD (now (mask .entry)) i 0) (strip .x + i) (strip .y) (pixelIn (now (row .entry)) i))
         ⌝ }
 {
     let n = strip.length;
     cover_row(scratch, scissors, &mut buffer[0..n], style, strip);
-    shade_row(row, ramp, buffer, style, strip);
+    shade_row(row, ramp, mask, buffer, style, strip);
 }
 
 // k of each pixel.
@@ -152,14 +195,80 @@ fn cover_row(scratch: &mut [i32], scissors: &[u8], cover: &mut [u8], style: Styl
     coverage::scissors::scissor_row(scissors, style.scissors, strip.x, strip.y, cover);
 }
 
-// The paint of each pixel, blended into the row by the k that stands first in the buffer.
-fn shade_row(row: &mut [u8], ramp: &[u32], buffer: &mut [u8], style: Style, strip: Strip)
+// The paint of each pixel, blended into the row by the k that stands first in the buffer, through the mask where the draw asks for it.
+fn shade_row(
+    row: &mut [u8],
+    ramp: &[u32],
+    mask: &[u8],
+    buffer: &mut [u8],
+    style: Style,
+    strip: Strip,
+)
+    requires { ⌜ Shaded (style .shade) (now ramp) ⌝ }
+    requires { ⌜ OnSurface strip × (length (now row) ≡ strip .length * 4) × (length (now buffer) ≡ strip .length * 5) ⌝ }
+    requires { ⌜ Coverage (take (strip .length) (now buffer)) × MaskFor (style .masked) (strip .length) (now mask) ⌝ }
+    ensures { λ _. ⌜
+        now (row .exit)
+        ≡ compositeRow (style .mode) (take (strip .length) (now (buffer .entry))) (λ i. maskWith style (getD (now (mask .entry)) i 0))
+        (λ i. shadeAt (style .shade) (now (ramp .entry)) (strip .x + i) (strip .y)) (now (row .entry))
+        ⌝ }
+{
+    if style.masked {
+        shade_masked(row, ramp, mask, buffer, style, strip);
+    } else {
+        shade_plain(row, ramp, buffer, style, strip);
+    }
+}
+
+// The same through the mask: the paint of each pixel is made behind the coverage, whatever it is.
+fn shade_masked(
+    row: &mut [u8],
+    ramp: &[u32],
+    mask: &[u8],
+    buffer: &mut [u8],
+    style: Style,
+    strip: Strip,
+)
+    requires { ⌜ Shaded (style .shade) (now ramp) ⌝ }
+    requires { ⌜ OnSurface strip × (length (now row) ≡ strip .length * 4) × (length (now buffer) ≡ strip .length * 5) ⌝ }
+    requires { ⌜ Coverage (take (strip .length) (now buffer)) × (length (now mask) ≡ strip .length) ⌝ }
+    ensures { λ _. ⌜
+        now (row .exit)
+        ≡ compositeRow (style .mode) (take (strip .length) (now (buffer .entry))) (λ i. getD (now (mask .entry)) i 0)
+        (λ i. shadeAt (style .shade) (now (ramp .entry)) (strip .x + i) (strip .y)) (now (row .entry))
+        ⌝ }
+{
+    let n = strip.length;
+    let m = n * 5;
+    let shade = style.shade;
+    paint_row(ramp, &mut buffer[n..m], shade, strip);
+    blend::composite_row_masked(style.mode, &buffer[0..n], mask, &buffer[n..m], row);
+}
+
+// The paint of each pixel.
+fn paint_row(ramp: &[u32], paints: &mut [u8], shade: Shade, strip: Strip)
+    requires { ⌜ Shaded shade (now ramp) ⌝ }
+    requires { ⌜ OnSurface strip × (length (now paints) ≡ strip .length * 4) ⌝ }
+    ensures { λ _. ⌜ now (paints .exit) ≡ run (strip .length) (λ i. shadeAt shade (now (ramp .entry)) (strip .x + i) (strip .y)) ⌝ }
+{
+    match shade {
+        Shade::Solid(p) => {
+            raster::fill_row(paints, strip.length, p);
+        }
+        Shade::Gradient(g) => {
+            paint::row::gradient_row(g, ramp, strip.x, strip.y, strip.length, paints);
+        }
+    }
+}
+
+// The same without a mask. A plain colour is blended as it is.
+fn shade_plain(row: &mut [u8], ramp: &[u32], buffer: &mut [u8], style: Style, strip: Strip)
     requires { ⌜ Shaded (style .shade) (now ramp) ⌝ }
     requires { ⌜ OnSurface strip × (length (now row) ≡ strip .length * 4) × (length (now buffer) ≡ strip .length * 5) ⌝ }
     requires { ⌜ Coverage (take (strip .length) (now buffer)) ⌝ }
     ensures { λ _. ⌜
         now (row .exit)
-        ≡ compositeRow (style .mode) (take (strip .length) (now (buffer .entry)))
+        ≡ compositeRow (style .mode) (take (strip .length) (now (buffer .entry))) (λ i. 255)
         (λ i. shadeAt (style .shade) (now (ramp .entry)) (strip .x + i) (strip .y)) (now (row .entry))
         ⌝ }
 {

@@ -10,7 +10,7 @@ use Rattle.lists.specs.Lists.{over}
 use Rattle.lists.proofs.Laws.{part-length}
 use borrow.Author.Tests.{eq-eqb, ne-eqb}
 use Rattle.render.specs.declared.Answer.{Answer}
-use Rattle.render.specs.Answers.{drawAnswer, redrawAnswer, drawSurface, redrawSurface, drawScratch, redrawScratch}
+use Rattle.render.specs.Answers.{noMask, drawAnswer, redrawAnswer, drawSurface, redrawSurface, drawScratch, redrawScratch}
 use Rattle.limits.specs.Calls.{bytes, numbers, callAnswer, callSurface, callOther, callScratch, isAccepted, surfaceLeft, otherLeft, scratchLeft}
 
 -- answer, surface, other surface and scratch after a call
@@ -22,28 +22,36 @@ Called full old new s o r a s′ o′ t′ =
 -- a drawing: the scratch t is filled, then the new scene is drawn
 pub drawing-leaves : (full : Bool) (old new s o : List ℕ) (t : List ℤ) (a : Answer) (s′ : List ℕ) (f t′ : List ℤ) → full ≡ true
     → f ≡ numbers (length t) → length f ≡ length t
-    → (a ≡ drawAnswer new (length s) (length f)) × ((s′ ≡ drawSurface new s (length f)) × (t′ ≡ drawScratch new (length s) f))
+    → (a ≡ drawAnswer new noMask (length s) (length f)) × ((s′ ≡ drawSurface new noMask s (length f)) × (t′ ≡ drawScratch new noMask (length s) f))
     → Called full old new s o (length t) a s′ o t′
 drawing-leaves full old new s o t a s′ f t′ q e l d =
-    rw q (d .0 ∙ ap (drawAnswer new (length s)) l, (d .1 .0 ∙ ap (drawSurface new s) l, (refl, d .1 .1 ∙ ap (drawScratch new (length s)) e)))
+    rw q (
+      d .0 ∙ ap (drawAnswer new noMask (length s)) l,
+      (
+        d .1 .0
+            ∙ ap (drawSurface new noMask s) l,
+        (refl, d .1 .1 ∙ ap (drawScratch new noMask (length s)) e),
+      ),
+    )
 
 -- a redraw: the old scene is drawn on both surfaces, the scratch is filled, then comes the redraw
 pub redraw-leaves : (full : Bool) (old new s o : List ℕ) (t : List ℤ) (a : Answer) (s₁ o₁ s′ : List ℕ) (t₁ f t′ : List ℤ) → full ≡ false
-    → s₁ ≡ drawSurface old s (length t) → length s₁ ≡ length s → length t₁ ≡ length t → o₁ ≡ drawSurface old o (length t₁)
+    → s₁ ≡ drawSurface old noMask s (length t) → length s₁ ≡ length s → length t₁ ≡ length t → o₁ ≡ drawSurface old noMask o (length t₁)
     → f ≡ numbers (length t) → length f ≡ length t
-    → (a ≡ redrawAnswer old new (length s₁) (length f)) × ((s′ ≡ redrawSurface old new s₁ (length f)) × (t′ ≡ redrawScratch old new (length s₁) f))
+    → (a ≡ redrawAnswer old new noMask (length s₁) (length f))
+    × ((s′ ≡ redrawSurface old new noMask s₁ (length f)) × (t′ ≡ redrawScratch old new noMask (length s₁) f))
     → Called full old new s o (length t) a s′ o₁ t′
 redraw-leaves full old new s o t a s₁ o₁ s′ t₁ f t′ q d n m e g l h =
     rw q (
-      h .0 ∙ ap₂ (redrawAnswer old new) n l,
-      (h .1 .0 ∙ ap₂ (redrawSurface old new) d l, (e ∙ ap (drawSurface old o) m, h .1 .1 ∙ ap₂ (redrawScratch old new) n g)),
+      h .0 ∙ ap₂ (redrawAnswer old new noMask) n l,
+      (h .1 .0 ∙ ap₂ (redrawSurface old new noMask) d l, (e ∙ ap (drawSurface old noMask o) m, h .1 .1 ∙ ap₂ (redrawScratch old new noMask) n g)),
     )
 
 -- the report of an accepted call: the scene on the other surface
 pub report-leaves : (new o o₁ o′ : List ℕ) (t f t′ : List ℤ) → o₁ ≡ bytes 85 (length o) → length o₁ ≡ length o
-    → f ≡ numbers (length t) → length f ≡ length t → (o′ ≡ drawSurface new o₁ (length f)) × (t′ ≡ drawScratch new (length o₁) f)
-    → (o′ ≡ drawSurface new (bytes 85 (length o)) (length t)) × (t′ ≡ drawScratch new (length o) (numbers (length t)))
-report-leaves new o o₁ o′ t f t′ e n g l d = (d .0 ∙ ap₂ (drawSurface new) e l, d .1 ∙ ap₂ (drawScratch new) n g)
+    → f ≡ numbers (length t) → length f ≡ length t → (o′ ≡ drawSurface new noMask o₁ (length f)) × (t′ ≡ drawScratch new noMask (length o₁) f)
+    → (o′ ≡ drawSurface new noMask (bytes 85 (length o)) (length t)) × (t′ ≡ drawScratch new noMask (length o) (numbers (length t)))
+report-leaves new o o₁ o′ t f t′ e n g l d = (d .0 ∙ ap₂ (drawSurface new noMask) e l, d .1 ∙ ap₂ (drawScratch new noMask) n g)
 
 -- both: on surfaces of w bytes that hold a pattern
 module _ (full : Bool) (old new : List ℕ) (w r : ℕ) (s o : List ℕ) (a : Answer) (s′ o′ : List ℕ) (t′ : List ℤ)
@@ -56,15 +64,15 @@ module _ (full : Bool) (old new : List ℕ) (w r : ℕ) (s o : List ℕ) (a : An
   surface-left = called .1 .0 ∙ ap (λ (z : List ℕ). callSurface full old new z r) at-first
 
   pub accepted-leaves : (k j : ℕ) (o″ : List ℕ) (t″ : List ℤ) → a .code ≡ 0 → k ≡ w → j ≡ r
-      → (o″ ≡ drawSurface new (bytes 85 k) j) × (t″ ≡ drawScratch new k (numbers j))
+      → (o″ ≡ drawSurface new noMask (bytes 85 k) j) × (t″ ≡ drawScratch new noMask k (numbers j))
       → (s′ ≡ surfaceLeft full old new w r) × ((o″ ≡ otherLeft full old new w r) × (t″ ≡ scratchLeft full old new w r))
   unfolding otherLeft scratchLeft
   accepted-leaves k j o″ t″ z e f d =
       let q : isAccepted full old new w r ≡ true = eq-eqb _ 0 (sym (ap (λ (b : Answer). b .code) answered) ∙ z) in (
         surface-left,
         (
-          rw q (d .0 ∙ ap₂ (λ (x y : ℕ). drawSurface new (bytes 85 x) y) e f),
-          rw q (d .1 ∙ ap₂ (λ (x y : ℕ). drawScratch new x (numbers y)) e f),
+          rw q (d .0 ∙ ap₂ (λ (x y : ℕ). drawSurface new noMask (bytes 85 x) y) e f),
+          rw q (d .1 ∙ ap₂ (λ (x y : ℕ). drawScratch new noMask x (numbers y)) e f),
         ),
       )
 

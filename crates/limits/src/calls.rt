@@ -14,7 +14,7 @@ ghost use Prim.Native.Nat.{_-_, _≤_, _<_};
 ghost use lib.Dec.{eqb};
 ghost use lib.ListN.{length, take};
 ghost use Rattle.lists.specs.Lists.{over};
-ghost use Rattle.render.specs.Answers.{drawSurface, drawScratch};
+ghost use Rattle.render.specs.Answers.{noMask, drawSurface, drawScratch};
 ghost use Rattle.limits.specs.Calls.{Sized, bytes, numbers, callAnswer, callSurface, callOther, callScratch, surfaceLeft, otherLeft, scratchLeft};
 
 // Runs the call that starts at argument i, and prints its line. What it is not lent stays as it is.
@@ -97,12 +97,12 @@ fn call(
 {
     if full {
         fill_numbers(scratch);
-        return render::draw(new, surface, scratch);
+        return render::draw_unmasked(new, surface, scratch);
     }
-    render::draw(old, surface, scratch);
-    render::draw(old, other, scratch);
+    render::draw_unmasked(old, surface, scratch);
+    render::draw_unmasked(old, other, scratch);
     fill_numbers(scratch);
-    render::redraw(old, new, surface, scratch)
+    render::redraw_unmasked(old, new, surface, scratch)
 }
 
 fn report_refused(a: Answer, surface: &[u8], other: &[u8], scratch: &[i32]) {
@@ -117,13 +117,13 @@ fn report_refused(a: Answer, surface: &[u8], other: &[u8], scratch: &[i32]) {
 
 // Draws the scene on the other surface, from another pattern, to compare.
 fn report_accepted(a: Answer, scene: &[u8], surface: &[u8], other: &mut [u8], scratch: &mut [i32])
-    ensures { λ _. ⌜ now (other .exit) ≡ drawSurface (now (scene .entry)) (bytes 85 (length (now (other .entry)))) (length (now (scratch .entry))) ⌝ }
-    ensures { λ _. ⌜ now (scratch .exit) ≡ drawScratch (now (scene .entry)) (length (now (other .entry))) (numbers (length (now (scratch .entry)))) ⌝ }
+    ensures { λ _. ⌜ now (other .exit) ≡ drawSurface (now (scene .entry)) noMask (bytes 85 (length (now (other .entry)))) (length (now (scratch .entry))) ⌝ }
+    ensures { λ _. ⌜ now (scratch .exit) ≡ drawScratch (now (scene .entry)) noMask (length (now (other .entry))) (numbers (length (now (scratch .entry)))) ⌝ }
 {
     let is_clear = is_zero(scratch);
     fill_bytes(other, 85);
     fill_numbers(scratch);
-    render::draw(scene, other, scratch);
+    render::draw_unmasked(scene, other, scratch);
     print_line(a, same_bytes(surface, other), b"drawn", is_clear, b"zero");
 }
 

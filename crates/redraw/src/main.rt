@@ -73,7 +73,7 @@ fn size_surface(old: &[u8], new: &[u8], surface: &mut [u8])
 fn redraw_picture(old: &[u8], new: &[u8], surface: &mut [u8], size: Size)
     requires { ⌜ Surface size (now surface) ⌝ }
 {
-    let refusal = judge_redraw(old, new, surface.len(), SCRATCH_NUMBERS);
+    let refusal = judge_redraw(old, new, false, &old[0..0], surface.len(), SCRATCH_NUMBERS);
     if refusal.code != ACCEPTED {
         print_refusal(refusal);
         return;
@@ -85,8 +85,8 @@ fn redraw_picture(old: &[u8], new: &[u8], surface: &mut [u8], size: Size)
 
 fn draw_and_redraw(old: &[u8], new: &[u8], surface: &mut [u8]) -> Answer {
     let mut scratch = [0i32; SCRATCH_NUMBERS];
-    render::draw(old, surface, &mut scratch);
-    render::redraw(old, new, surface, &mut scratch)
+    render::draw_unmasked(old, surface, &mut scratch);
+    render::redraw_unmasked(old, new, surface, &mut scratch)
 }
 
 fn print_refusal(r: Refusal) {

@@ -26,19 +26,20 @@ use Rattle.scene.specs.Layout.{blockBytes, payloadBytes, drawBlocks, widthAt, h
 use Rattle.scene.specs.Layout.{flagsAt, blendAt, paintTypeAt, spreadAt, segmentCountAt, scissorCountAt, stopCountAt, paddingAt}
 use Rattle.scene.specs.Layout.{matrixAt, translationAt, colorAt, linearPointsAt}
 use Rattle.scene.specs.Layout.{scissorsAt, stopsAt, segmentsAt, coordinatesAt, drawBytes}
-use Rattle.scene.specs.Layout.{flagsLimit, segmentLimit, scissorLimit, scissorBytes, stopBytes, stopFloats, radialAt, radialFloats}
+use Rattle.scene.specs.Layout.{segmentLimit, scissorLimit, scissorBytes, stopBytes, stopFloats, radialAt, radialFloats}
 use Rattle.scene.specs.Blocks.{blockRight, blockOf, drawOf, fileOffset}
 use Rattle.scene.specs.Header.{widthOf, heightOf, countOf}
-use Rattle.scene.specs.Fields.{flagsOf, blendOf, paintTypeOf, spreadOf, segmentCount, scissorCount, stopCount, matrixOf, segmentsOf, coordinatesOf}
+use Rattle.scene.specs.Fields.{blendOf, paintTypeOf, spreadOf, segmentCount, scissorCount, stopCount, matrixOf, segmentsOf, coordinatesOf}
 use Rattle.scene.specs.Fields.{isRadial, radialOf, firstStopAt}
 use Rattle.scene.specs.Faults.{fine, firstOf, must, unused, limited, numbers, accepted, fault, demand}
-use Rattle.scene.specs.Rules.{linearPointLimit, countRules, headRules, floatRules, listRules, flatRule, pathRules, restRules, drawRules, headerRules}
+use Rattle.scene.specs.Rules.{linearPointLimit, countRules, flagsAllowed, headRules, floatRules, listRules, flatRule}
+use Rattle.scene.specs.Rules.{pathRules, restRules, drawRules, headerRules}
 use Rattle.scene.specs.Rules.{radialLimit, stopLimitOf, isPaint, focalRule, circleRules, stopRules}
 use Rattle.scene.specs.Rules.{inHeader, inDraw, checkFaultsFrom, checkFaults, drawFaultFrom, drawFault, sceneFaultFrom, sceneFault}
 use Rattle.damage.specs.Damage.{damage}
 use Rattle.render.specs.declared.Refusal.{Refusal}
 use Rattle.render.specs.declared.Answer.{Answer}
-use Rattle.render.specs.Answers.{scratchNumbers, nothing, refuse, sceneRefusal, lentRefusal, drawRefusal, sizeRefusal, redrawRefusal}
+use Rattle.render.specs.Answers.{Mask, maskWrong, scratchNumbers, nothing, refuse, sceneRefusal, lentRefusal, drawRefusal, sizeRefusal, redrawRefusal}
 use Rattle.render.specs.Answers.{choose, acceptedAnswer, refusedAnswer, drawAnswer, redrawAnswer}
 
 module _ (P : ℕ → Type 0) (none : P acceptedCode) (illegal : P illegalArgument) (arc : P unsupportedPathFormat) where
@@ -86,10 +87,10 @@ module _ (P : ℕ → Type 0) (none : P acceptedCode) (illegal : P illegalArgume
         (then (rule (leb (stopCount d) (stopLimitOf d)) stopCountAt)
         (rule (eqb (getD d paddingAt 0) 0) paddingAt)))
 
-    head-coded : Field (headRules d)
+    head-coded : (masked : Bool) → Field (headRules masked d)
     unfolding headRules
-    head-coded =
-        then (rule (ltb (flagsOf d) flagsLimit) flagsAt)
+    head-coded masked =
+        then (rule (flagsAllowed masked d) flagsAt)
         (then (rule (isMode (blendOf d)) blendAt)
         (then (rule (isPaint (paintTypeOf d)) paintTypeAt)
         (then (rule (leb spreadPad (spreadOf d) && leb (spreadOf d) spreadReflect) spreadAt)
@@ -135,12 +136,12 @@ module _ (P : ℕ → Type 0) (none : P acceptedCode) (illegal : P illegalArgume
         then (unused-coded d (segmentsAt + segmentCount d) coordinatesAt)
         (unused-coded d (coordinatesAt + 2 * walkTo (segmentsOf d) (coordinatesOf d) (segmentCount d) .used) drawBytes)
 
-    rules-coded : Field (drawRules d)
+    rules-coded : (masked : Bool) → Field (drawRules masked d)
     unfolding drawRules
-    rules-coded = then head-coded (then floats-coded (then lists-coded (then flat-coded (then segments-coded rest-coded))))
+    rules-coded masked = then (head-coded masked) (then floats-coded (then lists-coded (then flat-coded (then segments-coded rest-coded))))
 
   -- ---- a scene
-  module _ (bad-length : P badLength) (bad-check : P badChecksum) (s : List ℕ) where
+  module _ (bad-length : P badLength) (bad-check : P badChecksum) (masked : Bool) (s : List ℕ) where
     abbrev Scene : Fault → Type 0
     Scene = Coded P (λ f. f .code)
 
@@ -169,22 +170,22 @@ module _ (P : ℕ → Type 0) (none : P acceptedCode) (illegal : P illegalArgume
         first accepted drawBlocks _ none
         (λ j. faulty (blockRight s (blockOf i + j)) badChecksum i (blockBytes * (blockOf i + j) + payloadBytes) bad-check)
 
-    draw-coded : (i : ℕ) → Scene (drawFault s i)
+    draw-coded : (i : ℕ) → Scene (drawFault masked s i)
     unfolding drawFaultFrom
-    draw-coded i = then (checks-coded i) (in-draw i (drawRules (drawOf s i)) (rules-coded (drawOf s i)))
+    draw-coded i = then (checks-coded i) (in-draw i (drawRules masked (drawOf s i)) (rules-coded (drawOf s i) masked))
 
-    scene-coded : Scene (sceneFault s)
+    scene-coded : Scene (sceneFault masked s)
     unfolding sceneFaultFrom
     scene-coded =
         then (faulty (eqb (length s % blockBytes) 0 && leb blockBytes (length s)) badLength noDraw 0 bad-length)
         (then (faulty (blockRight s 0) badChecksum noDraw payloadBytes bad-check)
         (then (in-header (headerRules s) header-coded)
         (then (faulty (eqb (length s) (blockBytes * blockOf (countOf s))) badLength noDraw 0 bad-length)
-        (first accepted (countOf s) (drawFault s) none draw-coded))))
+        (first accepted (countOf s) (drawFault masked s) none draw-coded))))
 
 -- a scene is judged with one of the codes for that
-pub scene-code-in-table : (s : List ℕ) → isOneOf (sceneFault s .code) sceneCodes ≡ true
-scene-code-in-table s = scene-coded (λ c. isOneOf c sceneCodes ≡ true) refl refl refl refl refl s .holds
+pub scene-code-in-table : (masked : Bool) (s : List ℕ) → isOneOf (sceneFault masked s .code) sceneCodes ≡ true
+scene-code-in-table masked s = scene-coded (λ c. isOneOf c sceneCodes ≡ true) refl refl refl refl refl masked s .holds
 
 -- ---- a call
 abbrev Tabled : Refusal → Type 0
@@ -193,43 +194,44 @@ Tabled = Coded (λ c. inTable c ≡ true) (λ f. f .code)
 refusal : (t : Bool) (f g : Refusal) → inTable (f .code) ≡ true → inTable (g .code) ≡ true → Tabled (cond t f g)
 refusal = choice (λ c. inTable c ≡ true) (λ f. f .code)
 
-scene-tabled : (s : List ℕ) (k : ℕ) → Tabled (sceneRefusal s k)
+scene-tabled : (masked : Bool) (s : List ℕ) (k : ℕ) → Tabled (sceneRefusal masked s k)
 unfolding sceneRefusal
-scene-tabled s k =
-    refusal (eqb (sceneFault s .code) 0) nothing (refuse (sceneFault s .code) (sceneFault s .draw) k) refl
-    (scene-coded (λ c. inTable c ≡ true) refl refl refl refl refl s .holds)
+scene-tabled masked s k =
+    refusal (eqb (sceneFault masked s .code) 0) nothing (refuse (sceneFault masked s .code) (sceneFault masked s .draw) k) refl
+    (scene-coded (λ c. inTable c ≡ true) refl refl refl refl refl masked s .holds)
 
-lent-tabled : (w h surface scratch : ℕ) → Tabled (lentRefusal w h surface scratch)
+lent-tabled : (w h : ℕ) (m : Mask) (surface scratch : ℕ) → Tabled (lentRefusal w h m surface scratch)
 unfolding lentRefusal
-lent-tabled w h surface scratch =
+lent-tabled w h m surface scratch =
     refusal (not (eqb surface (4 * (w * h)))) (refuse unsupportedImageFormat noDraw 0) _ refl
-    (refusal (ltb scratch scratchNumbers) (refuse outOfMemory noDraw 0) nothing refl refl .holds)
+    (refusal (maskWrong m (w * h)) (refuse unsupportedImageFormat noDraw 0) _ refl
+    (refusal (ltb scratch scratchNumbers) (refuse outOfMemory noDraw 0) nothing refl refl .holds) .holds)
 
 sizes-tabled : (old new : List ℕ) → Tabled (sizeRefusal old new)
 unfolding sizeRefusal
 sizes-tabled old new = refusal (eqb (widthOf old) (widthOf new) && eqb (heightOf old) (heightOf new)) nothing (refuse illegalArgument noDraw 1) refl refl
 
-draw-tabled : (s : List ℕ) (surface scratch : ℕ) → Tabled (drawRefusal s surface scratch)
+draw-tabled : (s : List ℕ) (m : Mask) (surface scratch : ℕ) → Tabled (drawRefusal s m surface scratch)
 unfolding drawRefusal
-draw-tabled s surface scratch = then (scene-tabled s 0) (lent-tabled (widthOf s) (heightOf s) surface scratch)
+draw-tabled s m surface scratch = then (scene-tabled (m .lent) s 0) (lent-tabled (widthOf s) (heightOf s) m surface scratch)
 
-redraw-tabled : (old new : List ℕ) (surface scratch : ℕ) → Tabled (redrawRefusal old new surface scratch)
+redraw-tabled : (old new : List ℕ) (m : Mask) (surface scratch : ℕ) → Tabled (redrawRefusal old new m surface scratch)
 unfolding redrawRefusal
-redraw-tabled old new surface scratch =
-    then (scene-tabled old 0)
-    (then (scene-tabled new 1)
+redraw-tabled old new m surface scratch =
+    then (scene-tabled (m .lent) old 0)
+    (then (scene-tabled (m .lent) new 1)
     (then (sizes-tabled old new)
-    (lent-tabled (widthOf new) (heightOf new) surface scratch)))
+    (lent-tabled (widthOf new) (heightOf new) m surface scratch)))
 
 answer-tabled : (f : Refusal) (a : Rect) → Tabled f → inTable (choose f (acceptedAnswer a) (refusedAnswer f) .code) ≡ true
 unfolding choose
 answer-tabled f a t = choice (λ c. inTable c ≡ true) (λ (r : Answer). r .code) (eqb (f .code) 0) (acceptedAnswer a) (refusedAnswer f) refl (t .holds) .holds
 
 -- DEMAND 1: every call answers with a code from the table, whatever it is given
-pub draw-code-in-table : (s : List ℕ) (surfaceBytes scratch : ℕ) → inTable (drawAnswer s surfaceBytes scratch .code) ≡ true
-draw-code-in-table s surfaceBytes scratch =
-    answer-tabled (drawRefusal s surfaceBytes scratch) (whole (widthOf s) (heightOf s)) (draw-tabled s surfaceBytes scratch)
+pub draw-code-in-table : (s : List ℕ) (m : Mask) (surfaceBytes scratch : ℕ) → inTable (drawAnswer s m surfaceBytes scratch .code) ≡ true
+draw-code-in-table s m surfaceBytes scratch =
+    answer-tabled (drawRefusal s m surfaceBytes scratch) (whole (widthOf s) (heightOf s)) (draw-tabled s m surfaceBytes scratch)
 
-pub redraw-code-in-table : (old new : List ℕ) (surfaceBytes scratch : ℕ) → inTable (redrawAnswer old new surfaceBytes scratch .code) ≡ true
-redraw-code-in-table old new surfaceBytes scratch =
-    answer-tabled (redrawRefusal old new surfaceBytes scratch) (damage old new) (redraw-tabled old new surfaceBytes scratch)
+pub redraw-code-in-table : (old new : List ℕ) (m : Mask) (surfaceBytes scratch : ℕ) → inTable (redrawAnswer old new m surfaceBytes scratch .code) ≡ true
+redraw-code-in-table old new m surfaceBytes scratch =
+    answer-tabled (redrawRefusal old new m surfaceBytes scratch) (damage old new) (redraw-tabled old new m surfaceBytes scratch)

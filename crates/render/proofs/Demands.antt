@@ -13,64 +13,69 @@ use Rattle.raster.proofs.Pixels.{raster-length, raster-at}
 use Rattle.raster.proofs.Overlay.{overlay-length, overlay-in, overlay-out}
 use Rattle.scene.specs.Header.{widthOf, heightOf, countOf}
 use Rattle.scene.proofs.Accepted.{accepted-scene}
-use Rattle.engine.specs.Picture.{pixelAt, picture}
+use Rattle.engine.specs.Picture.{pixelAt, maskAt, picture}
 use Rattle.damage.specs.Damage.{changedAt, boxAt, sameBackground, damage}
 use Rattle.damage.proofs.Changes.{damage-whole}
 use Rattle.damage.proofs.Smallest.{damage-holds, damage-least, damage-none, damage-on}
 use Rattle.damage.proofs.Redraw.{redraw-right}
 use Rattle.render.specs.Answers.{drawRefusal, redrawRefusal, acceptedAnswer}
 use Rattle.render.specs.Answers.{drawAnswer, drawSurface, drawScratch, redrawAnswer, redrawSurface, redrawScratch}
-use Rattle.render.specs.Answers.{scratchNumbers, Accepted, OneSize, Lent, HoldsChanges}
-use Rattle.render.proofs.Refusals.{scene-passes, lent-passes, size-passes, draw-ready, redraw-ready}
+use Rattle.render.specs.Answers.{Mask, maskBytes, scratchNumbers, Accepted, OneSize, Lent, HoldsChanges}
+use Rattle.render.proofs.Refusals.{scene-passes, mask-right, lent-passes, size-passes, draw-ready, redraw-ready}
 use Rattle.render.proofs.Results.{chosen, not-chosen, answer-refused, answer-accepted}
 
 -- ---- DEMAND 1: a refused call leaves surface and scratch as they were; an accepted one leaves the scratch all zero
-module _ (s surface : List ℕ) (scratch : List ℤ) where
-  pub refused-draw-changes-nothing : (drawAnswer s (length surface) (length scratch) .code ≡ 0 → ⊥)
-      → (drawSurface s surface (length scratch) ≡ surface) × (drawScratch s (length surface) scratch ≡ scratch)
+module _ (s : List ℕ) (m : Mask) (surface : List ℕ) (scratch : List ℤ) where
+  pub refused-draw-changes-nothing : (drawAnswer s m (length surface) (length scratch) .code ≡ 0 → ⊥)
+      → (drawSurface s m surface (length scratch) ≡ surface) × (drawScratch s m (length surface) scratch ≡ scratch)
   refused-draw-changes-nothing n =
-      let f = drawRefusal s (length surface) (length scratch) in
-      let m = answer-refused f _ n in
-      (not-chosen f _ _ m, not-chosen f _ _ m)
+      let f = drawRefusal s m (length surface) (length scratch) in
+      let r = answer-refused f _ n in
+      (not-chosen f _ _ r, not-chosen f _ _ r)
 
-  pub accepted-draw-clears-scratch : drawAnswer s (length surface) (length scratch) .code ≡ 0
-      → drawScratch s (length surface) scratch ≡ replicate (length scratch) (pos 0)
+  pub accepted-draw-clears-scratch : drawAnswer s m (length surface) (length scratch) .code ≡ 0
+      → drawScratch s m (length surface) scratch ≡ replicate (length scratch) (pos 0)
   accepted-draw-clears-scratch e =
-      let f = drawRefusal s (length surface) (length scratch) in
+      let f = drawRefusal s m (length surface) (length scratch) in
       chosen f _ _ (answer-accepted f _ e)
 
-module _ (old new surface : List ℕ) (scratch : List ℤ) where
-  pub refused-redraw-changes-nothing : (redrawAnswer old new (length surface) (length scratch) .code ≡ 0 → ⊥)
-      → (redrawSurface old new surface (length scratch) ≡ surface) × (redrawScratch old new (length surface) scratch ≡ scratch)
+module _ (old new : List ℕ) (m : Mask) (surface : List ℕ) (scratch : List ℤ) where
+  pub refused-redraw-changes-nothing : (redrawAnswer old new m (length surface) (length scratch) .code ≡ 0 → ⊥)
+      → (redrawSurface old new m surface (length scratch) ≡ surface) × (redrawScratch old new m (length surface) scratch ≡ scratch)
   refused-redraw-changes-nothing n =
-      let f = redrawRefusal old new (length surface) (length scratch) in
-      let m = answer-refused f _ n in
-      (not-chosen f _ _ m, not-chosen f _ _ m)
+      let f = redrawRefusal old new m (length surface) (length scratch) in
+      let r = answer-refused f _ n in
+      (not-chosen f _ _ r, not-chosen f _ _ r)
 
-  pub accepted-redraw-clears-scratch : redrawAnswer old new (length surface) (length scratch) .code ≡ 0
-      → redrawScratch old new (length surface) scratch ≡ replicate (length scratch) (pos 0)
+  pub accepted-redraw-clears-scratch : redrawAnswer old new m (length surface) (length scratch) .code ≡ 0
+      → redrawScratch old new m (length surface) scratch ≡ replicate (length scratch) (pos 0)
   accepted-redraw-clears-scratch e =
-      let f = redrawRefusal old new (length surface) (length scratch) in
+      let f = redrawRefusal old new m (length surface) (length scratch) in
       chosen f _ _ (answer-accepted f _ e)
 
 -- ---- DEMAND 2: a full drawing is accepted exactly if the scene is and enough is lent; it reports the whole surface and leaves the picture
-module _ (s surface : List ℕ) (scratch : ℕ) where
-  pub only-good-draws-accepted : drawAnswer s (length surface) scratch .code ≡ 0 → Accepted s × Lent s surface scratch
+module _ (s : List ℕ) (m : Mask) (surface : List ℕ) (scratch : ℕ) where
+  pub only-good-draws-accepted : drawAnswer s m (length surface) scratch .code ≡ 0 → Accepted m s × Lent s m surface scratch
   only-good-draws-accepted e =
-      let f = drawRefusal s (length surface) scratch in
-      let r = draw-ready s (length surface) scratch (answer-accepted f _ e) in
-      (r .scene, record { size = r .size; space = r .space })
+      let f = drawRefusal s m (length surface) scratch in
+      let r = draw-ready s m (length surface) scratch (answer-accepted f _ e) in
+      (r .scene, record { size = r .size; mask = r .mask; space = r .space })
 
-  module _ (a : Accepted s) (lent : Lent s surface scratch) where
-    draw-passes : drawRefusal s (length surface) scratch .code ≡ 0
+  module _ (a : Accepted m s) (lent : Lent s m surface scratch) where
+    draw-passes : drawRefusal s m (length surface) scratch .code ≡ 0
     unfolding drawRefusal
-    draw-passes = rw (scene-passes s 0 a, lent-passes (widthOf s) (heightOf s) (length surface) scratch (lent .size) (lent .space))
+    draw-passes =
+        rw (
+          scene-passes (m .lent) s 0 a,
+          lent-passes (widthOf s) (heightOf s) m (length surface) scratch (lent .size) (mask-right m _ (lent .mask))
+              (lent .space),
+        )
 
-    pub full-drawing-accepted : drawAnswer s (length surface) scratch ≡ acceptedAnswer (whole (widthOf s) (heightOf s))
-    full-drawing-accepted = chosen (drawRefusal s (length surface) scratch) _ _ draw-passes
+    pub full-drawing-accepted : drawAnswer s m (length surface) scratch ≡ acceptedAnswer (whole (widthOf s) (heightOf s))
+    full-drawing-accepted = chosen (drawRefusal s m (length surface) scratch) _ _ draw-passes
 
-    pub full-drawing-leaves-picture : drawSurface s surface scratch ≡ picture s
-    full-drawing-leaves-picture = chosen (drawRefusal s (length surface) scratch) _ _ draw-passes
+    pub full-drawing-leaves-picture : drawSurface s m surface scratch ≡ picture s (maskBytes m)
+    full-drawing-leaves-picture = chosen (drawRefusal s m (length surface) scratch) _ _ draw-passes
 
 -- ---- DEMAND 3: the area, for any two scenes
 module _ (old new : List ℕ) where
@@ -96,71 +101,78 @@ module _ (old new : List ℕ) where
   area-on-surface = damage-on (widthOf new) (heightOf new) old new
 
 -- ---- DEMAND 3: the redraw is accepted exactly if both scenes are, have one size, and enough is lent
-accepted-length : (s : List ℕ) → Accepted s → length s ≡ 512 * (1 + 4 * countOf s)
-accepted-length s a = accepted-scene s a .bytes
+accepted-length : (m : Mask) (s : List ℕ) → Accepted m s → length s ≡ 512 * (1 + 4 * countOf s)
+accepted-length m s a = accepted-scene s (m .lent) a .bytes
 
-module _ (old new surface : List ℕ) (scratch : ℕ) where
-  pub only-good-redraws-accepted : redrawAnswer old new (length surface) scratch .code ≡ 0
-      → (Accepted old × Accepted new) × (OneSize old new × Lent new surface scratch)
+module _ (old new : List ℕ) (m : Mask) (surface : List ℕ) (scratch : ℕ) where
+  pub only-good-redraws-accepted : redrawAnswer old new m (length surface) scratch .code ≡ 0
+      → (Accepted m old × Accepted m new) × (OneSize old new × Lent new m surface scratch)
   only-good-redraws-accepted e =
-      let f = redrawRefusal old new (length surface) scratch in
-      let r = redraw-ready old new (length surface) scratch (answer-accepted f _ e) in
-      ((r .before, r .after .scene), (record { width = r .width; height = r .height }, record { size = r .after .size; space = r .after .space }))
+      let f = redrawRefusal old new m (length surface) scratch in
+      let r = redraw-ready old new m (length surface) scratch (answer-accepted f _ e) in
+      let lent : Lent new m surface scratch = record { size = r .after .size; mask = r .after .mask; space = r .after .space } in
+      ((r .before, r .after .scene), (record { width = r .width; height = r .height }, lent))
 
-  module _ (o : Accepted old) (n : Accepted new) (size : OneSize old new) (lent : Lent new surface scratch) where
-    redraw-passes : redrawRefusal old new (length surface) scratch .code ≡ 0
+  module _ (o : Accepted m old) (n : Accepted m new) (size : OneSize old new) (lent : Lent new m surface scratch) where
+    -- m at a pixel
+    abbrev there : ℕ → ℕ → ℕ
+    there = maskAt (widthOf new) (maskBytes m)
+
+    redraw-passes : redrawRefusal old new m (length surface) scratch .code ≡ 0
     unfolding redrawRefusal
     redraw-passes =
         rw (
-          scene-passes old 0 o,
-          scene-passes new 1 n,
+          scene-passes (m .lent) old 0 o,
+          scene-passes (m .lent) new 1 n,
           size-passes old new (size .width) (size .height),
-          lent-passes (widthOf new) (heightOf new) (length surface) scratch (lent .size) (lent .space),
+          lent-passes (widthOf new) (heightOf new) m (length surface) scratch (lent .size) (mask-right m _ (lent .mask)) (lent .space),
         )
 
     -- it reports the area
-    pub redraw-accepted : redrawAnswer old new (length surface) scratch ≡ acceptedAnswer (damage old new)
-    redraw-accepted = chosen (redrawRefusal old new (length surface) scratch) _ _ redraw-passes
+    pub redraw-accepted : redrawAnswer old new m (length surface) scratch ≡ acceptedAnswer (damage old new)
+    redraw-accepted = chosen (redrawRefusal old new m (length surface) scratch) _ _ redraw-passes
 
-    leaves : redrawSurface old new surface scratch ≡ overlay (widthOf new) (heightOf new) (damage old new) (pixelAt new) surface
-    leaves = chosen (redrawRefusal old new (length surface) scratch) _ _ redraw-passes
+    leaves : redrawSurface old new m surface scratch ≡ overlay (widthOf new) (heightOf new) (damage old new) (pixelAt new there) surface
+    leaves = chosen (redrawRefusal old new m (length surface) scratch) _ _ redraw-passes
 
     -- the surface keeps its length; inside the area every pixel is the second scene's full drawing, outside it every pixel is as before
-    pub redraw-keeps-length : length (redrawSurface old new surface scratch) ≡ length surface
+    pub redraw-keeps-length : length (redrawSurface old new m surface scratch) ≡ length surface
     redraw-keeps-length =
-        ap length leaves ∙ overlay-length (widthOf new) (heightOf new) (damage old new) (pixelAt new) surface ∙ rw (lent .size) (omega arith)
+        ap length leaves ∙ overlay-length (widthOf new) (heightOf new) (damage old new) (pixelAt new there) surface ∙ rw (lent .size) (omega arith)
 
     pub inside-is-new : (x y : ℕ) → x < widthOf new → y < heightOf new → Inside (damage old new) x y
-        → pixelOf (widthOf new) (redrawSurface old new surface scratch) x y ≡ pixelOf (widthOf new) (picture new) x y
+        → pixelOf (widthOf new) (redrawSurface old new m surface scratch) x y ≡ pixelOf (widthOf new) (picture new (maskBytes m)) x y
     unfolding picture
     inside-is-new x y k l i =
         ap (λ (s : List ℕ). pixelOf (widthOf new) s x y) leaves
-        ∙ overlay-in (widthOf new) (heightOf new) (damage old new) (pixelAt new) surface x y k l i
-        ∙ sym (raster-at (widthOf new) (heightOf new) (pixelAt new) x y k l)
+        ∙ overlay-in (widthOf new) (heightOf new) (damage old new) (pixelAt new there) surface x y k l i
+        ∙ sym (raster-at (widthOf new) (heightOf new) (pixelAt new there) x y k l)
 
     pub outside-is-kept : (x y : ℕ) → x < widthOf new → y < heightOf new → (Inside (damage old new) x y → ⊥)
-        → pixelOf (widthOf new) (redrawSurface old new surface scratch) x y ≡ pixelOf (widthOf new) surface x y
+        → pixelOf (widthOf new) (redrawSurface old new m surface scratch) x y ≡ pixelOf (widthOf new) surface x y
     outside-is-kept x y k l i =
         ap (λ (s : List ℕ). pixelOf (widthOf new) s x y) leaves
-        ∙ overlay-out (widthOf new) (heightOf new) (damage old new) (pixelAt new) surface x y k l i
+        ∙ overlay-out (widthOf new) (heightOf new) (damage old new) (pixelAt new there) surface x y k l i
 
     -- so a surface that held the first scene's full drawing holds the second's in every byte
-    pub redraw-makes-picture : surface ≡ picture old → redrawSurface old new surface scratch ≡ picture new
+    pub redraw-makes-picture : surface ≡ picture old (maskBytes m) → redrawSurface old new m surface scratch ≡ picture new (maskBytes m)
     unfolding picture
     redraw-makes-picture e =
         leaves
-        ∙ ap (overlay (widthOf new) (heightOf new) (damage old new) (pixelAt new))
-        (e ∙ ap₂ (λ (w h : ℕ). raster w h (pixelAt old)) (size .width) (size .height))
-        ∙ redraw-right old new (widthOf new) (heightOf new) (accepted-length old o) (accepted-length new n)
+        ∙ ap (overlay (widthOf new) (heightOf new) (damage old new) (pixelAt new there))
+        (e ∙ ap₂ (λ (w h : ℕ). raster w h (pixelAt old (maskAt w (maskBytes m)))) (size .width) (size .height))
+        ∙ redraw-right there old new (widthOf new) (heightOf new) (accepted-length m old o) (accepted-length m new n)
 
--- the same of the calls: redrawing after a full drawing of the old scene leaves what a full drawing of the new one leaves, on whatever surfaces
-pub quick-is-full : (old new first second : List ℕ) (scratch1 scratch2 scratch3 : ℕ) → Accepted old → Accepted new → OneSize old new
-    → Lent old first scratch1 → scratchNumbers ≤ scratch2 → Lent new second scratch3
-    → redrawSurface old new (drawSurface old first scratch1) scratch2 ≡ drawSurface new second scratch3
+-- the same of the calls: redrawing after a full drawing of the old scene leaves what a full drawing of the new one leaves, on whatever surfaces, with
+-- one mask for the three or none
+pub quick-is-full : (old new : List ℕ) (m : Mask) (first second : List ℕ) (scratch1 scratch2 scratch3 : ℕ) → Accepted m old → Accepted m new → OneSize old new
+    → Lent old m first scratch1 → scratchNumbers ≤ scratch2 → Lent new m second scratch3
+    → redrawSurface old new m (drawSurface old m first scratch1) scratch2 ≡ drawSurface new m second scratch3
 unfolding picture
-quick-is-full old new first second scratch1 scratch2 scratch3 o n size lent space full =
-    let drawn : drawSurface old first scratch1 ≡ picture old = full-drawing-leaves-picture old first scratch1 o lent in
-    let fits : length (drawSurface old first scratch1) ≡ 4 * (widthOf new * heightOf new) =
-    ap length drawn ∙ raster-length (widthOf old) (heightOf old) (pixelAt old) ∙ rw (size .width, size .height) (omega arith) in
-    redraw-makes-picture old new (drawSurface old first scratch1) scratch2 o n size (record { size = fits; space = space }) drawn
-    ∙ sym (full-drawing-leaves-picture new second scratch3 n full)
+quick-is-full old new m first second scratch1 scratch2 scratch3 o n size lent space full =
+    let drawn : drawSurface old m first scratch1 ≡ picture old (maskBytes m) = full-drawing-leaves-picture old m first scratch1 o lent in
+    let fits : length (drawSurface old m first scratch1) ≡ 4 * (widthOf new * heightOf new) =
+    ap length drawn ∙ raster-length (widthOf old) (heightOf old) (pixelAt old (maskAt (widthOf old) (maskBytes m)))
+    ∙ rw (size .width, size .height) (omega arith) in
+    redraw-makes-picture old new m (drawSurface old m first scratch1) scratch2 o n size (record { size = fits; mask = full .mask; space = space }) drawn
+    ∙ sym (full-drawing-leaves-picture new m second scratch3 n full)

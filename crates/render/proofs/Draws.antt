@@ -47,18 +47,18 @@ in-header f = either (eqb (f .code) 0) (λ e. rw e (omega arith)) (λ e. rw e (o
 header-fine : (f : FieldFault) → inHeader f .code ≡ 0 → f .code ≡ 0
 header-fine f h = either (eqb (f .code) 0) (λ e. eqb-true _ _ e) (λ e. rw e at h)
 
-draw-number : (s : List ℕ) (i : ℕ) → i ≤ 64 → drawFault s i .draw ≤ 64
+draw-number : (masked : Bool) (s : List ℕ) (i : ℕ) → i ≤ 64 → drawFault masked s i .draw ≤ 64
 unfolding drawFaultFrom checkFaultsFrom
-draw-number s i a =
-    sooner-draw (checkFaults s i) (inDraw i (drawRules (drawOf s i)))
+draw-number masked s i a =
+    sooner-draw (checkFaults s i) (inDraw i (drawRules masked (drawOf s i)))
     (first-draw 4 (λ j. demand (blockRight s (blockOf i + j)) (fault badChecksum i (blockBytes * (blockOf i + j) + payloadBytes)))
     (λ j l. demanded-draw (blockRight s (blockOf i + j)) _ a))
-    (λ e. in-draw i (drawRules (drawOf s i)) a)
+    (λ e. in-draw i (drawRules masked (drawOf s i)) a)
 
-pub fault-draw : (s : List ℕ) → sceneFault s .draw ≤ 64
+pub fault-draw : (masked : Bool) (s : List ℕ) → sceneFault masked s .draw ≤ 64
 unfolding sceneFaultFrom
-fault-draw s =
-    let draws : Fault = firstFault (countOf s) (drawFault s) in
+fault-draw masked s =
+    let draws : Fault = firstFault (countOf s) (drawFault masked s) in
     let whole : Bool = eqb (length s) (blockBytes * blockOf (countOf s)) in
     let full : Fault = demand whole (fault badLength noDraw 0) in
     let fields : Fault = inHeader (headerRules s) in
@@ -69,4 +69,4 @@ fault-draw s =
     (λ _. sooner-draw check (orFault fields (orFault full draws)) (demanded-draw (blockRight s 0) (fault badChecksum noDraw payloadBytes) (omega arith))
     (λ _. sooner-draw fields (orFault full draws) (in-header (headerRules s))
     (λ g. sooner-draw full draws (demanded-draw whole (fault badLength noDraw 0) (omega arith))
-    (λ _. first-draw (countOf s) (drawFault s) (λ i l. draw-number s i (omega (arith, header-count s (header-fine (headerRules s) g))))))))
+    (λ _. first-draw (countOf s) (drawFault masked s) (λ i l. draw-number masked s i (omega (arith, header-count s (header-fine (headerRules s) g))))))))

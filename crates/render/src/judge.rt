@@ -9,36 +9,45 @@ ghost use mathlib.Core.Path.{_≡_};
 ghost use Prim.Native.Nat.{_≤_, _<_};
 ghost use lib.ListN.{length};
 ghost use Rattle.scene.specs.Layout.{blockBytes, noDraw};
-ghost use Rattle.render.specs.Answers.{refuse, sceneRefusal, lentRefusal, sizeRefusal, drawRefusal, redrawRefusal};
+ghost use Rattle.render.specs.Answers.{maskOf, maskWrong, refuse, sceneRefusal, lentRefusal, sizeRefusal, drawRefusal, redrawRefusal};
 
 // Enough scratch.
 pub const SCRATCH_NUMBERS: usize = 12300;
 
-// A full drawing, on a surface of that many bytes with a scratch of that many numbers.
-pub fn judge_draw(s: &[u8], surface: usize, scratch: usize) -> Refusal
-    ensures { λ r. ⌜ r ≡ drawRefusal (now (s .entry)) surface scratch ⌝ }
+// A full drawing, with a mask or none, on a surface of that many bytes with a scratch of that many numbers.
+pub fn judge_draw(s: &[u8], masked: bool, mask: &[u8], surface: usize, scratch: usize) -> Refusal
+    ensures { λ r. ⌜ r ≡ drawRefusal (now (s .entry)) (maskOf masked (now (mask .entry))) surface scratch ⌝ }
 {
-    let broken = judge_scene(s, 0);
+    let broken = judge_scene(masked, s, 0);
     if broken.code != ACCEPTED {
         return broken;
     }
     judge_lent(
         scene::header::width(s),
         scene::header::height(s),
+        masked,
+        mask,
         surface,
         scratch,
     )
 }
 
 // A redraw.
-pub fn judge_redraw(old: &[u8], new: &[u8], surface: usize, scratch: usize) -> Refusal
-    ensures { λ r. ⌜ r ≡ redrawRefusal (now (old .entry)) (now (new .entry)) surface scratch ⌝ }
+pub fn judge_redraw(
+    old: &[u8],
+    new: &[u8],
+    masked: bool,
+    mask: &[u8],
+    surface: usize,
+    scratch: usize,
+) -> Refusal
+    ensures { λ r. ⌜ r ≡ redrawRefusal (now (old .entry)) (now (new .entry)) (maskOf masked (now (mask .entry))) surface scratch ⌝ }
 {
-    let old_broken = judge_scene(old, 0);
+    let old_broken = judge_scene(masked, old, 0);
     if old_broken.code != ACCEPTED {
         return old_broken;
     }
-    let new_broken = judge_scene(new, 1);
+    let new_broken = judge_scene(masked, new, 1);
     if new_broken.code != ACCEPTED {
         return new_broken;
     }
@@ -49,16 +58,18 @@ pub fn judge_redraw(old: &[u8], new: &[u8], surface: usize, scratch: usize) -> R
     judge_lent(
         scene::header::width(new),
         scene::header::height(new),
+        masked,
+        mask,
         surface,
         scratch,
     )
 }
 
 // The scene with that number in the call.
-fn judge_scene(s: &[u8], number: u32) -> Refusal
-    ensures { λ r. ⌜ r ≡ sceneRefusal (now (s .entry)) number ⌝ }
+fn judge_scene(masked: bool, s: &[u8], number: u32) -> Refusal
+    ensures { λ r. ⌜ r ≡ sceneRefusal masked (now (s .entry)) number ⌝ }
 {
-    let f = scene::verdict::verdict(s);
+    let f = scene::verdict::verdict(s, masked);
     if f.code == ACCEPTED {
         return refusal(ACCEPTED, 0);
     }
@@ -69,18 +80,36 @@ fn judge_scene(s: &[u8], number: u32) -> Refusal
     }
 }
 
-// Surface and scratch, for a picture of that size.
-fn judge_lent(width: usize, height: usize, surface: usize, scratch: usize) -> Refusal
+// Surface, mask and scratch, for a picture of that size.
+fn judge_lent(
+    width: usize,
+    height: usize,
+    masked: bool,
+    mask: &[u8],
+    surface: usize,
+    scratch: usize,
+) -> Refusal
     requires { ⌜ (width < 65536) × (height < 65536) ⌝ }
-    ensures { λ r. ⌜ r ≡ lentRefusal width height surface scratch ⌝ }
+    ensures { λ r. ⌜ r ≡ lentRefusal width height (maskOf masked (now (mask .entry))) surface scratch ⌝ }
 {
-    if surface != 4 * (width * height) {
+    let pixels = width * height;
+    if surface != 4 * pixels {
+        return refusal(UNSUPPORTED_IMAGE_FORMAT, 0);
+    }
+    if mask_wrong(masked, mask, pixels) {
         return refusal(UNSUPPORTED_IMAGE_FORMAT, 0);
     }
     if scratch < SCRATCH_NUMBERS {
         return refusal(OUT_OF_MEMORY, 0);
     }
     refusal(ACCEPTED, 0)
+}
+
+// Whether a mask is lent that has not a byte for each pixel.
+fn mask_wrong(masked: bool, mask: &[u8], pixels: usize) -> bool
+    ensures { λ r. ⌜ r ≡ maskWrong (maskOf masked (now (mask .entry))) pixels ⌝ }
+{
+    masked && mask.len() != pixels
 }
 
 // Two scenes of one size.

@@ -7,9 +7,10 @@ use codes::ACCEPTED;
 use rect::Rect;
 use scene::layout::NO_DRAW;
 ghost use mathlib.Core.Path.{_≡_};
+ghost use mathlib.Core.Bool.{cond};
 ghost use lib.ListN.{length};
 ghost use Rattle.rect.specs.Rects.{On};
-ghost use Rattle.render.specs.Answers.{refusedAnswer, acceptedAnswer, drawAnswer, drawSurface, drawScratch};
+ghost use Rattle.render.specs.Answers.{maskOf, noMask, refusedAnswer, acceptedAnswer, drawAnswer, drawSurface, drawScratch};
 ghost use Rattle.render.specs.Answers.{redrawAnswer, redrawSurface, redrawScratch};
 
 // Why a call is refused: its code, 0 for none, the draw number and the scene number.
@@ -31,13 +32,28 @@ pub struct Answer {
     pub height: u32,
 }
 
-// Draws a scene in full. The scratch may hold anything before; afterwards it is zero, unless the call is refused.
-pub fn draw(scene: &[u8], surface: &mut [u8], scratch: &mut [i32]) -> Answer
-    ensures { λ r. ⌜ r ≡ drawAnswer (now (scene .entry)) (length (now (surface .entry))) (length (now (scratch .entry))) ⌝ }
-    ensures { λ _. ⌜ now (surface .exit) ≡ drawSurface (now (scene .entry)) (now (surface .entry)) (length (now (scratch .entry))) ⌝ }
-    ensures { λ _. ⌜ now (scratch .exit) ≡ drawScratch (now (scene .entry)) (length (now (surface .entry))) (now (scratch .entry)) ⌝ }
+// Draws a scene in full, under the mask where one is lent. The scratch may hold anything before; afterwards it is zero, unless the call is refused.
+pub fn draw(
+    scene: &[u8],
+    masked: bool,
+    mask: &[u8],
+    surface: &mut [u8],
+    scratch: &mut [i32],
+) -> Answer
+    ensures { λ r. ⌜
+        r
+        ≡ drawAnswer (now (scene .entry)) (maskOf masked (now (mask .entry))) (length (now (surface .entry))) (length (now (scratch .entry)))
+        ⌝ }
+    ensures { λ _. ⌜
+        now (surface .exit)
+        ≡ drawSurface (now (scene .entry)) (maskOf masked (now (mask .entry))) (now (surface .entry)) (length (now (scratch .entry)))
+        ⌝ }
+    ensures { λ _. ⌜
+        now (scratch .exit)
+        ≡ drawScratch (now (scene .entry)) (maskOf masked (now (mask .entry))) (length (now (surface .entry))) (now (scratch .entry))
+        ⌝ }
 {
-    let f = judge_draw(scene, surface.len(), scratch.len());
+    let f = judge_draw(scene, masked, mask, surface.len(), scratch.len());
     if f.code != ACCEPTED {
         return refused(f);
     }
@@ -50,28 +66,79 @@ pub fn draw(scene: &[u8], surface: &mut [u8], scratch: &mut [i32]) -> Answer
         x1: width,
         y1: height,
     };
+    let m = taken(masked, mask.len());
     engine::edges::clear(scratch);
-    engine::draws::paint_area(surface, scratch, scene, width, height, n, a);
+    engine::draws::paint_area(surface, scratch, scene, &mask[0..m], width, height, n, a);
     accepted(a)
 }
 
-// Redraws what the step from the old scene to the new one changes. A surface that held the old picture then holds the new one.
-pub fn redraw(old: &[u8], new: &[u8], surface: &mut [u8], scratch: &mut [i32]) -> Answer
-    ensures { λ r. ⌜ r ≡ redrawAnswer (now (old .entry)) (now (new .entry)) (length (now (surface .entry))) (length (now (scratch .entry))) ⌝ }
-    ensures { λ _. ⌜ now (surface .exit) ≡ redrawSurface (now (old .entry)) (now (new .entry)) (now (surface .entry)) (length (now (scratch .entry))) ⌝ }
-    ensures { λ _. ⌜ now (scratch .exit) ≡ redrawScratch (now (old .entry)) (now (new .entry)) (length (now (surface .entry))) (now (scratch .entry)) ⌝ }
+// The same without a mask.
+pub fn draw_unmasked(scene: &[u8], surface: &mut [u8], scratch: &mut [i32]) -> Answer
+    ensures { λ r. ⌜ r ≡ drawAnswer (now (scene .entry)) noMask (length (now (surface .entry))) (length (now (scratch .entry))) ⌝ }
+    ensures { λ _. ⌜ now (surface .exit) ≡ drawSurface (now (scene .entry)) noMask (now (surface .entry)) (length (now (scratch .entry))) ⌝ }
+    ensures { λ _. ⌜ now (scratch .exit) ≡ drawScratch (now (scene .entry)) noMask (length (now (surface .entry))) (now (scratch .entry)) ⌝ }
 {
-    let f = judge_redraw(old, new, surface.len(), scratch.len());
+    draw(scene, false, &scene[0..0], surface, scratch)
+}
+
+// Redraws what the step from the old scene to the new one changes, with one mask for both or none. A surface that held the old picture then holds
+// the new one.
+pub fn redraw(
+    old: &[u8],
+    new: &[u8],
+    masked: bool,
+    mask: &[u8],
+    surface: &mut [u8],
+    scratch: &mut [i32],
+) -> Answer
+    ensures { λ r. ⌜
+        r
+        ≡ redrawAnswer (now (old .entry)) (now (new .entry)) (maskOf masked (now (mask .entry)))
+        (length (now (surface .entry))) (length (now (scratch .entry)))
+        ⌝ }
+    ensures { λ _. ⌜
+        now (surface .exit)
+        ≡ redrawSurface (now (old .entry)) (now (new .entry)) (maskOf masked (now (mask .entry))) (now (surface .entry)) (length (now (scratch .entry)))
+        ⌝ }
+    ensures { λ _. ⌜
+        now (scratch .exit)
+        ≡ redrawScratch (now (old .entry)) (now (new .entry)) (maskOf masked (now (mask .entry))) (length (now (surface .entry))) (now (scratch .entry))
+        ⌝ }
+{
+    let f = judge_redraw(old, new, masked, mask, surface.len(), scratch.len());
     if f.code != ACCEPTED {
         return refused(f);
     }
     let width = scene::header::width(new);
     let height = scene::header::height(new);
     let n = scene::header::count(new);
+    let m = taken(masked, mask.len());
     engine::edges::clear(scratch);
     let a = damage::damage(old, new, scratch, width, height);
-    engine::draws::paint_area(surface, scratch, new, width, height, n, a);
+    engine::draws::paint_area(surface, scratch, new, &mask[0..m], width, height, n, a);
     accepted(a)
+}
+
+// The same without a mask.
+pub fn redraw_unmasked(old: &[u8], new: &[u8], surface: &mut [u8], scratch: &mut [i32]) -> Answer
+    ensures { λ r. ⌜ r ≡ redrawAnswer (now (old .entry)) (now (new .entry)) noMask (length (now (surface .entry))) (length (now (scratch .entry))) ⌝ }
+    ensures { λ _. ⌜
+        now (surface .exit)
+        ≡ redrawSurface (now (old .entry)) (now (new .entry)) noMask (now (surface .entry)) (length (now (scratch .entry)))
+        ⌝ }
+    ensures { λ _. ⌜
+        now (scratch .exit)
+        ≡ redrawScratch (now (old .entry)) (now (new .entry)) noMask (length (now (surface .entry))) (now (scratch .entry))
+        ⌝ }
+{
+    redraw(old, new, false, &new[0..0], surface, scratch)
+}
+
+// How many bytes of a mask's run are looked at: none where it is not lent.
+fn taken(masked: bool, n: usize) -> usize
+    ensures { λ r. ⌜ r ≡ cond masked n 0 ⌝ }
+{
+    if masked { n } else { 0 }
 }
 
 fn refused(f: Refusal) -> Answer

@@ -1,5 +1,5 @@
 -- What follows from code 0: no rule was broken.
-use mathlib.Core.Path.{_≡_, refl}
+use mathlib.Core.Path.{_≡_, refl, sym, _∙_}
 use mathlib.Core.List.{List}
 use mathlib.Core.Bool.{Bool, true, false, cond, not, _&&_}
 use Prim.Native.Nat.{ℕ, _+_, _*_, _%_, _≤_, _<_}
@@ -22,10 +22,11 @@ use Rattle.scene.specs.Layout.{matrixAt, translationAt, colorAt, linearP
 use Rattle.scene.specs.Layout.{radialAt, radialFloats}
 use Rattle.scene.specs.Blocks.{blockNumber, blockRightFrom, blockOf, drawOf, fileOffset}
 use Rattle.scene.specs.Header.{widthOf, heightOf, countOf}
-use Rattle.scene.specs.Fields.{flagsOf, blendOf, paintTypeOf, spreadOf, segmentCount, scissorCount, stopCount, matrixOf, segmentsOf, coordinatesOf}
-use Rattle.scene.specs.Fields.{isRadial, radialOf, firstStopAt}
+use Rattle.scene.specs.Fields.{blendOf, paintTypeOf, spreadOf, segmentCount, scissorCount, stopCount, matrixOf, segmentsOf, coordinatesOf}
+use Rattle.scene.specs.Fields.{flagsOf, usesMask, isRadial, radialOf, firstStopAt}
 use Rattle.scene.specs.Faults.{fine, must, orElse, firstOf, unused, limited, numbers, accepted, fault, demand, orFault, firstFault}
-use Rattle.scene.specs.Rules.{linearPointLimit, isPaint, isSpread, headRules, stopLimitOf, countRules, floatRules, flatRule, pathRules, restRules}
+use Rattle.scene.specs.Rules.{linearPointLimit, isPaint, isSpread, flagsAllowed, headRules, stopLimitOf, countRules}
+use Rattle.scene.specs.Rules.{floatRules, flatRule, pathRules, restRules}
 use Rattle.scene.specs.Rules.{radialLimit, focalRule, circleRules, stopRules, listRules}
 use Rattle.scene.specs.Rules.{drawRules, isSide, headerRules, located, inHeader, inDraw}
 use Rattle.scene.specs.Rules.{checkFaults, drawFaultFrom, drawFault, sceneFaultFrom, sceneFault}
@@ -85,23 +86,24 @@ module _ (d : List ℕ) where
       let c = obeyed _ _ _ (b .1) in
       record { segments = leb-true _ _ (a .0); scissors = leb-true _ _ (b .0); stops = leb-true _ _ (c .0) }
 
-  record Headed : Type 0 where
+  record Headed (lent : Bool) : Type 0 where
+    pub flags : flagsAllowed lent d ≡ true
     pub mode : isMode (blendOf d) ≡ true
     pub paintType : isPaint (paintTypeOf d) ≡ true
     pub spread : isSpread (spreadOf d) ≡ true
     pub counts : Counted d
 
-  headed : headRules d .code ≡ 0 → Headed
+  headed : (lent : Bool) → headRules lent d .code ≡ 0 → Headed lent
   unfolding headRules
-  headed h =
-      let a = obeyed (ltb (flagsOf d) flagsLimit) flagsAt _ h in
+  headed lent h =
+      let a = obeyed (flagsAllowed lent d) flagsAt _ h in
       let b = obeyed _ _ _ (a .1) in
       let c = obeyed _ _ _ (b .1) in
       let e = obeyed _ _ (countRules d) (c .1) in
-      record { mode = b .0; paintType = c .0; spread = e .0; counts = counted (e .1) }
+      record { flags = a .0; mode = b .0; paintType = c .0; spread = e .0; counts = counted (e .1) }
 
-  pub head-counted : headRules d .code ≡ 0 → Counted d
-  head-counted h = headed h .counts
+  pub head-counted : (lent : Bool) → headRules lent d .code ≡ 0 → Counted d
+  head-counted lent h = headed lent h .counts
 
   record Measured : Type 0 where
     pub matrix : matrixInLimits (matrixOf d) ≡ true
@@ -161,18 +163,28 @@ module _ (d : List ℕ) where
   unfolding pathRules
   path-code h = h
 
-  pub accepted-draw : drawRules d .code ≡ 0 → AcceptedDraw d
+  -- a draw that asks for the mask is accepted only where one is lent
+  mask-lent : (lent : Bool) → flagsAllowed lent d ≡ true → usesMask d ≡ true → lent ≡ true
+  unfolding flagsAllowed
+  mask-lent true h e = refl
+  mask-lent false h e = sym (not-true _ (both (ltb (flagsOf d) flagsLimit) (not (usesMask d)) h .1)) ∙ e
+
+  pub asks-lent : (lent : Bool) → drawRules lent d .code ≡ 0 → usesMask d ≡ true → lent ≡ true
   unfolding drawRules
-  accepted-draw h =
+  asks-lent lent h = mask-lent lent (headed lent (two (headRules lent d) _ h .0) .flags)
+
+  pub accepted-draw : (lent : Bool) → drawRules lent d .code ≡ 0 → AcceptedDraw d
+  unfolding drawRules
+  accepted-draw lent h =
       let from-path : FieldFault = orElse (pathRules d) (restRules d) in
       let from-flat : FieldFault = orElse (flatRule d) from-path in
       let from-lists : FieldFault = orElse (listRules d) from-flat in
-      let p = two (headRules d) (orElse (floatRules d) from-lists) h in
+      let p = two (headRules lent d) (orElse (floatRules d) from-lists) h in
       let q = two (floatRules d) from-lists (p .1) in
       let r = two (listRules d) from-flat (q .1) in
       let t = two (flatRule d) from-path (r .1) in
       let s = two (pathRules d) (restRules d) (t .1) in
-      let head = headed (p .0) in
+      let head = headed lent (p .0) in
       let floats = measured (q .0) in
       let lists = listed (r .0) in
       record {
@@ -208,18 +220,18 @@ located-none draw offset f h = by (eqb (f .code) 0) refl
     by false e = absurd (eqb-false (f .code) 0 e (rw e at h))
 
 -- wherever the sums of the checks begin
-module _ (start : ℕ → ℕ) (s : List ℕ) where
+module _ (start : ℕ → ℕ) (lent : Bool) (s : List ℕ) where
   pub record Passed : Type 0 where
     pub whole : (eqb (length s % blockBytes) 0 && leb blockBytes (length s)) ≡ true
     pub first : blockRightFrom start s 0 ≡ true
     pub header : headerRules s .code ≡ 0
     pub bytes : length s ≡ blockBytes * blockOf (countOf s)
-    pub draws : (i : ℕ) → i < countOf s → drawFaultFrom start s i .code ≡ 0
+    pub draws : (i : ℕ) → i < countOf s → drawFaultFrom start lent s i .code ≡ 0
 
-  pub passed : sceneFaultFrom start s .code ≡ 0 → Passed
+  pub passed : sceneFaultFrom start lent s .code ≡ 0 → Passed
   unfolding sceneFaultFrom
   passed h =
-      let draws : Fault = firstFault (countOf s) (drawFaultFrom start s) in
+      let draws : Fault = firstFault (countOf s) (drawFaultFrom start lent s) in
       let full : Fault = demand (eqb (length s) (blockBytes * blockOf (countOf s))) (fault badLength noDraw 0) in
       let header : Fault = inHeader (headerRules s) in
       let check : Fault = demand (blockRightFrom start s 0) (fault badChecksum noDraw payloadBytes) in
@@ -233,15 +245,15 @@ module _ (start : ℕ → ℕ) (s : List ℕ) where
         first = met _ (fault badChecksum noDraw payloadBytes) (refuses badChecksum refl) (q .0);
         header = located-none noDraw (headerRules s .place) (headerRules s) (r .0) .0;
         bytes = eqb-true _ _ (met _ (fault badLength noDraw 0) (refuses badLength refl) (t .0));
-        draws = soonest-none (λ f. f .code) accepted (drawFaultFrom start s) (countOf s) (t .1);
+        draws = soonest-none (λ f. f .code) accepted (drawFaultFrom start lent s) (countOf s) (t .1);
       }
 
 module _ (s : List ℕ) where
-  pub draw-none : (i : ℕ) → drawFault s i .code ≡ 0 → (drawRules (drawOf s i) .code ≡ 0) × (drawFault s i ≡ accepted)
+  pub draw-none : (lent : Bool) (i : ℕ) → drawFault lent s i .code ≡ 0 → (drawRules lent (drawOf s i) .code ≡ 0) × (drawFault lent s i ≡ accepted)
   unfolding drawFaultFrom
-  draw-none i h =
-      let p = both-none (checkFaults s i) (inDraw i (drawRules (drawOf s i))) h in
-      let f = drawRules (drawOf s i) in
+  draw-none lent i h =
+      let p = both-none (checkFaults s i) (inDraw i (drawRules lent (drawOf s i))) h in
+      let f = drawRules lent (drawOf s i) in
       let q = located-none i (fileOffset i (f .place)) f (p .1) in
       (q .0, rw (eq-eqb (checkFaults s i .code) 0 (p .0)) (q .1))
 
@@ -261,9 +273,13 @@ module _ (s : List ℕ) where
   pub header-count : headerRules s .code ≡ 0 → countOf s ≤ drawLimit
   header-count h = bordered h .count
 
-  pub accepted-scene : sceneFault s .code ≡ 0 → AcceptedScene s
-  accepted-scene h =
-      let p = passed blockNumber s h in
+  -- the rules of each draw are kept
+  pub draws-passed : (lent : Bool) → sceneFault lent s .code ≡ 0 → (i : ℕ) → i < countOf s → drawRules lent (drawOf s i) .code ≡ 0
+  draws-passed lent h i l = draw-none lent i (passed blockNumber lent s h .draws i l) .0
+
+  pub accepted-scene : (lent : Bool) → sceneFault lent s .code ≡ 0 → AcceptedScene s
+  accepted-scene lent h =
+      let p = passed blockNumber lent s h in
       let b = bordered (p .header) in
       let width = both _ _ (b .width) in
       let height = both _ _ (b .height) in
@@ -274,5 +290,5 @@ module _ (s : List ℕ) where
         heightMost = leb-true _ _ (height .1);
         count = b .count;
         bytes = p .bytes;
-        draws = λ i l. draw-none i (p .draws i l) .0;
+        draws = λ i l. accepted-draw (drawOf s i) lent (draws-passed lent h i l);
       }

@@ -88,8 +88,8 @@ module _ (k : List ℕ) (a b : ℕ) where
       begun t = omega arith
 
 -- ---- every block of an accepted file is right
-module _ (start : ℕ → ℕ) (s : List ℕ) where
-  draw-block : (i j : ℕ) → j < drawBlocks → drawFaultFrom start s i .code ≡ 0 → blockRightFrom start s (blockOf i + j) ≡ true
+module _ (start : ℕ → ℕ) (lent : Bool) (s : List ℕ) where
+  draw-block : (i j : ℕ) → j < drawBlocks → drawFaultFrom start lent s i .code ≡ 0 → blockRightFrom start s (blockOf i + j) ≡ true
   unfolding drawFaultFrom checkFaultsFrom
   draw-block i j l h =
       let right : ℕ → Bool = λ k. blockRightFrom start s (blockOf i + k) in
@@ -97,16 +97,16 @@ module _ (start : ℕ → ℕ) (s : List ℕ) where
       let checks : Fault = firstFault drawBlocks (λ k. demand (right k) (wrong k)) in
       met (right j) (wrong j) (refuses badChecksum refl)
       (soonest-none (λ f. f .code) accepted (λ k. demand (right k) (wrong k)) drawBlocks
-      (sooner-none (λ f. f .code) checks (inDraw i (drawRules (drawOf s i))) h .0) j l)
+      (sooner-none (λ f. f .code) checks (inDraw i (drawRules lent (drawOf s i))) h .0) j l)
 
-  pub accepted-blocks : sceneFaultFrom start s .code ≡ 0 → (b : ℕ) → b < blockOf (countOf s) → blockRightFrom start s b ≡ true
+  pub accepted-blocks : sceneFaultFrom start lent s .code ≡ 0 → (b : ℕ) → b < blockOf (countOf s) → blockRightFrom start s b ≡ true
   accepted-blocks h b l =
       either (eqb b 0)
-      (λ z. rw (eqb-true b 0 z) (passed start s h .first))
+      (λ z. rw (eqb-true b 0 z) (passed start lent s h .first))
       (λ z.
       let n : b ≡ 0 → ⊥ = eqb-false b 0 z in
       let e : blockOf ((b - 1) / 4) + (b - 1) % 4 ≡ b = omega arith in
-      rw (← e) (draw-block ((b - 1) / 4) ((b - 1) % 4) (omega arith) (passed start s h .draws ((b - 1) / 4) (omega arith))))
+      rw (← e) (draw-block ((b - 1) / 4) ((b - 1) % 4) (omega arith) (passed start lent s h .draws ((b - 1) / 4) (omega arith))))
 
 -- ---- the same 512 bytes in two files, or twice in one, at the numbers a and b
 module _ (s t : List ℕ) (a b : ℕ) (same : blockAt s a ≡ blockAt t b) where
@@ -116,12 +116,13 @@ module _ (s t : List ℕ) (a b : ℕ) (same : blockAt s a ≡ blockAt t b) where
       (ap (passesAt a) (sym same) ∙ sym (block-alone blockNumber s a) ∙ p)
       (sym (block-alone blockNumber t b) ∙ q)
 
-  -- in accepted scenes they stand in the same place: no file with a block of an accepted one at another number is accepted
-  pub accepted-in-place : sceneFault s .code ≡ 0 → sceneFault t .code ≡ 0 → a < blockOf (countOf s) → b < blockOf (countOf t) → a ≡ b
-  accepted-in-place g h l m =
-      let x = header-count s (passed blockNumber s g .header) in
-      let y = header-count t (passed blockNumber t h .header) in
-      block-in-one-place (omega arith) (omega arith) (accepted-blocks blockNumber s g a l) (accepted-blocks blockNumber t h b m)
+  -- in accepted scenes, with or without a mask, they stand in the same place: no file with a block of an accepted one at another number is accepted
+  pub accepted-in-place : (masked masked' : Bool) → sceneFault masked s .code ≡ 0 → sceneFault masked' t .code ≡ 0
+      → a < blockOf (countOf s) → b < blockOf (countOf t) → a ≡ b
+  accepted-in-place masked masked' g h l m =
+      let x = header-count s (passed blockNumber masked s g .header) in
+      let y = header-count t (passed blockNumber masked' t h .header) in
+      block-in-one-place (omega arith) (omega arith) (accepted-blocks blockNumber masked s g a l) (accepted-blocks blockNumber masked' t h b m)
 
 -- ---- files from before, when all sums began at 0
 
@@ -131,24 +132,24 @@ unfolding blockRightFrom
 first-block-as-before s = refl
 
 -- a scene that was accepted then and that has draws is refused at the check of block 1
-module _ (s : List ℕ) (old : sceneFaultFrom (λ _. 0) s .code ≡ 0) (drawn : 1 ≤ countOf s) where
+module _ (lent : Bool) (s : List ℕ) (old : sceneFaultFrom (λ _. 0) lent s .code ≡ 0) (drawn : 1 ≤ countOf s) where
   block-1-wrong : blockRight s 1 ≡ false
   block-1-wrong =
       either (blockRight s 1)
       (λ r.
-      let from-0 = sym (block-alone (λ _. 0) s 1) ∙ accepted-blocks (λ _. 0) s old 1 (omega arith) in
+      let from-0 = sym (block-alone (λ _. 0) s 1) ∙ accepted-blocks (λ _. 0) lent s old 1 (omega arith) in
       let from-1 = sym (block-alone blockNumber s 1) ∙ r in
       let e : 0 ≡ 1 = one-number (blockAt s 1) 0 1 (omega arith) (omega arith) from-0 from-1 in
       absurd (omega arith))
       (λ r. r)
 
-  draw-0-refused : drawFault s 0 ≡ fault badChecksum 0 (blockBytes + payloadBytes)
+  draw-0-refused : drawFault lent s 0 ≡ fault badChecksum 0 (blockBytes + payloadBytes)
   unfolding drawFaultFrom checkFaultsFrom
   draw-0-refused = rw block-1-wrong
 
-  pub old-scene-refused : sceneFault s ≡ fault badChecksum 0 (blockBytes + payloadBytes)
+  pub old-scene-refused : sceneFault lent s ≡ fault badChecksum 0 (blockBytes + payloadBytes)
   old-scene-refused =
-      let p = passed (λ _. 0) s old in
-      by-draws s (p .whole) (first-block-as-before s ∙ p .first) (p .header) (p .bytes)
-      ∙ first-hit (λ f. f .code) accepted (drawFault s) 0 (countOf s) drawn refl (rw draw-0-refused (refuses badChecksum refl))
+      let p = passed (λ _. 0) lent s old in
+      by-draws lent s (p .whole) (first-block-as-before s ∙ p .first) (p .header) (p .bytes)
+      ∙ first-hit (λ f. f .code) accepted (drawFault lent s) 0 (countOf s) drawn refl (rw draw-0-refused (refuses badChecksum refl))
       ∙ draw-0-refused

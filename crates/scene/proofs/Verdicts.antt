@@ -21,25 +21,26 @@ module _ (s : List ℕ) where
   pub whole-length : whole ≡ true → blockBytes ≤ length s
   whole-length w = leb-true blockBytes (length s) (both (eqb (length s % blockBytes) 0) (leb blockBytes (length s)) w .1)
 
-  pub bad-length : whole ≡ false → sceneFault s ≡ fault badLength noDraw 0
+module _ (lent : Bool) (s : List ℕ) where
+  pub bad-length : whole s ≡ false → sceneFault lent s ≡ fault badLength noDraw 0
   unfolding sceneFaultFrom
   bad-length w = rw w
 
-  module _ (w : whole ≡ true) where
-    pub bad-check : blockRight s 0 ≡ false → sceneFault s ≡ fault badChecksum noDraw payloadBytes
+  module _ (w : whole s ≡ true) where
+    pub bad-check : blockRight s 0 ≡ false → sceneFault lent s ≡ fault badChecksum noDraw payloadBytes
     unfolding sceneFaultFrom
     bad-check b = rw (w, b)
 
     module _ (b : blockRight s 0 ≡ true) where
-      pub bad-header : (headerRules s .code ≡ 0 → ⊥) → sceneFault s ≡ inHeader (headerRules s)
+      pub bad-header : (headerRules s .code ≡ 0 → ⊥) → sceneFault lent s ≡ inHeader (headerRules s)
       unfolding sceneFaultFrom
       bad-header h = rw (w, b, ne-eqb (headerRules s .code) 0 h, ne-eqb (headerRules s .code) 0 h)
 
       module _ (h : headerRules s .code ≡ 0) where
-        pub bad-count : (length s ≡ blockBytes * blockOf (countOf s) → ⊥) → sceneFault s ≡ fault badLength noDraw 0
+        pub bad-count : (length s ≡ blockBytes * blockOf (countOf s) → ⊥) → sceneFault lent s ≡ fault badLength noDraw 0
         unfolding sceneFaultFrom
         bad-count l = rw (w, b, eq-eqb (headerRules s .code) 0 h, ne-eqb (length s) (blockBytes * blockOf (countOf s)) l)
 
-        pub by-draws : length s ≡ blockBytes * blockOf (countOf s) → sceneFault s ≡ firstFault (countOf s) (drawFault s)
+        pub by-draws : length s ≡ blockBytes * blockOf (countOf s) → sceneFault lent s ≡ firstFault (countOf s) (drawFault lent s)
         unfolding sceneFaultFrom
         by-draws l = rw (w, b, eq-eqb (headerRules s .code) 0 h, eq-eqb (length s) (blockBytes * blockOf (countOf s)) l)

@@ -16,7 +16,7 @@ use Rattle.scene.specs.Blocks.{blockOf, drawOf}
 use Rattle.scene.specs.Header.{widthOf, heightOf, countOf}
 use Rattle.scene.specs.Fields.{blendOf, paintTypeOf, spreadOf, segmentCount, scissorCount, stopCount, matrixOf, segmentsOf, coordinatesOf}
 use Rattle.scene.specs.Fields.{isRadial, radialOf, firstStopAt}
-use Rattle.scene.specs.Rules.{linearPointLimit, radialLimit, stopLimitOf, isPaint, isSpread, drawRules}
+use Rattle.scene.specs.Rules.{linearPointLimit, radialLimit, stopLimitOf, isPaint, isSpread}
 
 pub record AcceptedDraw (d : List ℕ) : Type 0 where
   pub mode : isMode (blendOf d) ≡ true
@@ -40,4 +40,4 @@ pub record AcceptedScene (s : List ℕ) : Type 0 where
   pub heightMost : heightOf s ≤ sideLimit
   pub count : countOf s ≤ drawLimit
   pub bytes : length s ≡ blockBytes * blockOf (countOf s)
-  pub draws : (i : ℕ) → i < countOf s → drawRules (drawOf s i) .code ≡ 0
+  pub draws : (i : ℕ) → i < countOf s → AcceptedDraw (drawOf s i)

@@ -19,7 +19,7 @@ use Rattle.scene.specs.Layout.{translationAt, colorAt, linearPointsAt, s
 abbrev pub flagsOf : List ℕ → ℕ
 flagsOf d = u16At d flagsAt
 
--- bit 0 fill rule, bit 1 scissoring on, bit 2 ramp premultiplied
+-- bit 0 fill rule, bit 1 scissoring on, bit 2 ramp premultiplied, bit 3 mask
 abbrev pub bit : ℕ → ℕ → Bool
 bit n flags = eqb (flags / 2 ^ n % 2) 1
 
@@ -31,6 +31,9 @@ scissoring d = bit 1 (flagsOf d)
 
 abbrev pub rampPremultiplied : List ℕ → Bool
 rampPremultiplied d = bit 2 (flagsOf d)
+
+abbrev pub usesMask : List ℕ → Bool
+usesMask d = bit 3 (flagsOf d)
 
 abbrev pub blendOf : List ℕ → ℕ
 blendOf d = u16At d blendAt

@@ -103,9 +103,9 @@ segmentsAt = 772
 abbrev pub coordinatesAt : ℕ
 coordinatesAt = 900
 
--- bits 0 to 2; the others are 0
+-- bits 0 to 3; the others are 0
 abbrev pub flagsLimit : ℕ
-flagsLimit = 8
+flagsLimit = 16
 
 abbrev pub segmentLimit : ℕ
 segmentLimit = 128

@@ -21,7 +21,7 @@ use Rattle.scene.specs.Layout.{radialAt, radialFloats}
 use Rattle.scene.specs.Blocks.{blockNumber, blockRightFrom, blockOf, drawOf, fileOffset}
 use Rattle.scene.specs.Header.{widthOf, heightOf, countOf}
 use Rattle.scene.specs.Fields.{flagsOf, blendOf, paintTypeOf, spreadOf, segmentCount, scissorCount, stopCount, matrixOf, segmentsOf, coordinatesOf}
-use Rattle.scene.specs.Fields.{isRadial, radialOf, firstStopAt}
+use Rattle.scene.specs.Fields.{usesMask, isRadial, radialOf, firstStopAt}
 use Rattle.scene.specs.Faults.{fine, orElse, must, unused, limited, numbers, accepted, fault, orFault, firstFault, demand}
 use Rattle.scene.specs.declared.FieldFault.{FieldFault}
 use Rattle.scene.specs.declared.Fault.{Fault}
@@ -53,9 +53,13 @@ isPaint type = eqb type paintColor || isGradient type
 abbrev pub isSpread : ℕ → Bool
 isSpread mode = leb spreadPad mode && leb mode spreadReflect
 
-unfoldable pub headRules : List ℕ → FieldFault
-headRules d =
-    orElse (must (ltb (flagsOf d) flagsLimit) flagsAt)
+-- no other bit is set, and bit 3 only where a mask is lent
+unfoldable pub flagsAllowed : Bool → List ℕ → Bool
+flagsAllowed lent d = ltb (flagsOf d) flagsLimit && (lent || not (usesMask d))
+
+unfoldable pub headRules : Bool → List ℕ → FieldFault
+headRules lent d =
+    orElse (must (flagsAllowed lent d) flagsAt)
     (orElse (must (isMode (blendOf d)) blendAt)
     (orElse (must (isPaint (paintTypeOf d)) paintTypeAt)
     (orElse (must (isSpread (spreadOf d)) spreadAt)
@@ -102,9 +106,9 @@ restRules d =
     orElse (unused d (segmentsAt + segmentCount d) coordinatesAt)
     (unused d (coordinatesAt + 2 * walkTo (segmentsOf d) (coordinatesOf d) (segmentCount d) .used) drawBytes)
 
--- a draw judged by itself
-unfoldable pub drawRules : List ℕ → FieldFault
-drawRules d = orElse (headRules d) (orElse (floatRules d) (orElse (listRules d) (orElse (flatRule d) (orElse (pathRules d) (restRules d)))))
+-- a draw judged by itself, where a mask is lent or is not
+unfoldable pub drawRules : Bool → List ℕ → FieldFault
+drawRules lent d = orElse (headRules lent d) (orElse (floatRules d) (orElse (listRules d) (orElse (flatRule d) (orElse (pathRules d) (restRules d)))))
 
 -- ---- the fields of block 0, in order
 abbrev pub isSide : ℕ → Bool
@@ -130,7 +134,7 @@ inHeader f = located noDraw (f .place) f
 abbrev pub inDraw : ℕ → FieldFault → Fault
 inDraw i f = located i (fileOffset i (f .place)) f
 
--- ---- a scene by its bytes; start b is where the sums of block b begin
+-- ---- a scene by its bytes, where a mask is lent or is not; start b is where the sums of block b begin
 
 -- the checks of draw i's blocks
 unfoldable pub checkFaultsFrom : (ℕ → ℕ) → List ℕ → ℕ → Fault
@@ -138,24 +142,24 @@ checkFaultsFrom start s i =
     firstFault drawBlocks (λ j. demand (blockRightFrom start s (blockOf i + j)) (fault badChecksum i (blockBytes * (blockOf i + j) + payloadBytes)))
 
 -- draw i: its four checks, then its own rules
-unfoldable pub drawFaultFrom : (ℕ → ℕ) → List ℕ → ℕ → Fault
-drawFaultFrom start s i = orFault (checkFaultsFrom start s i) (inDraw i (drawRules (drawOf s i)))
+unfoldable pub drawFaultFrom : (ℕ → ℕ) → Bool → List ℕ → ℕ → Fault
+drawFaultFrom start lent s i = orFault (checkFaultsFrom start s i) (inDraw i (drawRules lent (drawOf s i)))
 
 -- the first fault of a scene
-unfoldable pub sceneFaultFrom : (ℕ → ℕ) → List ℕ → Fault
-sceneFaultFrom start s =
+unfoldable pub sceneFaultFrom : (ℕ → ℕ) → Bool → List ℕ → Fault
+sceneFaultFrom start lent s =
     orFault (demand (eqb (length s % blockBytes) 0 && leb blockBytes (length s)) (fault badLength noDraw 0))
     (orFault (demand (blockRightFrom start s 0) (fault badChecksum noDraw payloadBytes))
     (orFault (inHeader (headerRules s))
     (orFault (demand (eqb (length s) (blockBytes * blockOf (countOf s))) (fault badLength noDraw 0))
-    (firstFault (countOf s) (drawFaultFrom start s)))))
+    (firstFault (countOf s) (drawFaultFrom start lent s)))))
 
 -- the sums begin at the block's number
 abbrev pub checkFaults : List ℕ → ℕ → Fault
 checkFaults = checkFaultsFrom blockNumber
 
-abbrev pub drawFault : List ℕ → ℕ → Fault
+abbrev pub drawFault : Bool → List ℕ → ℕ → Fault
 drawFault = drawFaultFrom blockNumber
 
-abbrev pub sceneFault : List ℕ → Fault
+abbrev pub sceneFault : Bool → List ℕ → Fault
 sceneFault = sceneFaultFrom blockNumber

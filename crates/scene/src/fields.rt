@@ -39,7 +39,8 @@ ghost use Rattle.paint.specs.Paints.{paintType};
 ghost use Rattle.path.specs.Matrices.{matrixInLimits, fixedMatrix};
 ghost use Rattle.scene.specs.Layout.{drawBytes};
 ghost use Rattle.scene.specs.Fields as Fields;
-ghost use Rattle.scene.specs.Fields.{flagsOf, bit, nonZeroRule, rampPremultiplied, blendOf, paintTypeOf, spreadOf, segmentCount, scissorCount, stopCount};
+ghost use Rattle.scene.specs.Fields.{flagsOf, bit, nonZeroRule, rampPremultiplied, usesMask, blendOf, paintTypeOf};
+ghost use Rattle.scene.specs.Fields.{spreadOf, segmentCount, scissorCount, stopCount};
 ghost use Rattle.scene.specs.Fields.{matrixOf, colorOf, linearOf, isRadial, radialOf, paintOf};
 ghost use Rattle.scene.specs.Fields.{scissorsOf, firstStopAt, stopsOf, segmentsOf, coordinatesOf};
 ghost use Rattle.scene.specs.Rules.{isPaint};
@@ -66,6 +67,14 @@ pub fn ramp_premultiplied(d: &[u8]) -> bool
     ensures { λ r. ⌜ r ≡ rampPremultiplied (now (d .entry)) ⌝ }
 {
     flag(d, 2)
+}
+
+// Whether the draw is drawn through the mask.
+pub fn uses_mask(d: &[u8]) -> bool
+    requires { ⌜ length (now d) ≡ drawBytes ⌝ }
+    ensures { λ r. ⌜ r ≡ usesMask (now (d .entry)) ⌝ }
+{
+    flag(d, 3)
 }
 
 // Whether bit n of the flags is set.

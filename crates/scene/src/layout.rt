@@ -70,7 +70,7 @@ pub const SEGMENTS_AT: usize = 772;
 
 pub const COORDINATES_AT: usize = 900;
 
-pub const FLAGS_LIMIT: u32 = 8;
+pub const FLAGS_LIMIT: u32 = 16;
 
 pub const SEGMENT_LIMIT: u8 = 128;
 

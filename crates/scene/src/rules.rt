@@ -17,6 +17,7 @@ use crate::fields::segment_count;
 use crate::fields::segments;
 use crate::fields::spread;
 use crate::fields::stop_count;
+use crate::fields::uses_mask;
 use crate::layout::BLEND_AT;
 use crate::layout::COLOR_AT;
 use crate::layout::COORDINATES_AT;
@@ -62,22 +63,23 @@ ghost use mathlib.Core.Path.{_≡_};
 ghost use mathlib.Core.Bool.{true};
 ghost use Prim.Native.Nat.{_≤_, _<_};
 ghost use lib.ListN.{getD, length};
-ghost use lib.Dec.{leb, ltb};
+ghost use lib.Dec.{leb};
 ghost use Rattle.blend.specs.PorterDuff.{isMode};
 ghost use Rattle.path.specs.Matrices.{matrixInLimits};
-ghost use Rattle.scene.specs.Layout.{drawBytes, segmentLimit, radialAt, radialFloats, flagsAt, flagsLimit, blendAt, paintTypeAt, spreadAt};
-ghost use Rattle.scene.specs.Fields.{flagsOf, blendOf, paintTypeOf, spreadOf, segmentCount, stopCount, matrixOf};
+ghost use Rattle.scene.specs.Layout.{drawBytes, segmentLimit, radialAt, radialFloats, flagsAt, blendAt, paintTypeAt, spreadAt};
+ghost use Rattle.scene.specs.Fields.{blendOf, paintTypeOf, spreadOf, segmentCount, stopCount, matrixOf};
 ghost use Rattle.scene.specs.Faults as Faults;
 ghost use Rattle.scene.specs.Faults.{orElse};
-ghost use Rattle.scene.specs.Rules.{isGradient, isPaint, isSpread, headRules, stopLimitOf, countRules, floatRules, radialLimit, focalRule, circleRules};
+ghost use Rattle.scene.specs.Rules.{isGradient, isPaint, isSpread, flagsAllowed, headRules, stopLimitOf, countRules};
+ghost use Rattle.scene.specs.Rules.{floatRules, radialLimit, focalRule, circleRules};
 ghost use Rattle.scene.specs.Rules.{stopRules, listRules, flatRule, pathRules, restRules, drawRules};
 
-// A draw judged by itself.
-pub fn draw_rules(d: &[u8]) -> FieldFault
+// A draw judged by itself, where a mask is lent or is not.
+pub fn draw_rules(d: &[u8], lent: bool) -> FieldFault
     requires { ⌜ length (now d) ≡ drawBytes ⌝ }
-    ensures { λ r. ⌜ r ≡ drawRules (now (d .entry)) ⌝ }
+    ensures { λ r. ⌜ r ≡ drawRules lent (now (d .entry)) ⌝ }
 {
-    let head = head_rules(d);
+    let head = head_rules(d, lent);
     if head.code != ACCEPTED {
         return head;
     }
@@ -97,21 +99,32 @@ pub fn draw_rules(d: &[u8]) -> FieldFault
 }
 
 // Flags, blend mode, paint type, spread, then the counts.
-fn head_rules(d: &[u8]) -> FieldFault
+fn head_rules(d: &[u8], lent: bool) -> FieldFault
     requires { ⌜ length (now d) ≡ drawBytes ⌝ }
-    ensures { λ r. ⌜ r ≡ headRules (now (d .entry)) ⌝ }
+    ensures { λ r. ⌜ r ≡ headRules lent (now (d .entry)) ⌝ }
 {
     let from_spread = or_else(spread_rule(d), count_rules(d));
     let from_paint = or_else(paint_rule(d), from_spread);
     let from_blend = or_else(blend_rule(d), from_paint);
-    or_else(flags_rule(d), from_blend)
+    or_else(flags_rule(d, lent), from_blend)
 }
 
-fn flags_rule(d: &[u8]) -> FieldFault
+fn flags_rule(d: &[u8], lent: bool) -> FieldFault
     requires { ⌜ length (now d) ≡ drawBytes ⌝ }
-    ensures { λ r. ⌜ r ≡ Faults.must (ltb (flagsOf (now (d .entry))) flagsLimit) flagsAt ⌝ }
+    ensures { λ r. ⌜ r ≡ Faults.must (flagsAllowed lent (now (d .entry))) flagsAt ⌝ }
 {
-    must(u16_at(d, FLAGS_AT) < FLAGS_LIMIT, FLAGS_AT)
+    must(flags_allowed(d, lent), FLAGS_AT)
+}
+
+// No bit without a meaning is set, and the mask's only where one is lent.
+fn flags_allowed(d: &[u8], lent: bool) -> bool
+    requires { ⌜ length (now d) ≡ drawBytes ⌝ }
+    ensures { λ r. ⌜ r ≡ flagsAllowed lent (now (d .entry)) ⌝ }
+{
+    if u16_at(d, FLAGS_AT) >= FLAGS_LIMIT {
+        return false;
+    }
+    lent || !uses_mask(d)
 }
 
 fn blend_rule(d: &[u8]) -> FieldFault

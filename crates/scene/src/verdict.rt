@@ -26,9 +26,9 @@ ghost use Rattle.scene.specs.Faults.{firstFault};
 ghost use Rattle.scene.specs.Rules as Rules;
 ghost use Rattle.scene.specs.Rules.{inHeader, inDraw, checkFaults, drawFault, sceneFault};
 
-// The first fault of a scene.
-pub fn verdict(s: &[u8]) -> Fault
-    ensures { λ r. ⌜ r ≡ sceneFault (now (s .entry)) ⌝ }
+// The first fault of a scene, where a mask is lent or is not.
+pub fn verdict(s: &[u8], lent: bool) -> Fault
+    ensures { λ r. ⌜ r ≡ sceneFault lent (now (s .entry)) ⌝ }
 {
     if !whole_blocks(s.len()) {
         return fault(BAD_LENGTH, NO_DRAW, 0);
@@ -44,7 +44,7 @@ pub fn verdict(s: &[u8]) -> Fault
     if s.len() != BLOCK_BYTES * (1 + DRAW_BLOCKS * n) {
         return fault(BAD_LENGTH, NO_DRAW, 0);
     }
-    draw_faults(s, n)
+    draw_faults(s, n, lent)
 }
 
 // Whether a file of that length is cut into blocks, and has block 0.
@@ -55,13 +55,13 @@ fn whole_blocks(length: usize) -> bool
 }
 
 // The first fault of n draws.
-fn draw_faults(s: &[u8], n: usize) -> Fault
+fn draw_faults(s: &[u8], n: usize, lent: bool) -> Fault
     requires { ⌜ (length (now s) ≡ blockBytes * blockOf n) × (n ≤ drawLimit) ⌝ }
-    ensures { λ r. ⌜ r ≡ firstFault n (drawFault (now (s .entry))) ⌝ }
+    ensures { λ r. ⌜ r ≡ firstFault n (drawFault lent (now (s .entry))) ⌝ }
 {
     let mut i = 0;
     while i < n {
-        let f = draw_fault(s, i);
+        let f = draw_fault(s, i, lent);
         if f.code != ACCEPTED {
             return f;
         }
@@ -71,9 +71,9 @@ fn draw_faults(s: &[u8], n: usize) -> Fault
 }
 
 // Draw i: its four checks, then its own rules.
-fn draw_fault(s: &[u8], i: usize) -> Fault
+fn draw_fault(s: &[u8], i: usize, lent: bool) -> Fault
     requires { ⌜ (blockBytes * blockOf (i + 1) ≤ length (now s)) × (i < drawLimit) ⌝ }
-    ensures { λ r. ⌜ r ≡ drawFault (now (s .entry)) i ⌝ }
+    ensures { λ r. ⌜ r ≡ drawFault lent (now (s .entry)) i ⌝ }
 {
     let checks = check_faults(s, i);
     if checks.code != ACCEPTED {
@@ -81,7 +81,7 @@ fn draw_fault(s: &[u8], i: usize) -> Fault
     }
     let mut d = [0u8; DRAW_BYTES];
     read_draw(s, i, &mut d);
-    in_draw(i, draw_rules(&d))
+    in_draw(i, draw_rules(&d, lent))
 }
 
 // The checks of draw i's four blocks.

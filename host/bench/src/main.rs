@@ -6,17 +6,19 @@
 //! `panel small`, `largest`. Full drawings and redraws take turns in one run: a frame is drawn, then redrawn to the other.
 //! The buffers are not cleared between calls. A redraw's time includes the rules on both scenes, a full drawing's those on
 //! one. Then come the stages of the full drawing of the first frame. The other parts are `paints`, a full drawing in each
-//! kind of paint, `blending`, blended pixels alone, and `compare`.
+//! kind of paint, `blending`, blended pixels alone, `masks`, a lamp under masks, and `compare`.
 #![forbid(unsafe_code)]
 
 mod blending;
 mod compare;
+mod masks;
 mod stages;
 mod workloads;
 
 use std::env;
 use std::time::{Duration, Instant};
 
+use library::Mask;
 use scene::PaintType;
 use stages::Versions;
 use workloads::Workload;
@@ -32,6 +34,9 @@ fn main() {
     }
     if wanted("blending") {
         blending::print(budget);
+    }
+    if wanted("masks") {
+        masks::print(budget);
     }
     if wanted("compare") {
         compare::print(budget);
@@ -67,7 +72,7 @@ fn print_paints(budget: Duration) {
     let begin = Instant::now();
     while begin.elapsed() < budget {
         for (scene, best) in scenes.iter().zip(&mut best) {
-            let (answer, time) = timed(|| library::draw(scene, &mut surface, &mut scratch));
+            let (answer, time) = timed(|| library::draw(scene, Mask::NONE, &mut surface, &mut scratch));
             assert_eq!(answer.code, 0);
             *best = time.min(*best);
         }
@@ -93,18 +98,19 @@ fn whole_calls(workload: &Workload, budget: Duration) -> Times {
     let begin = Instant::now();
     while times.full.len() < 4 || begin.elapsed() < budget {
         for (from, to) in [(0, 1), (1, 0)] {
-            let (answer, time) = timed(|| library::draw(&frames[from], &mut surface, &mut scratch));
+            let (answer, time) = timed(|| library::draw(&frames[from], Mask::NONE, &mut surface, &mut scratch));
             assert_eq!(answer.code, 0, "{}", workload.name);
             times.full.push(time);
             let whole = f64::from(answer.width) * f64::from(answer.height);
-            let (answer, time) = timed(|| library::redraw(&frames[from], &frames[to], &mut surface, &mut scratch));
+            let (answer, time) =
+                timed(|| library::redraw(&frames[from], &frames[to], Mask::NONE, &mut surface, &mut scratch));
             assert_eq!(answer.code, 0, "{}", workload.name);
             times.redraw.push(time);
             times.area = f64::from(answer.width) * f64::from(answer.height) / whole;
         }
     }
     let shown = surface.clone();
-    library::draw(&frames[0], &mut surface, &mut scratch);
+    library::draw(&frames[0], Mask::NONE, &mut surface, &mut scratch);
     assert!(surface == shown, "{}: the redraw left another picture than the full drawing", workload.name);
     times
 }
@@ -118,7 +124,7 @@ fn print_stages(workload: &Workload, budget: Duration) {
     let begin = Instant::now();
     let mut turns = 0;
     while turns < 4 || begin.elapsed() < budget {
-        let (answer, time) = timed(|| library::draw(&versions.full, &mut surface, &mut []));
+        let (answer, time) = timed(|| library::draw(&versions.full, Mask::NONE, &mut surface, &mut []));
         assert_eq!(answer.code, library::OUT_OF_MEMORY, "{}", workload.name);
         judged = judged.min(time);
         for (scene, least) in [
@@ -128,7 +134,7 @@ fn print_stages(workload: &Workload, budget: Duration) {
             (&versions.hidden, &mut hidden),
             (&versions.full, &mut full),
         ] {
-            let (answer, time) = timed(|| library::draw(scene, &mut surface, &mut scratch));
+            let (answer, time) = timed(|| library::draw(scene, Mask::NONE, &mut surface, &mut scratch));
             assert_eq!(answer.code, 0, "{}", workload.name);
             *least = time.min(*least);
         }

@@ -1,7 +1,7 @@
 //! What is timed: a scene and its next frame each.
 
 use generate::{scenes, Random};
-use panel::Readings;
+use panel::{Light, Readings};
 use scene::{Draw, PaintType, Path, Scene, Stop};
 
 pub struct Workload {
@@ -30,7 +30,7 @@ pub fn all() -> Vec<Workload> {
 /// The panel and its next frame: the speed needle and a door have moved.
 fn panel_at(name: &'static str, scale: f64) -> Workload {
     let now = Readings::default();
-    Workload::new(name, [&now, &now.next()].map(|readings| panel::panel(readings, scale)))
+    Workload::new(name, [&now, &now.next()].map(|readings| panel::panel(readings, scale, Light::Near)))
 }
 
 /// 64 draws of 128 curves on 1,024 by 1,024 pixels. All but the last cover the surface; the last, an eighth of it
@@ -67,12 +67,14 @@ pub fn dial(paint: PaintType, side: u16) -> Scene {
 
 #[cfg(test)]
 mod tests {
+    use library::Mask;
+
     /// With no scratch a call gets as far as the scratch only if its scenes are accepted.
     #[test]
     fn the_frames_are_accepted() {
         for workload in super::all() {
             let [old, new] = &workload.frames;
-            let answer = library::redraw(old, new, &mut vec![0; workload.surface_bytes], &mut []);
+            let answer = library::redraw(old, new, Mask::NONE, &mut vec![0; workload.surface_bytes], &mut []);
             assert_eq!(answer.code, library::OUT_OF_MEMORY, "{}", workload.name);
         }
     }

@@ -1,5 +1,5 @@
 //! Calls the proved library and the reference on the same input and compares all that they leave: the answer, every
-//! byte of the surface, every number of the scratch, the scenes, and guards round each of them.
+//! byte of the surface, every number of the scratch, the scenes, the mask, and guards round each of them.
 #![forbid(unsafe_code)]
 
 use std::fmt::Debug;
@@ -7,7 +7,7 @@ use std::path::{Path, PathBuf};
 use std::process::Command;
 use std::{env, fs};
 
-use generate::Random;
+use generate::{masks, Random};
 use reference::picture::SCRATCH_NUMBERS;
 
 /// A buffer between two guards, at an offset from where it was allocated.
@@ -48,26 +48,43 @@ impl<T: Copy + PartialEq + Debug> Guarded<T> {
 /// What a call is given besides its scenes.
 #[derive(Clone)]
 pub struct Buffers {
+    /// 0 if no mask is lent, and then its bytes must not count.
+    pub mask_lent: u32,
+    pub mask: Vec<u8>,
     pub surface: Vec<u8>,
     pub scratch: Vec<i32>,
 }
 
+/// Numbers that lend a mask: all but 0 do.
+const LENT: [u32; 5] = [1, 2, 256, 0x8000_0000, u32::MAX];
+
 impl Buffers {
-    /// Rubbish of these lengths.
+    /// Rubbish of these lengths, and no mask, but bytes in its place.
     pub fn rubbish(random: &mut Random, surface: usize, scratch: usize) -> Buffers {
-        let mut buffers = Buffers { surface: vec![0; surface], scratch: vec![0; scratch] };
+        let mask = random.pick(&[0, 1, surface / 4, surface / 4 + 1]);
+        let mut buffers =
+            Buffers { mask_lent: 0, mask: vec![0; mask], surface: vec![0; surface], scratch: vec![0; scratch] };
+        random.fill_bytes(&mut buffers.mask);
         random.fill_bytes(&mut buffers.surface);
         random.fill_numbers(&mut buffers.scratch);
         buffers
     }
 
-    /// Mostly what a scene of this surface needs, at times too little or more.
-    pub fn for_surface(random: &mut Random, surface: usize) -> Buffers {
+    /// Rubbish as a scene of this size needs it, with a mask lent.
+    pub fn masked(random: &mut Random, width: u16, height: u16) -> Buffers {
+        let mask = masks::mask(random, width, height);
+        let buffers = Buffers::rubbish(random, 4 * mask.len(), SCRATCH_NUMBERS);
+        Buffers { mask_lent: random.pick(&LENT), mask, ..buffers }
+    }
+
+    /// Mostly what a scene of this size needs, at times too little or more; with a mask more often than not.
+    pub fn for_scene(random: &mut Random, width: u16, height: u16) -> Buffers {
+        let right = Buffers::masked(random, width, height);
         let surface = match random.range(0, 19) {
-            0 => surface.saturating_sub(1),
-            1 => surface + 1,
-            2 => random.pick(&[0, 1, surface / 2, surface + 3, 2 * surface]),
-            _ => surface,
+            0 => right.surface.len().saturating_sub(1),
+            1 => right.surface.len() + 1,
+            2 => random.pick(&[0, 1, right.mask.len(), right.surface.len() + 3, 2 * right.surface.len()]),
+            _ => right.surface.len(),
         };
         let scratch = match random.range(0, 19) {
             0 => SCRATCH_NUMBERS - 1,
@@ -75,7 +92,21 @@ impl Buffers {
             2 => random.pick(&[SCRATCH_NUMBERS + 1, 16_384, 20_011]),
             _ => SCRATCH_NUMBERS,
         };
-        Buffers::rubbish(random, surface, scratch)
+        let other = Buffers::rubbish(random, surface, scratch);
+        match random.range(0, 19) {
+            // A mask of another length.
+            0 => {
+                let mut mask = right.mask;
+                mask.resize(random.pick(&[0, mask.len() - 1, mask.len() + 1, 4 * mask.len()]), 255);
+                Buffers { mask_lent: right.mask_lent, mask, ..other }
+            }
+            1 | 2 => other,
+            _ => Buffers { mask_lent: right.mask_lent, mask: right.mask, ..other },
+        }
+    }
+
+    fn lent_mask(&self) -> Option<&[u8]> {
+        (self.mask_lent != 0).then_some(&self.mask[..])
     }
 }
 
@@ -97,29 +128,32 @@ impl Call<'_> {
 
 /// Compares a call of both on the same buffers, and returns the answer with what the buffers then hold.
 ///
-/// Panics on the first difference, with the scenes saved in the folder for temporary files.
+/// Panics on the first difference, with the scenes and a lent mask saved in the folder for temporary files.
 pub fn compare(name: &str, call: Call, buffers: &Buffers) -> (library::Answer, Buffers) {
+    let lent = buffers.lent_mask();
     let mut expected = buffers.clone();
     let expected_answer = match call {
-        Call::Draw(scene) => reference::draw(scene, &mut expected.surface, &mut expected.scratch),
-        Call::Redraw(old, new) => reference::redraw(old, new, &mut expected.surface, &mut expected.scratch),
+        Call::Draw(scene) => reference::draw(scene, lent, &mut expected.surface, &mut expected.scratch),
+        Call::Redraw(old, new) => reference::redraw(old, new, lent, &mut expected.surface, &mut expected.scratch),
     };
 
     // The lengths decide the shift, so that a case fails the same way again.
     let shift = (buffers.surface.len() + buffers.scratch.len() + call.scenes()[0].len() / 512) % 16;
     let scenes: Vec<Guarded<u8>> =
         call.scenes().iter().enumerate().map(|(i, scene)| Guarded::new(scene, 0xA5, (shift + 3 * i) % 16)).collect();
+    let guarded_mask = Guarded::new(&buffers.mask, 0xC3, (shift + 11) % 16);
+    let mask = library::Mask { lent: buffers.mask_lent, bytes: guarded_mask.content() };
     let mut surface = Guarded::new(&buffers.surface, 0x5A, (shift + 7) % 16);
     let mut scratch = Guarded::new(&buffers.scratch, 0x5A5A_5A5A, shift % 4);
     let answer = match &scenes[..] {
-        [scene] => library::draw(scene.content(), surface.content_mut(), scratch.content_mut()),
-        [old, new] => library::redraw(old.content(), new.content(), surface.content_mut(), scratch.content_mut()),
+        [scene] => library::draw(scene.content(), mask, surface.content_mut(), scratch.content_mut()),
+        [old, new] => library::redraw(old.content(), new.content(), mask, surface.content_mut(), scratch.content_mut()),
         _ => unreachable!("one scene or two"),
     };
 
     let check = |what: &str, holds: bool| {
         if !holds {
-            save(name, &call);
+            save(name, &call, lent);
             panic!("{name}: {what} (library {answer:?}, reference {expected_answer:?})");
         }
     };
@@ -133,13 +167,15 @@ pub fn compare(name: &str, call: Call, buffers: &Buffers) -> (library::Answer, B
     for (guarded, scene) in scenes.iter().zip(call.scenes()) {
         check("a scene was written", guarded.content() == scene && guarded.guards_hold());
     }
+    check("the mask was written", guarded_mask.content() == buffers.mask && guarded_mask.guards_hold());
     if answer.code == 0 {
         check("an accepted call left the scratch not zero", scratch.content().iter().all(|&number| number == 0));
     } else {
         check("a refused call wrote the surface", surface.content() == buffers.surface);
         check("a refused call wrote the scratch", scratch.content() == buffers.scratch);
     }
-    (answer, Buffers { surface: surface.content().to_vec(), scratch: scratch.content().to_vec() })
+    let (surface, scratch) = (surface.content().to_vec(), scratch.content().to_vec());
+    (answer, Buffers { mask_lent: buffers.mask_lent, mask: buffers.mask.clone(), surface, scratch })
 }
 
 fn numbers(answer: library::Answer) -> [u32; 7] {
@@ -154,13 +190,14 @@ fn first_difference<T: PartialEq>(left: &[T], right: &[T]) -> Option<usize> {
     left.iter().zip(right).position(|(a, b)| a != b)
 }
 
-/// Keeps the scenes of a call that failed, under the name of its case.
-fn save(name: &str, call: &Call) {
+/// Keeps the scenes of a call that failed, and its mask, under the name of its case.
+fn save(name: &str, call: &Call, mask: Option<&[u8]>) {
     let name: String = name.chars().map(|c| if c.is_ascii_alphanumeric() { c } else { '-' }).collect();
-    for (i, scene) in call.scenes().iter().enumerate() {
-        let path = env::temp_dir().join(format!("wayramesh-{name}-{i}.scene"));
-        match fs::write(&path, scene) {
-            Ok(()) => eprintln!("scene saved as {}", path.display()),
+    let scenes = call.scenes().into_iter().enumerate().map(|(i, scene)| (format!("{i}.scene"), scene));
+    for (ending, bytes) in scenes.chain(mask.map(|mask| ("mask".to_string(), mask))) {
+        let path = env::temp_dir().join(format!("wayramesh-{name}-{ending}"));
+        match fs::write(&path, bytes) {
+            Ok(()) => eprintln!("saved as {}", path.display()),
             Err(error) => eprintln!("{}: {error}", path.display()),
         }
     }

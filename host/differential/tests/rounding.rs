@@ -3,6 +3,7 @@
 
 use std::arch::asm;
 
+use library::Mask;
 use reference::picture::SCRATCH_NUMBERS;
 use scene::{Draw, Path, Scene};
 
@@ -28,7 +29,7 @@ fn set_rounding(mode: u32) {
 fn drawn(scene: &[u8], mode: u32) -> ([u8; 4], u32) {
     let (mut surface, mut scratch) = ([0; 4], vec![0; SCRATCH_NUMBERS]);
     set_rounding(mode);
-    let answer = library::draw(scene, &mut surface, &mut scratch);
+    let answer = library::draw(scene, Mask::NONE, &mut surface, &mut scratch);
     let after = control() & ROUNDING;
     set_rounding(NEAREST);
     assert_eq!(answer.code, 0);
@@ -68,7 +69,7 @@ fn rounding_matters() {
             let (other, _) = drawn(scene, mode);
             let (back, _) = drawn(scene, NEAREST);
             let mut expected = [0; 4];
-            reference::draw(scene, &mut expected, &mut vec![0; SCRATCH_NUMBERS]);
+            reference::draw(scene, None, &mut expected, &mut vec![0; SCRATCH_NUMBERS]);
             assert_eq!((nearest, back), (expected, expected), "rounding {name}");
             assert!(nearest[0].abs_diff(other[0]) <= 1, "rounding {name}: {nearest:?} and {other:?}");
             differ += usize::from(nearest != other);

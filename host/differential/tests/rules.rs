@@ -1,28 +1,36 @@
-//! Both sides of every scene rule, drawn, and as either scene of a redraw.
+//! Both sides of every scene rule, drawn, and as either scene of a redraw, with a mask lent and with none.
 
 use differential::{compare, Buffers, Call};
 use generate::{rules, Random};
 use reference::picture::SCRATCH_NUMBERS;
 
-/// The bytes of the surface that a scene asks for, if its block 0 is long enough to say.
-fn surface_bytes(scene: &[u8]) -> usize {
-    match scene {
+/// Buffers as a scene asks for them, if its block 0 is long enough to say, with a mask or none.
+fn buffers_for(random: &mut Random, scene: &[u8], mask_lent: bool) -> Buffers {
+    let (width, height) = match scene {
         [w0, w1, h0, h1, ..] => {
-            let side = |low: u8, high: u8| usize::from(u16::from_le_bytes([low, high])).min(1_025);
-            4 * side(*w0, *w1) * side(*h0, *h1)
+            let side = |low: u8, high: u8| u16::from_le_bytes([low, high]).min(1_025);
+            (side(*w0, *w1), side(*h0, *h1))
         }
-        _ => 4,
+        _ => (1, 1),
+    };
+    if mask_lent && width > 0 {
+        Buffers::masked(random, width, height)
+    } else {
+        let lent = Buffers::rubbish(random, 4 * usize::from(width) * usize::from(height), SCRATCH_NUMBERS);
+        Buffers { mask_lent: mask_lent.into(), ..lent }
     }
 }
 
 #[test]
 fn draws() {
     let mut random = Random::new(1);
-    for case in rules::cases() {
-        let buffers = Buffers::rubbish(&mut random, surface_bytes(&case.bytes), SCRATCH_NUMBERS);
-        let (answer, _) = compare(&case.name, Call::Draw(&case.bytes), &buffers);
-        let expected = case.fault.map_or((0, 64), |fault| (fault.code, fault.draw));
-        assert_eq!((answer.code, answer.draw), expected, "{}", case.name);
+    for mask_lent in [false, true] {
+        for case in rules::cases(mask_lent) {
+            let buffers = buffers_for(&mut random, &case.bytes, mask_lent);
+            let (answer, _) = compare(&case.name, Call::Draw(&case.bytes), &buffers);
+            let expected = case.fault.map_or((0, 64), |fault| (fault.code, fault.draw));
+            assert_eq!((answer.code, answer.draw), expected, "{}", case.name);
+        }
     }
 }
 
@@ -30,46 +38,59 @@ fn draws() {
 #[test]
 fn redraws() {
     let mut random = Random::new(2);
-    let cases = rules::cases();
-    for two in cases.windows(2) {
-        let name = format!("from {} to {}", two[0].name, two[1].name);
-        let buffers = Buffers::rubbish(&mut random, surface_bytes(&two[0].bytes), SCRATCH_NUMBERS);
-        let (answer, _) = compare(&name, Call::Redraw(&two[0].bytes, &two[1].bytes), &buffers);
-        if let Some(fault) = two[0].fault {
-            assert_eq!((answer.code, answer.draw, answer.scene), (fault.code, fault.draw, 0), "{name}");
-        } else if let Some(fault) = two[1].fault {
-            assert_eq!((answer.code, answer.draw, answer.scene), (fault.code, fault.draw, 1), "{name}");
+    for mask_lent in [false, true] {
+        for two in rules::cases(mask_lent).windows(2) {
+            let name = format!("from {} to {}", two[0].name, two[1].name);
+            let buffers = buffers_for(&mut random, &two[0].bytes, mask_lent);
+            let (answer, _) = compare(&name, Call::Redraw(&two[0].bytes, &two[1].bytes), &buffers);
+            if let Some(fault) = two[0].fault {
+                assert_eq!((answer.code, answer.draw, answer.scene), (fault.code, fault.draw, 0), "{name}");
+            } else if let Some(fault) = two[1].fault {
+                assert_eq!((answer.code, answer.draw, answer.scene), (fault.code, fault.draw, 1), "{name}");
+            }
         }
     }
 }
 
-/// A surface or scratch of another length, in a draw and in a redraw: surface before scratch, both after the scenes.
+/// A surface, mask or scratch of another length, in a draw and in a redraw: the surface, then a mask that is lent, then the
+/// scratch, all after the scenes.
 #[test]
 fn buffers() {
     let mut random = Random::new(3);
-    let good = scene::Scene::new(7, 5, [1, 2, 3, 4]).bytes();
-    let bad = scene::Scene::new(7, 0, [1, 2, 3, 4]).bytes();
-    let other = scene::Scene::new(5, 7, [1, 2, 3, 4]).bytes();
-    for surface in [0, 1, 35, 138, 139, 140, 141, 142, 280] {
+    let scene = |width, height, masked| {
+        let mut scene = scene::Scene::new(width, height, [1, 2, 3, 4]);
+        scene.draws = vec![scene::Draw { masked, ..scene::Draw::default() }];
+        scene.bytes()
+    };
+    let (good, bad, other, asking) = (scene(7, 5, false), scene(7, 0, false), scene(5, 7, false), scene(7, 5, true));
+    let lengths = [0, 1, 34, 35, 36, 70, 140];
+    let masks = [0, 1, 0x100, u32::MAX].into_iter().flat_map(|lent| lengths.map(|length| (lent, length)));
+    let surfaces = [0, 1, 35, 138, 139, 140, 141, 142, 280];
+    for (surface, (mask_lent, mask)) in surfaces.into_iter().flat_map(|s| masks.clone().map(move |mask| (s, mask))) {
         for scratch in [0, 1, 12_298, 12_299, 12_300, 12_301, 30_000] {
-            let buffers = Buffers::rubbish(&mut random, surface, scratch);
-            let name = format!("surface {surface}, scratch {scratch}");
-            let expected = match (surface, scratch) {
-                (140, 12_300..) => 0,
-                (140, _) => 0x1002,
+            let rubbish = Buffers::rubbish(&mut random, surface, scratch);
+            let buffers = Buffers { mask_lent, mask: vec![77; mask], ..rubbish };
+            let name = format!("surface {surface}, mask {mask_lent} {mask}, scratch {scratch}");
+            let expected = match (surface, mask_lent, mask, scratch) {
+                (140, 0, _, 12_300..) | (140, _, 35, 12_300..) => 0,
+                (140, 0, _, _) | (140, _, 35, _) => 0x1002,
                 _ => 0x1004,
             };
+            let asked = if mask_lent == 0 { 0x1001 } else { expected };
             let calls = [
-                (Call::Draw(&good), expected, 0),
-                (Call::Redraw(&good, &good), expected, 0),
-                (Call::Draw(&bad), 0x1001, 0),
-                (Call::Redraw(&bad, &good), 0x1001, 0),
-                (Call::Redraw(&good, &bad), 0x1001, 1),
-                (Call::Redraw(&good, &other), 0x1001, 1),
+                (Call::Draw(&good), expected, 64, 0),
+                (Call::Redraw(&good, &good), expected, 64, 0),
+                (Call::Draw(&asking), asked, if mask_lent == 0 { 0 } else { 64 }, 0),
+                (Call::Redraw(&asking, &good), asked, if mask_lent == 0 { 0 } else { 64 }, 0),
+                (Call::Redraw(&good, &asking), asked, if mask_lent == 0 { 0 } else { 64 }, u32::from(mask_lent == 0)),
+                (Call::Draw(&bad), 0x1001, 64, 0),
+                (Call::Redraw(&bad, &good), 0x1001, 64, 0),
+                (Call::Redraw(&good, &bad), 0x1001, 64, 1),
+                (Call::Redraw(&good, &other), 0x1001, 64, 1),
             ];
-            for (call, code, scene) in calls {
+            for (call, code, draw, scene) in calls {
                 let (answer, _) = compare(&name, call, &buffers);
-                assert_eq!((answer.code, answer.draw, answer.scene), (code, 64, scene), "{name}");
+                assert_eq!((answer.code, answer.draw, answer.scene), (code, draw, scene), "{name}");
             }
         }
     }

@@ -1,4 +1,4 @@
-//! Generated scenes, sound and damaged, drawn and redrawn. WAYRAMESH_ROUNDS multiplies their number.
+//! Generated scenes, sound and damaged, drawn and redrawn, with a mask or none. WAYRAMESH_ROUNDS multiplies their number.
 
 use differential::{compare, rounds, Buffers, Call};
 use generate::{damage, scenes, Random};
@@ -10,7 +10,7 @@ fn draw_all(seeds: std::ops::Range<u64>, side: i32, draws: i32) -> u64 {
     for seed in seeds {
         let mut random = Random::new(seed);
         let scene = scenes::scene(&mut random, side, draws);
-        let buffers = Buffers::for_surface(&mut random, scene.surface_bytes());
+        let buffers = Buffers::for_scene(&mut random, scene.width, scene.height);
         let (answer, _) = compare(&format!("seed {seed}"), Call::Draw(&scene.bytes()), &buffers);
         accepted += u64::from(answer.code == 0);
     }
@@ -44,7 +44,8 @@ fn long_and_narrow_scenes() {
         let (width, height) = random.pick(&[(1_024, 3), (3, 1_024), (1_023, 1), (1, 1_023), (1_024, 16)]);
         let mut scene = scene::Scene::new(width, height, [9, 8, 7, 255]);
         scene.draws = (0..4).map(|_| scenes::draw(&mut random, width, height)).collect();
-        let buffers = Buffers::rubbish(&mut random, scene.surface_bytes(), SCRATCH_NUMBERS);
+        scenes::ask_for_mask(&mut random, &mut scene);
+        let buffers = Buffers::masked(&mut random, width, height);
         compare(&format!("seed {seed}"), Call::Draw(&scene.bytes()), &buffers);
     }
 }
@@ -69,7 +70,8 @@ fn largest_surface() {
     let mut random = Random::new(50_000_000);
     let mut scene = scene::Scene::new(1_024, 1_024, [0, 40, 80, 200]);
     scene.draws = (0..3).map(|_| scenes::draw(&mut random, 1_024, 1_024)).collect();
-    let buffers = Buffers::rubbish(&mut random, scene.surface_bytes(), SCRATCH_NUMBERS);
+    scene.draws[1].masked = true;
+    let buffers = Buffers::masked(&mut random, 1_024, 1_024);
     compare("largest surface", Call::Draw(&scene.bytes()), &buffers);
 }
 
@@ -81,14 +83,23 @@ fn damaged_scenes() {
         let mut random = Random::new(seed);
         let scene = scenes::scene(&mut random, 12, 4);
         let bytes = damage::damaged(&mut random, &scene);
-        let buffers = Buffers::for_surface(&mut random, scene.surface_bytes());
+        let buffers = Buffers::for_scene(&mut random, scene.width, scene.height);
         let (answer, _) = compare(&format!("seed {seed}"), Call::Draw(&bytes), &buffers);
         refused += u64::from(answer.code != 0);
     }
     assert!(refused > count / 2 && refused < count, "{refused} of {count} refused");
 }
 
-/// A redraw over what the old scene's full drawing left ends in the new scene's full drawing.
+/// Buffers of a scene's size, three times in four with a mask.
+fn lent(random: &mut Random, scene: &scene::Scene) -> Buffers {
+    if random.once_in(4) {
+        Buffers::rubbish(random, scene.surface_bytes(), SCRATCH_NUMBERS)
+    } else {
+        Buffers::masked(random, scene.width, scene.height)
+    }
+}
+
+/// A redraw over what the old scene's full drawing left ends in the new scene's full drawing, under the same mask or none.
 #[test]
 fn redraws() {
     let count = 8_000 * rounds();
@@ -97,9 +108,9 @@ fn redraws() {
         let mut random = Random::new(seed);
         let old = scenes::scene(&mut random, 24, 6);
         let new = scenes::next_scene(&mut random, &old);
-        let (old, new, surface) = (old.bytes(), new.bytes(), new.surface_bytes());
+        let rubbish = lent(&mut random, &new);
+        let (old, new) = (old.bytes(), new.bytes());
         let name = format!("seed {seed}");
-        let rubbish = Buffers::rubbish(&mut random, surface, SCRATCH_NUMBERS);
         let (answer, mut drawn) = compare(&name, Call::Draw(&old), &rubbish);
         if answer.code != 0 {
             continue;
@@ -127,10 +138,11 @@ fn redraws_of_wide_and_high_surfaces() {
         let (width, height) = if random.once_in(2) { (long, short) } else { (short, long) };
         let mut old = scene::Scene::new(width, height, [7, 8, 9, 255]);
         old.draws = (0..4).map(|_| scenes::draw(&mut random, width, height)).collect();
+        scenes::ask_for_mask(&mut random, &mut old);
         let new = scenes::next_scene(&mut random, &old);
-        let (old, new, surface) = (old.bytes(), new.bytes(), new.surface_bytes());
+        let rubbish = lent(&mut random, &new);
+        let (old, new) = (old.bytes(), new.bytes());
         let name = format!("seed {seed}");
-        let rubbish = Buffers::rubbish(&mut random, surface, SCRATCH_NUMBERS);
         let (answer, drawn) = compare(&name, Call::Draw(&old), &rubbish);
         if answer.code != 0 {
             continue;
@@ -152,7 +164,7 @@ fn redraws_over_rubbish() {
         let mut random = Random::new(seed);
         let old = scenes::scene(&mut random, 20, 5);
         let new = scenes::next_scene(&mut random, &old);
-        let buffers = Buffers::for_surface(&mut random, old.surface_bytes());
+        let buffers = Buffers::for_scene(&mut random, old.width, old.height);
         compare(&format!("seed {seed}"), Call::Redraw(&old.bytes(), &new.bytes()), &buffers);
     }
 }
@@ -171,7 +183,7 @@ fn redraws_of_damaged_scenes() {
         let spoil = random.range(0, 3);
         let old_bytes = if spoil & 1 == 1 { damage::damaged(&mut random, &old) } else { old.bytes() };
         let new_bytes = if spoil & 2 == 2 { damage::damaged(&mut random, &new) } else { new.bytes() };
-        let buffers = Buffers::for_surface(&mut random, old.surface_bytes());
+        let buffers = Buffers::for_scene(&mut random, old.width, old.height);
         let (answer, _) = compare(&format!("seed {seed}"), Call::Redraw(&old_bytes, &new_bytes), &buffers);
         *codes.entry((answer.code, answer.scene)).or_insert(0) += 1;
     }

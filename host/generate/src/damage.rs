@@ -59,7 +59,7 @@ fn spoil_draw(random: &mut Random, bytes: &mut [u8]) {
     match random.range(0, 12) {
         0 => {
             let place = random.pick(&[0, 2, 4, 6]);
-            put_in_draw(place, &[random.byte() & 7]);
+            put_in_draw(place, &[random.byte() & 15]);
         }
         1 => {
             let place = random.range(0, 7) as usize;

@@ -2,12 +2,14 @@
 //!
 //! - [`scenes`]: random scenes that the rules mostly accept, and pairs of them for a redraw.
 //! - [`damage`]: random scenes spoiled in a few bytes, with their checks made fresh or not.
+//! - [`masks`]: random masks for them.
 //! - [`places`]: blocks of a sound file out of place.
 //! - [`rules`]: both sides of every rule, with the answer that the paper gives.
 //! - [`steps`]: calls of the blending step alone, on any bytes.
 #![forbid(unsafe_code)]
 
 pub mod damage;
+pub mod masks;
 pub mod paths;
 pub mod places;
 pub mod radial;

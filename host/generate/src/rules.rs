@@ -29,6 +29,9 @@ const ILLEGAL: u32 = 0x1001;
 const ARC: u32 = 0x1005;
 const NO_DRAW: u32 = 64;
 
+/// The flag that asks for a mask.
+const MASK_BIT: u16 = 3;
+
 /// The draw that the cases of draw rules are about: not the first, so that its number counts.
 const DRAW: usize = 1;
 /// The draws of the common scene.
@@ -87,9 +90,9 @@ const MATRICES: [([f32; 4], bool); 25] = {
     ]
 };
 
-/// All cases.
-pub fn cases() -> Vec<Case> {
-    let mut cases = Cases(Vec::new());
+/// All cases, judged where a mask is lent, or none.
+pub fn cases(mask_lent: bool) -> Vec<Case> {
+    let mut cases = Cases { mask_lent, list: Vec::new() };
     cases.lengths();
     cases.checks();
     cases.places();
@@ -107,7 +110,7 @@ pub fn cases() -> Vec<Case> {
     cases.surface_range();
     cases.unused_path();
     cases.order();
-    cases.0
+    cases.list
 }
 
 /// A scene of two draws that is accepted.
@@ -162,11 +165,14 @@ fn put_in_draw(bytes: &mut [u8], place: usize, value: &[u8]) {
     bytes[at..at + value.len()].copy_from_slice(value);
 }
 
-struct Cases(Vec<Case>);
+struct Cases {
+    mask_lent: bool,
+    list: Vec<Case>,
+}
 
 impl Cases {
     fn add(&mut self, name: impl Into<String>, bytes: Vec<u8>, fault: Option<Fault>) {
-        self.0.push(Case { name: name.into(), bytes, fault });
+        self.list.push(Case { name: name.into(), bytes, fault });
     }
 
     /// A scene with some bytes of the tried draw replaced and fresh checks.
@@ -221,7 +227,7 @@ impl Cases {
 
     /// Blocks out of their places, and checks whose sums begin at 0: only block 0's does.
     fn places(&mut self) {
-        self.0.extend(places::cases(&common().bytes()));
+        self.list.extend(places::cases(&common().bytes()));
         let mut bare = Scene::new(5, 4, [10, 20, 30, 255]).bytes();
         seal_block_from(&mut bare, 0, 0);
         self.add("no draws, the sums of block 0 from 0", bare, None);
@@ -266,8 +272,9 @@ impl Cases {
     /// Flags, blend mode, paint type and spread.
     fn numbers(&mut self) {
         for bit in 0..16 {
-            let fault = unless(bit <= 2, illegal(0));
-            self.with_bytes(format!("flag bit {bit}"), &common(), 0, &(1_u16 << bit).to_le_bytes(), fault);
+            let allowed = bit <= 2 || bit == MASK_BIT && self.mask_lent;
+            let flags = 1_u16 << bit;
+            self.with_bytes(format!("flag bit {bit}"), &common(), 0, &flags.to_le_bytes(), unless(allowed, illegal(0)));
         }
         let ranges = [(2, 0x2000_u16, 0x2004_u16), (4, 0x1B00, 0x1B02), (6, 0x1C00, 0x1C02)];
         for (place, first, last) in ranges {
@@ -494,7 +501,7 @@ impl Cases {
 
     /// Every two of a list of faults in the paper's order: the earlier one is met.
     fn order(&mut self) {
-        let faults = ordered_faults();
+        let faults = ordered_faults(self.mask_lent);
         for (i, first) in faults.iter().enumerate() {
             for second in faults[i + 1..].iter().filter(|edit| edit.at != first.at) {
                 let mut bytes = scene_for_order().bytes();
@@ -533,8 +540,9 @@ struct Edit {
     fault: Fault,
 }
 
-/// Faults in the order in which the rules meet them.
-fn ordered_faults() -> Vec<Edit> {
+/// Faults in the order in which the rules meet them. Where no mask is lent, that of the flags is a draw that asks for it.
+fn ordered_faults(mask_lent: bool) -> Vec<Edit> {
+    let flags = if mask_lent { 1 << 7 } else { 1 << MASK_BIT };
     let mut edits = Vec::new();
     let spoil_check = |edits: &mut Vec<Edit>, block: usize| {
         let fault = wrong_check(block);
@@ -560,7 +568,7 @@ fn ordered_faults() -> Vec<Edit> {
         }
         let nan = f32::NAN.to_le_bytes();
         let places: [(usize, &[u8], u32, usize); 28] = [
-            (0, &[8], ILLEGAL, 0),
+            (0, &[flags], ILLEGAL, 0),
             (2, &[5], ILLEGAL, 2),
             (4, &[3], ILLEGAL, 4),
             (6, &[3], ILLEGAL, 6),

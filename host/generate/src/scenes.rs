@@ -14,7 +14,17 @@ pub fn scene(random: &mut Random, side: i32, draws: i32) -> Scene {
     for _ in 0..random.range(0, draws) {
         scene.draws.push(draw(random, width, height));
     }
+    ask_for_mask(random, &mut scene);
     scene
+}
+
+/// Lets some of the draws ask for a mask, in every second scene.
+pub fn ask_for_mask(random: &mut Random, scene: &mut Scene) {
+    if random.once_in(2) {
+        for draw in &mut scene.draws {
+            draw.masked = random.once_in(2);
+        }
+    }
 }
 
 fn side_of(random: &mut Random, side: i32) -> u16 {
@@ -28,7 +38,7 @@ fn background(random: &mut Random) -> [u8; 4] {
     [random.byte(), random.byte(), random.byte(), alpha]
 }
 
-/// A draw on a surface of this size.
+/// A draw on a surface of this size, without a mask.
 pub fn draw(random: &mut Random, width: u16, height: u16) -> Draw {
     let frame = frame(random, width, height);
     let segments = match random.range(0, 19) {
@@ -42,6 +52,7 @@ pub fn draw(random: &mut Random, width: u16, height: u16) -> Draw {
         fill_rule: random.pick(&[FillRule::EvenOdd, FillRule::NonZero]),
         scissoring: random.once_in(4),
         premultiplied_ramp: random.once_in(2),
+        masked: false,
         blend: random.pick(&Blend::ALL),
         paint,
         spread: random.pick(&Spread::ALL),
@@ -167,7 +178,7 @@ fn change(random: &mut Random, scene: &mut Scene) {
     }
     let at = random.index(scene.draws.len());
     let changed = &mut scene.draws[at];
-    match random.range(0, 8) {
+    match random.range(0, 9) {
         0 => *changed = draw(random, width, height),
         // A needle that moves.
         1 | 2 => {
@@ -182,10 +193,11 @@ fn change(random: &mut Random, scene: &mut Scene) {
         4 => changed.blend = random.pick(&Blend::ALL),
         // Other bytes that draw the same.
         5 => changed.matrix = changed.matrix.map(|v| if v == 0.0 { -v } else { v }),
-        6 => {
+        6 => changed.masked = !changed.masked,
+        7 => {
             scene.draws.remove(at);
         }
-        7 if scene.draws.len() < 64 => scene.draws.insert(at, draw(random, width, height)),
+        8 if scene.draws.len() < 64 => scene.draws.insert(at, draw(random, width, height)),
         _ => {
             scene.draws.pop();
         }

@@ -31,11 +31,11 @@ pub struct Composited {
 }
 
 extern "C" {
-    fn wayramesh_composite(mode: u32, coverage: u32, source: Pixel, destination: Pixel) -> Composited;
+    fn wayramesh_composite(mode: u32, coverage: u32, mask: u32, source: Pixel, destination: Pixel) -> Composited;
 }
 
-/// Blends a source over a destination under a coverage of 0 to 16.
-pub fn composite(mode: u32, coverage: u32, source: Pixel, destination: Pixel) -> Composited {
+/// Blends a source over a destination under a coverage of 0 to 16 and a mask's byte of 0 to 255.
+pub fn composite(mode: u32, coverage: u32, mask: u32, source: Pixel, destination: Pixel) -> Composited {
     // SAFETY: all arguments go by value, and the function takes every one.
-    unsafe { wayramesh_composite(mode, coverage, source, destination) }
+    unsafe { wayramesh_composite(mode, coverage, mask, source, destination) }
 }

@@ -27,6 +27,22 @@ mod composite;
 pub use compare::{compare, Comparison};
 pub use composite::{composite, Composited, Pixel};
 
+/// The mask of a call, a byte for each pixel. With 0 in `lent` there is none, whatever the bytes are; with any other number
+/// it is lent.
+#[derive(Clone, Copy, Debug)]
+pub struct Mask<'a> {
+    pub lent: u32,
+    pub bytes: &'a [u8],
+}
+
+impl<'a> Mask<'a> {
+    pub const NONE: Mask<'static> = Mask { lent: 0, bytes: &[] };
+
+    pub fn of(bytes: &'a [u8]) -> Mask<'a> {
+        Mask { lent: 1, bytes }
+    }
+}
+
 mod ffi {
     use super::Answer;
 
@@ -34,6 +50,9 @@ mod ffi {
         pub fn wayramesh_draw(
             scene: *const u8,
             scene_len: usize,
+            mask_lent: u32,
+            mask: *const u8,
+            mask_len: usize,
             surface: *mut u8,
             surface_len: usize,
             scratch: *mut i32,
@@ -45,6 +64,9 @@ mod ffi {
             old_len: usize,
             new: *const u8,
             new_len: usize,
+            mask_lent: u32,
+            mask: *const u8,
+            mask_len: usize,
             surface: *mut u8,
             surface_len: usize,
             scratch: *mut i32,
@@ -54,12 +76,16 @@ mod ffi {
 }
 
 /// Draws a scene in full.
-pub fn draw(scene: &[u8], surface: &mut [u8], scratch: &mut [i32]) -> Answer {
-    // SAFETY: each pointer comes with its slice's length, and no two of the slices overlap. The function asks no more.
+pub fn draw(scene: &[u8], mask: Mask, surface: &mut [u8], scratch: &mut [i32]) -> Answer {
+    // SAFETY: each pointer comes with its slice's length. Surface and scratch overlap no other slice; scene and mask are
+    // only read. The function asks no more.
     unsafe {
         ffi::wayramesh_draw(
             scene.as_ptr(),
             scene.len(),
+            mask.lent,
+            mask.bytes.as_ptr(),
+            mask.bytes.len(),
             surface.as_mut_ptr(),
             surface.len(),
             scratch.as_mut_ptr(),
@@ -68,8 +94,8 @@ pub fn draw(scene: &[u8], surface: &mut [u8], scratch: &mut [i32]) -> Answer {
     }
 }
 
-/// Redraws a surface from the old scene to the new.
-pub fn redraw(old: &[u8], new: &[u8], surface: &mut [u8], scratch: &mut [i32]) -> Answer {
+/// Redraws a surface from the old scene to the new, both with the same mask.
+pub fn redraw(old: &[u8], new: &[u8], mask: Mask, surface: &mut [u8], scratch: &mut [i32]) -> Answer {
     // SAFETY: as in `draw`; the two scenes are only read and may overlap.
     unsafe {
         ffi::wayramesh_redraw(
@@ -77,6 +103,9 @@ pub fn redraw(old: &[u8], new: &[u8], surface: &mut [u8], scratch: &mut [i32]) -
             old.len(),
             new.as_ptr(),
             new.len(),
+            mask.lent,
+            mask.bytes.as_ptr(),
+            mask.bytes.len(),
             surface.as_mut_ptr(),
             surface.len(),
             scratch.as_mut_ptr(),

@@ -64,13 +64,19 @@ pub fn light_angle() -> f64 {
 pub struct Canvas {
     scale: f64,
     scene: Scene,
+    masked: bool,
 }
 
 impl Canvas {
     /// A canvas of this size in panel pixels, at a scale.
     pub fn new(width: f64, height: f64, scale: f64, background: Color) -> Canvas {
         let side = |pixels: f64| (pixels * scale).round() as u16;
-        Canvas { scale, scene: Scene::new(side(width), side(height), background.to_be_bytes()) }
+        Canvas { scale, scene: Scene::new(side(width), side(height), background.to_be_bytes()), masked: false }
+    }
+
+    /// Whether what is filled from here on asks for the mask.
+    pub fn set_masked(&mut self, masked: bool) {
+        self.masked = masked;
     }
 
     pub fn scene(self) -> Scene {
@@ -90,6 +96,7 @@ impl Canvas {
         let draw = Draw {
             fill_rule: shape.fill_rule,
             premultiplied_ramp: true,
+            masked: self.masked,
             matrix: matrix.map(|v| v as f32),
             path: shape.path,
             ..self.painted(paint)

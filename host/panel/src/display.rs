@@ -3,7 +3,7 @@
 
 use crate::canvas::{Canvas, Color, Paint, Stops};
 use crate::shape::{on_circle, Point, Shape};
-use crate::{brake, dial, font, speed, Trip};
+use crate::{bezel, brake, dial, font, speed, Trip};
 
 /// Between a dial's rim and the frame, and the frame's width.
 const CLEARANCE: f64 = 9.0;
@@ -28,11 +28,16 @@ pub const MIDDLE: f64 = (speed::CENTER.0 + brake::CENTER.0) / 2.0;
 pub fn display(canvas: &mut Canvas) {
     let (top, bottom) = (speed::CENTER.1 + HALF_HEIGHT, speed::CENTER.1 - HALF_HEIGHT);
     canvas.fill(waisted(0.0), Paint::rows(top, bottom, FRAME_STOPS));
-    canvas.fill(waisted(FRAME), Paint::rows(top, bottom, GLASS_STOPS));
+    canvas.fill(glass(), Paint::rows(top, bottom, GLASS_STOPS));
     let rules = RULES.iter().fold(Shape::new(), |shape, row| {
         shape.rectangle(MIDDLE - RULE_HALF, row - RULE_WIDTH / 2.0, 2.0 * RULE_HALF, RULE_WIDTH)
     });
     canvas.fill(rules, Paint::Color(RULE_COLOR));
+}
+
+/// All within the frame.
+pub fn glass() -> Shape {
+    waisted(FRAME)
 }
 
 /// The display's outline, moved inwards: arcs round both dials, joined by straight lines above and below.
@@ -43,6 +48,19 @@ fn waisted(inset: f64) -> Shape {
     let right = Side { center: brake::CENTER, facing: 180.0, inwards: -1.0, radius, span };
     let shape = left.append(Shape::new().move_to(left.edge(-1.0)));
     right.append(shape.line_to(right.edge(-1.0)))
+}
+
+/// How far within the display's glass a point is, from the nearer of its frame's sides.
+pub fn depth((x, y): Point) -> f64 {
+    let dial = if x < MIDDLE { speed::CENTER } else { brake::CENTER };
+    let from_side = (x - dial.0).hypot(y - dial.1) - (dial::RADIUS + CLEARANCE + FRAME);
+    let within_sides = x > speed::CENTER.0 && x < brake::CENTER.0;
+    let from_edge = HALF_HEIGHT - FRAME - (y - dial.1).abs();
+    if within_sides {
+        bezel::depth((from_side, from_edge), CORNER)
+    } else {
+        0.0
+    }
 }
 
 /// A side of the display: an arc round a dial, between two corners that are rounded.

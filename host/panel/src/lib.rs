@@ -4,6 +4,7 @@
 //! The panel is laid out in pixels of 1,024 by 600, row 0 the lowest, and can be drawn at any smaller scale.
 #![forbid(unsafe_code)]
 
+mod bezel;
 mod brake;
 mod canvas;
 mod dial;
@@ -17,7 +18,9 @@ mod signs;
 mod speed;
 mod stroke;
 
+pub use bezel::mask;
 pub use doors::Door;
+pub use lamps::Light;
 
 use canvas::{Canvas, Color, Paint, Stops};
 use scene::Scene;
@@ -91,10 +94,13 @@ impl Readings {
     }
 }
 
-/// The panel at a scale of at most 1, which is 1,024 by 600 pixels.
-pub fn panel(readings: &Readings, scale: f64) -> Scene {
+/// The panel at a scale of at most 1, which is 1,024 by 600 pixels. Wide light asks for the mask.
+pub fn panel(readings: &Readings, scale: f64, light: Light) -> Scene {
     let mut canvas = Canvas::new(WIDTH, HEIGHT, scale, BACKGROUND);
     board(&mut canvas);
+    if light == Light::Wide {
+        bezel::strip(&mut canvas);
+    }
     dial::housing(&mut canvas, speed::CENTER);
     dial::housing(&mut canvas, brake::CENTER);
     dial::windows(&mut canvas, [&speed::WINDOW].into_iter().chain(&brake::WINDOWS));
@@ -102,24 +108,33 @@ pub fn panel(readings: &Readings, scale: f64) -> Scene {
     speed::dial(&mut canvas, readings.speed);
     brake::dial(&mut canvas, readings.brake_pressure);
     display::display(&mut canvas);
-    lamps::great_lamps(&mut canvas, readings);
+    lamps::great_lamps(&mut canvas, readings, light);
     doors::doors(&mut canvas, readings.doors);
     display::trip(&mut canvas, &readings.trip);
-    lamps::small_lamps(&mut canvas, readings);
+    lamps::small_lamps(&mut canvas, readings, light);
     gauges::gauges(&mut canvas, readings.fuel, readings.coolant);
     canvas.scene()
 }
 
-/// The scene files of the folder scenes: the panel and its next frame, in full size and a quarter of it.
+/// The scene files of the folder scenes: the panel and its next frame, in full size and a quarter of it, and a pair with
+/// wide light, under the mask, of which the second has its turn signal dark.
 pub fn files() -> Vec<(&'static str, Scene)> {
     let now = Readings::default();
     let next = now.next();
+    let dark = Readings { right_turn: false, ..now.clone() };
     vec![
-        ("panel.scene", panel(&now, 1.0)),
-        ("panel-next.scene", panel(&next, 1.0)),
-        ("panel-small.scene", panel(&now, 0.25)),
-        ("panel-small-next.scene", panel(&next, 0.25)),
+        ("panel.scene", panel(&now, 1.0, Light::Near)),
+        ("panel-next.scene", panel(&next, 1.0, Light::Near)),
+        ("panel-small.scene", panel(&now, 0.25, Light::Near)),
+        ("panel-small-next.scene", panel(&next, 0.25, Light::Near)),
+        ("panel-soft.scene", panel(&now, 1.0, Light::Wide)),
+        ("panel-soft-next.scene", panel(&dark, 1.0, Light::Wide)),
     ]
+}
+
+/// The mask file of the folder scenes, for the pair with wide light.
+pub fn mask_file() -> (&'static str, Vec<u8>) {
+    ("panel-soft.mask", mask(1.0))
 }
 
 const BACKGROUND: Color = 0x07080AFF;

@@ -1,6 +1,6 @@
 //! The panel for other readings than the files': within the format's limits, and told apart without colours.
 
-use panel::{panel, Door, Readings};
+use panel::{panel, Door, Light, Readings};
 use reference::{rules, Rectangle};
 use scene::{Draw, PaintType, Scene};
 
@@ -9,6 +9,7 @@ const MOST_SEGMENTS: usize = 128;
 const MOST_COORDINATES: usize = 550;
 const MOST_STOPS: usize = 31;
 const SCALES: [f64; 2] = [1.0, 0.25];
+const LIGHTS: [Light; 2] = [Light::Near, Light::Wide];
 
 /// Readings from one end of every scale to the other, with all lamps off and on.
 fn sweep() -> impl Iterator<Item = Readings> {
@@ -34,13 +35,19 @@ fn sweep() -> impl Iterator<Item = Readings> {
     })
 }
 
+/// Every scale with every light.
+fn forms() -> impl Iterator<Item = (f64, Light)> {
+    SCALES.into_iter().flat_map(|scale| LIGHTS.map(|light| (scale, light)))
+}
+
 #[test]
 fn all_readings_are_accepted_with_the_same_draws() {
-    for scale in SCALES {
-        let draws = panel(&Readings::default(), scale).draws.len();
+    for (scale, light) in forms() {
+        let draws = panel(&Readings::default(), scale, light).draws.len();
         for readings in sweep() {
-            let scene = panel(&readings, scale);
-            rules::scene(&scene.bytes()).unwrap_or_else(|fault| panic!("{readings:?}: {fault:?}"));
+            let scene = panel(&readings, scale, light);
+            rules::scene(&scene.bytes(), light == Light::Wide)
+                .unwrap_or_else(|fault| panic!("{readings:?}: {fault:?}"));
             assert_eq!(scene.draws.len(), draws, "a lamp or door would move the draws behind it");
         }
     }
@@ -48,16 +55,17 @@ fn all_readings_are_accepted_with_the_same_draws() {
 
 #[test]
 fn within_the_limits_of_every_edition() {
-    for (scene, readings) in
-        sweep().flat_map(|readings| SCALES.map(|scale| (panel(&readings, scale), readings.clone())))
-    {
-        assert!(scene.draws.len() <= MOST_DRAWS);
-        for draw in &scene.draws {
-            let (segments, coordinates) = (draw.path.segments.len(), draw.path.coordinates.len());
-            assert!(segments <= MOST_SEGMENTS && coordinates <= MOST_COORDINATES, "{readings:?}");
-            assert!(draw.stops.len() <= MOST_STOPS);
-            let [sx, shy, shx, sy, ..] = draw.matrix.map(|v| (f64::from(v) * 65_536.0 + 0.5).floor() as i64);
-            assert!(segments == 0 || sx * sy != shx * shy, "a flat matrix");
+    for readings in sweep() {
+        for (scale, light) in forms() {
+            let scene = panel(&readings, scale, light);
+            assert!(scene.draws.len() <= MOST_DRAWS);
+            for draw in &scene.draws {
+                let (segments, coordinates) = (draw.path.segments.len(), draw.path.coordinates.len());
+                assert!(segments <= MOST_SEGMENTS && coordinates <= MOST_COORDINATES, "{readings:?}");
+                assert!(draw.stops.len() <= MOST_STOPS);
+                let [sx, shy, shx, sy, ..] = draw.matrix.map(|v| (f64::from(v) * 65_536.0 + 0.5).floor() as i64);
+                assert!(segments == 0 || sx * sy != shx * shy, "a flat matrix");
+            }
         }
     }
 }
@@ -71,10 +79,10 @@ const GREAT_LAMPS: Part = [400.0, 362.0, 224.0, 98.0];
 
 /// The pixels of a part of a scene's picture.
 fn picture(scene: &Scene, part: Part, scale: f64) -> Vec<u8> {
-    let scene = rules::scene(&scene.bytes()).expect("an accepted scene");
+    let scene = rules::scene(&scene.bytes(), true).expect("an accepted scene");
     let [x, y, width, height] = part.map(|v| (v * scale) as u32);
     let mut surface = vec![0; scene.surface_bytes()];
-    reference::picture::store(&scene, Rectangle { x, y, width, height }, &mut surface);
+    reference::picture::store(&scene, Some(&panel::mask(scale)), Rectangle { x, y, width, height }, &mut surface);
     surface
 }
 
@@ -103,7 +111,10 @@ fn told_apart(one: &[u8], other: &[u8]) -> usize {
 fn a_door_is_told_without_colours() {
     for scale in SCALES {
         let quarter = (44.0 * 84.0 * scale * scale / 4.0) as usize;
-        let with = |door| panel(&Readings { doors: [Door::Open, door, Door::Closed], ..Readings::default() }, scale);
+        let with = |door| {
+            let doors = [Door::Open, door, Door::Closed];
+            panel(&Readings { doors, ..Readings::default() }, scale, Light::Near)
+        };
         let differing =
             |a: &Scene, b: &Scene| told_apart(&picture(a, SECOND_DOOR, scale), &picture(b, SECOND_DOOR, scale));
         for (one, other) in [(Door::Closed, Door::Moving), (Door::Moving, Door::Open), (Door::Open, Door::Closed)] {
@@ -117,7 +128,7 @@ fn a_door_is_told_without_colours() {
 /// One circuit's needle is solid, the other's hollow: for the same pressure they are no mirror images.
 #[test]
 fn the_circuits_are_told_by_shape() {
-    let scene = |pressures| panel(&Readings { brake_pressure: pressures, ..Readings::default() }, 1.0);
+    let scene = |pressures| panel(&Readings { brake_pressure: pressures, ..Readings::default() }, 1.0, Light::Near);
     // Of the draws that a pressure changes the needle is the last, behind its figures and its shadow.
     let needle = |pressures| {
         let mut changed = silhouette(&scene(pressures), &scene([6.0, 6.0]));
@@ -138,11 +149,49 @@ fn the_circuits_are_told_by_shape() {
 fn a_lit_lamp_is_told_from_a_dark_one() {
     let off = Readings { stop_requested: false, parking_brake: false, ..Readings::default() };
     let lit = [Readings { stop_requested: true, ..off.clone() }, Readings { parking_brake: true, ..off.clone() }];
-    for scale in SCALES {
-        let lamps = |readings: &Readings| picture(&panel(readings, scale), GREAT_LAMPS, scale);
+    for (scale, light) in forms() {
+        let lamps = |readings: &Readings| picture(&panel(readings, scale, light), GREAT_LAMPS, scale);
         for readings in &lit {
             let count = told_apart(&lamps(&off), &lamps(readings));
             assert!(count as f64 > 500.0 * scale * scale, "{count} at {scale}");
+        }
+    }
+}
+
+/// Wide light changes no pixel on a bezel or outside, where the mask is 0, and fades towards it.
+#[test]
+fn wide_light_stays_within_the_bezels() {
+    let scale = 0.25;
+    let whole = [0.0, 0.0, panel::WIDTH, panel::HEIGHT];
+    let with = |on: bool| {
+        let lamps = Readings { stop_requested: on, parking_brake: on, left_turn: on, ..Readings::default() };
+        picture(&panel(&lamps, scale, Light::Wide), whole, scale)
+    };
+    let (lit, dark, mask) = (with(true), with(false), panel::mask(scale));
+    let differing = |least: u8, most: u8| {
+        let pixels = lit.chunks(4).zip(dark.chunks(4)).zip(&mask).filter(|(_, &byte)| least <= byte && byte <= most);
+        let differences =
+            pixels.map(|((lit, dark), _)| u64::from(lit[0].abs_diff(dark[0]).max(lit[1].abs_diff(dark[1]))));
+        let (count, sum) = differences.fold((0, 0), |(count, sum), difference| (count + 1, sum + difference));
+        sum as f64 / f64::from(count)
+    };
+    let (outside, edge, inner) = (differing(0, 0), differing(1, 127), differing(128, 255));
+    assert!(outside == 0.0 && 1.0 < edge && 3.0 * edge < inner, "{outside} {edge} {inner}");
+}
+
+/// The mask of the great and the small lamps: a byte for each pixel, nothing at the panel's edges, all at the lamps.
+#[test]
+fn the_mask_shows_the_lamps() {
+    for scale in SCALES {
+        let mask = panel::mask(scale);
+        let (width, height) = ((panel::WIDTH * scale) as usize, (panel::HEIGHT * scale) as usize);
+        assert_eq!(mask.len(), width * height);
+        let at = |x: f64, y: f64| mask[(y * scale) as usize * width + (x * scale) as usize];
+        for (x, y) in [(457.0, 411.0), (567.0, 411.0), (311.0, 537.0), (512.0, 537.0), (713.0, 537.0)] {
+            assert_eq!(at(x, y), 255, "{x} {y}");
+        }
+        for (x, y) in [(0.0, 0.0), (1_023.0, 599.0), (214.0, 285.0), (810.0, 285.0), (512.0, 462.0), (512.0, 490.0)] {
+            assert_eq!(at(x, y), 0, "{x} {y}");
         }
     }
 }

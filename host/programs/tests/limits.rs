@@ -36,7 +36,7 @@ fn left(answer: &Answer, before: &(Vec<u8>, Vec<i32>), after: &(Vec<u8>, Vec<i32
 fn picture(scene: &[u8], surface: &str) -> Vec<u8> {
     let mut full = buffers(surface, "12300");
     full.0.fill(0x3C);
-    draw(scene, &mut full.0, &mut full.1);
+    draw(scene, None, &mut full.0, &mut full.1);
     full.0
 }
 
@@ -45,15 +45,15 @@ fn line(call: &[&str]) -> String {
         ["draw", file, surface, room] => {
             let before = buffers(surface, room);
             let mut after = before.clone();
-            let answer = draw(&scene(file), &mut after.0, &mut after.1);
+            let answer = draw(&scene(file), None, &mut after.0, &mut after.1);
             left(&answer, &before, &after, &picture(&scene(file), surface))
         }
         ["redraw", old, new, surface, room] => {
             let mut before = buffers(surface, room);
-            draw(&scene(old), &mut before.0, &mut before.1);
+            draw(&scene(old), None, &mut before.0, &mut before.1);
             before.1.fill(-7);
             let mut after = before.clone();
-            let answer = redraw(&scene(old), &scene(new), &mut after.0, &mut after.1);
+            let answer = redraw(&scene(old), &scene(new), None, &mut after.0, &mut after.1);
             left(&answer, &before, &after, &picture(&scene(new), surface))
         }
         _ => panic!("{call:?}"),

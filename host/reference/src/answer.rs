@@ -9,14 +9,14 @@ pub const BAD_LENGTH: u32 = 0xB002;
 pub const ILLEGAL_ARGUMENT: u32 = 0x1001;
 /// The scratch has too few numbers.
 pub const OUT_OF_MEMORY: u32 = 0x1002;
-/// The surface is not 4 * width * height bytes.
+/// The surface is not 4 * width * height bytes, or a lent mask not width * height.
 pub const UNSUPPORTED_IMAGE_FORMAT: u32 = 0x1004;
 /// A segment is an arc.
 pub const UNSUPPORTED_PATH_FORMAT: u32 = 0x1005;
 
 /// The draw number of what is in no draw.
 pub const NO_DRAW: u32 = 64;
-/// The scene number of an accepted call, of a single scene, of a redraw's old scene, of surface and scratch.
+/// The scene number of an accepted call, of a single scene, of a redraw's old scene, of surface, mask and scratch.
 pub const FIRST_SCENE: u32 = 0;
 /// The scene number of a redraw's new scene.
 pub const NEW_SCENE: u32 = 1;

@@ -1,9 +1,12 @@
-//! Blending: the Porter-Duff factors of document 001, Table 15, and the stored byte at a coverage.
+//! Blending: the Porter-Duff factors of document 001, Table 15, and the stored byte at a coverage, under a mask's byte.
 
 use crate::answer::{ACCEPTED, ILLEGAL_ARGUMENT};
 use crate::paint::Pixel;
 
 const ALPHA: usize = 3;
+
+/// The mask's byte of a draw that asks for no mask.
+pub const UNMASKED: u8 = 255;
 
 #[derive(Clone, Copy, Debug, PartialEq, Eq)]
 pub enum Blend {
@@ -38,26 +41,30 @@ impl Blend {
     }
 }
 
-/// The step called alone (paper 02, P2): its code, and the pixel that it leaves. Every byte is taken.
-pub fn step(mode: u32, coverage: u32, source: Pixel, destination: Pixel) -> (u32, Pixel) {
+/// The step called alone (paper 02, P2 and P6): its code, and the pixel that it leaves. Every byte is taken.
+pub fn step(mode: u32, coverage: u32, mask: u32, source: Pixel, destination: Pixel) -> (u32, Pixel) {
     let mode = u16::try_from(mode).ok().and_then(Blend::from_number);
-    match mode {
-        Some(mode) if coverage <= 16 => (ACCEPTED, composite(mode, source, destination, coverage.into())),
+    match (mode, u8::try_from(mask)) {
+        (Some(mode), Ok(mask)) if coverage <= 16 => {
+            (ACCEPTED, composite(mode, source, destination, coverage.into(), mask))
+        }
         _ => (ILLEGAL_ARGUMENT, destination),
     }
 }
 
-/// The four bytes stored over `destination`, both premultiplied, at a coverage of 0 to 16.
-pub fn composite(mode: Blend, source: Pixel, destination: Pixel, coverage: i64) -> Pixel {
+/// The four bytes stored over `destination`, both premultiplied, at a coverage of 0 to 16 and under a mask's byte.
+pub fn composite(mode: Blend, source: Pixel, destination: Pixel, coverage: i64, mask: u8) -> Pixel {
     if coverage == 0 {
         return destination;
     }
     let destination = read(destination);
     let (fs, fd) = mode.factors(source[ALPHA].into(), destination[ALPHA].into());
+    // How much of the pixel the paint takes, in parts of 16 * 255.
+    let share = coverage * i64::from(mask);
     std::array::from_fn(|channel| {
         let (s, d) = (i64::from(source[channel]), i64::from(destination[channel]));
         let blended = ((s * fs + d * fd + 127) / 255).min(255);
-        ((blended * coverage + d * (16 - coverage) + 8) / 16) as u8
+        ((blended * share + d * (4_080 - share) + 2_040) / 4_080) as u8
     })
 }
 

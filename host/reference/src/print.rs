@@ -1,4 +1,4 @@
-//! What the two programs print: a picture or a refusal, as text.
+//! What the two programs print: a picture or a refusal, as text. The programs lend no mask; here one may be.
 
 use std::fmt::Write;
 
@@ -8,9 +8,9 @@ use crate::rules;
 use crate::{draw, redraw};
 
 /// The drawing program's output for a scene file.
-pub fn drawing(scene: &[u8]) -> String {
-    let mut surface = surface_for(scene);
-    let answer = draw(scene, &mut surface, &mut vec![0; SCRATCH_NUMBERS]);
+pub fn drawing(scene: &[u8], mask: Option<&[u8]>) -> String {
+    let mut surface = surface_for(scene, mask);
+    let answer = draw(scene, mask, &mut surface, &mut vec![0; SCRATCH_NUMBERS]);
     if answer.code != ACCEPTED {
         return format!("refused {:04x} {}\n", answer.code, answer.draw);
     }
@@ -18,14 +18,14 @@ pub fn drawing(scene: &[u8]) -> String {
 }
 
 /// The redraw program's output: the old scene drawn in full, then redrawn to the new.
-pub fn redrawing(old: &[u8], new: &[u8]) -> String {
-    let mut surface = surface_for(old);
+pub fn redrawing(old: &[u8], new: &[u8], mask: Option<&[u8]>) -> String {
+    let mut surface = surface_for(old, mask);
     let mut scratch = vec![0; SCRATCH_NUMBERS];
-    let first = draw(old, &mut surface, &mut scratch);
+    let first = draw(old, mask, &mut surface, &mut scratch);
     if first.code != ACCEPTED {
         return refusal_of_redraw(&first, FIRST_SCENE);
     }
-    let answer = redraw(old, new, &mut surface, &mut scratch);
+    let answer = redraw(old, new, mask, &mut surface, &mut scratch);
     if answer.code != ACCEPTED {
         return refusal_of_redraw(&answer, answer.scene);
     }
@@ -37,8 +37,8 @@ fn refusal_of_redraw(answer: &Answer, scene: u32) -> String {
 }
 
 /// A surface of the scene's size, or an empty one if the scene is refused.
-fn surface_for(scene: &[u8]) -> Vec<u8> {
-    vec![0; rules::scene(scene).map_or(0, |scene| scene.surface_bytes())]
+fn surface_for(scene: &[u8], mask: Option<&[u8]>) -> Vec<u8> {
+    vec![0; rules::scene(scene, mask.is_some()).map_or(0, |scene| scene.surface_bytes())]
 }
 
 /// Width and height, then the rows from the top one down, each pixel as 8 hex digits.

@@ -8,24 +8,24 @@ use crate::rules::{self, Draw, Scene};
 /// Redraws a surface that holds `old` so that it holds `new`, writing within the damaged area only.
 ///
 /// A refused call changes nothing. An accepted one leaves the new scene's picture in the area, every byte outside
-/// as it was, and the scratch all zero.
-pub fn redraw(old: &[u8], new: &[u8], surface: &mut [u8], scratch: &mut [i32]) -> Answer {
-    let old = match rules::scene(old) {
+/// as it was, and the scratch all zero. One mask, or none, is lent for both scenes.
+pub fn redraw(old: &[u8], new: &[u8], mask: Option<&[u8]>, surface: &mut [u8], scratch: &mut [i32]) -> Answer {
+    let old = match rules::scene(old, mask.is_some()) {
         Ok(scene) => scene,
         Err(fault) => return fault.answer(FIRST_SCENE),
     };
-    let new = match rules::scene(new) {
+    let new = match rules::scene(new, mask.is_some()) {
         Ok(scene) => scene,
         Err(fault) => return fault.answer(NEW_SCENE),
     };
     if (old.width, old.height) != (new.width, new.height) {
         return Answer::refused(ILLEGAL_ARGUMENT, NO_DRAW, NEW_SCENE);
     }
-    if let Err(refusal) = check_buffers(&new, surface, scratch) {
+    if let Err(refusal) = check_buffers(&new, mask, surface, scratch) {
         return refusal;
     }
     let damage = damage(&old, &new);
-    store(&new, damage, surface);
+    store(&new, mask, damage, surface);
     scratch.fill(0);
     Answer::accepted(damage)
 }

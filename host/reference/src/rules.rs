@@ -23,6 +23,7 @@ const RADIAL: u16 = 0x1B02;
 const FLAG_NON_ZERO: u16 = 1;
 const FLAG_SCISSORING: u16 = 2;
 const FLAG_PREMULTIPLIED: u16 = 4;
+const FLAG_MASKED: u16 = 8;
 
 /// An accepted scene.
 #[derive(Debug)]
@@ -36,7 +37,12 @@ pub struct Scene {
 
 impl Scene {
     pub fn surface_bytes(&self) -> usize {
-        4 * self.width as usize * self.height as usize
+        4 * self.mask_bytes()
+    }
+
+    /// A mask has a byte for each pixel.
+    pub fn mask_bytes(&self) -> usize {
+        self.width as usize * self.height as usize
     }
 }
 
@@ -48,6 +54,8 @@ pub struct Draw {
     pub fill_rule: FillRule,
     /// None with scissoring off.
     pub scissors: Option<Vec<Scissor>>,
+    /// Whether it asks for the mask.
+    pub masked: bool,
     pub blend: Blend,
     pub paint: Paint,
     pub edges: Vec<Edge>,
@@ -60,8 +68,8 @@ pub struct DrawFault {
     pub place: usize,
 }
 
-/// The scene in a file, or its first fault.
-pub fn scene(bytes: &[u8]) -> Result<Scene, Fault> {
+/// The scene in a file, or its first fault; a draw may ask for a mask only where one is lent.
+pub fn scene(bytes: &[u8], mask_lent: bool) -> Result<Scene, Fault> {
     let fault = |code, offset| Fault { code, draw: NO_DRAW, offset };
     if bytes.len() % file::BLOCK != 0 || bytes.len() < file::BLOCK {
         return Err(fault(BAD_LENGTH, 0));
@@ -73,7 +81,7 @@ pub fn scene(bytes: &[u8]) -> Result<Scene, Fault> {
     if bytes.len() != file::length(header.draws) {
         return Err(fault(BAD_LENGTH, 0));
     }
-    let draws = (0..header.draws).map(|i| numbered_draw(bytes, i)).collect::<Result<_, _>>()?;
+    let draws = (0..header.draws).map(|i| numbered_draw(bytes, i, mask_lent)).collect::<Result<_, _>>()?;
     Ok(Scene { width: header.width, height: header.height, background: header.background, draws })
 }
 
@@ -101,21 +109,21 @@ fn header(bytes: &[u8]) -> Result<Header, usize> {
 }
 
 /// The four checks of draw `index`, then the rules on its bytes.
-fn numbered_draw(bytes: &[u8], index: usize) -> Result<Draw, Fault> {
+fn numbered_draw(bytes: &[u8], index: usize, mask_lent: bool) -> Result<Draw, Fault> {
     let fault = |code, offset| Fault { code, draw: index as u32, offset };
     for block in file::first_block(index)..file::first_block(index + 1) {
         if !file::check_holds(bytes, block) {
             return Err(fault(BAD_CHECKSUM, file::check_offset(block)));
         }
     }
-    draw(file::draw_bytes(bytes, index)).map_err(|found| fault(found.code, file::offset(index, found.place)))
+    draw(file::draw_bytes(bytes, index), mask_lent).map_err(|found| fault(found.code, file::offset(index, found.place)))
 }
 
 /// A draw from its joined payloads: fields to the end of the stops, a flat matrix, the path, unused segments and
 /// coordinates.
-pub fn draw(bytes: Vec<u8>) -> Result<Draw, DrawFault> {
+pub fn draw(bytes: Vec<u8>, mask_lent: bool) -> Result<Draw, DrawFault> {
     let illegal = |place| DrawFault { code: ILLEGAL_ARGUMENT, place };
-    let fields = fields(&bytes).map_err(illegal)?;
+    let fields = fields(&bytes, mask_lent).map_err(illegal)?;
 
     require(fields.segments == 0 || !fields.matrix.is_flat(), draw::MATRIX).map_err(illegal)?;
 
@@ -137,6 +145,7 @@ pub fn draw(bytes: Vec<u8>) -> Result<Draw, DrawFault> {
     Ok(Draw {
         fill_rule: fields.fill_rule,
         scissors: fields.scissors,
+        masked: fields.masked,
         blend: fields.blend,
         paint: fields.paint,
         edges: path.edges,
@@ -148,6 +157,7 @@ pub fn draw(bytes: Vec<u8>) -> Result<Draw, DrawFault> {
 struct Fields {
     fill_rule: FillRule,
     scissors: Option<Vec<Scissor>>,
+    masked: bool,
     blend: Blend,
     paint: Paint,
     matrix: Matrix,
@@ -155,10 +165,11 @@ struct Fields {
 }
 
 /// The fields in layout order to the end of the stops, or the first place that breaks a rule.
-fn fields(bytes: &[u8]) -> Result<Fields, usize> {
+fn fields(bytes: &[u8], mask_lent: bool) -> Result<Fields, usize> {
     let flags = u16_at(bytes, draw::FLAGS);
-    let known = FLAG_NON_ZERO | FLAG_SCISSORING | FLAG_PREMULTIPLIED;
-    require(flags & !known == 0, draw::FLAGS)?;
+    let masking = if mask_lent { FLAG_MASKED } else { 0 };
+    let allowed = FLAG_NON_ZERO | FLAG_SCISSORING | FLAG_PREMULTIPLIED | masking;
+    require(flags & !allowed == 0, draw::FLAGS)?;
     let blend = Blend::from_number(u16_at(bytes, draw::BLEND)).ok_or(draw::BLEND)?;
     let paint_type = u16_at(bytes, draw::PAINT);
     require(matches!(paint_type, COLOR | LINEAR | RADIAL), draw::PAINT)?;
@@ -186,6 +197,7 @@ fn fields(bytes: &[u8]) -> Result<Fields, usize> {
     Ok(Fields {
         fill_rule: if flags & FLAG_NON_ZERO != 0 { FillRule::NonZero } else { FillRule::EvenOdd },
         scissors: (flags & FLAG_SCISSORING != 0).then_some(scissors),
+        masked: flags & FLAG_MASKED != 0,
         blend,
         paint,
         matrix,

@@ -1,7 +1,7 @@
 //! The paper's bench cases, each at the reference's own functions.
 
 use reference::answer::{BAD_CHECKSUM, BAD_LENGTH, ILLEGAL_ARGUMENT, NO_DRAW, OUT_OF_MEMORY, UNSUPPORTED_IMAGE_FORMAT};
-use reference::blend::{composite, Blend};
+use reference::blend::{composite, Blend, UNMASKED};
 use reference::coverage::{coverage, FillRule};
 use reference::paint::{channel_byte, premultiply, LinearGradient, Ramp, Spread, Stop};
 use reference::path::{cut, walk, Matrix, Point};
@@ -28,7 +28,7 @@ fn covered(path: &Path, tx: f32, rule: FillRule, x: i64) -> i64 {
 
 fn drawn(scene: &Scene) -> Vec<u8> {
     let mut surface = vec![0x5A; scene.surface_bytes()];
-    let answer = draw(&scene.bytes(), &mut surface, &mut vec![7; SCRATCH_NUMBERS]);
+    let answer = draw(&scene.bytes(), None, &mut surface, &mut vec![7; SCRATCH_NUMBERS]);
     assert_eq!(answer.code, 0);
     surface
 }
@@ -37,7 +37,7 @@ fn drawn(scene: &Scene) -> Vec<u8> {
 fn c1_half_a_pixel() {
     let k = [0, 1, 2].map(|x| covered(&square(1), 0.5, FillRule::EvenOdd, x));
     assert_eq!(k, [8, 8, 0]);
-    assert_eq!(composite(Blend::SrcOver, [255; 4], [0, 0, 0, 255], 8), [128, 128, 128, 255]);
+    assert_eq!(composite(Blend::SrcOver, [255; 4], [0, 0, 0, 255], 8, UNMASKED), [128, 128, 128, 255]);
 }
 
 #[test]
@@ -54,7 +54,7 @@ fn c3_twice_round() {
 
 #[test]
 fn c4_source_over() {
-    assert_eq!(composite(Blend::SrcOver, [100, 0, 0, 128], [200, 0, 0, 255], 16)[0], 200);
+    assert_eq!(composite(Blend::SrcOver, [100, 0, 0, 128], [200, 0, 0, 255], 16, UNMASKED)[0], 200);
 }
 
 #[test]
@@ -109,7 +109,7 @@ fn c11_halves_of_a_unit() {
 fn c12_the_two_by_one_scene() {
     let bytes = Scene::new(2, 1, [0, 0, 0, 255]).bytes();
     assert_eq!(file::checksum(0, &bytes[..file::PAYLOAD]), (65_283, 64_079));
-    assert_eq!(print::drawing(&bytes), "2 1\n000000ff 000000ff\n");
+    assert_eq!(print::drawing(&bytes, None), "2 1\n000000ff 000000ff\n");
 }
 
 #[test]
@@ -121,13 +121,13 @@ fn a_square_turned_blue() {
     };
     let (old, new) = (of(RED), of(BLUE));
     let mut surface = drawn(&old);
-    let answer = redraw(&old.bytes(), &new.bytes(), &mut surface, &mut vec![7; SCRATCH_NUMBERS]);
+    let answer = redraw(&old.bytes(), &new.bytes(), None, &mut surface, &mut vec![7; SCRATCH_NUMBERS]);
     assert_eq!(answer, Answer::accepted(Rectangle { x: 0, y: 0, width: 3, height: 3 }));
     assert_eq!(surface, drawn(&new));
 }
 
 fn fault_of(scene: &Scene) -> Result<(), Fault> {
-    rules::scene(&scene.bytes()).map(|_| ())
+    rules::scene(&scene.bytes(), false).map(|_| ())
 }
 
 /// A one-pixel scene with this path as its only draw.
@@ -148,7 +148,7 @@ fn segments_128_and_129() {
     let mut bytes = full.bytes();
     bytes[scene::file_offset(0, 8)] = 129;
     scene::seal(&mut bytes);
-    assert_eq!(rules::scene(&bytes).map(|_| ()), illegal(8));
+    assert_eq!(rules::scene(&bytes, false).map(|_| ()), illegal(8));
 }
 
 #[test]
@@ -161,11 +161,12 @@ fn coordinates_566_and_567() {
 }
 
 #[test]
-fn scratch_and_surface_lengths() {
+fn scratch_surface_and_mask_lengths() {
     let scene = Scene::new(3, 2, [1, 2, 3, 255]);
-    let answers = |surface: usize, scratch: usize| {
+    let answers = |surface: usize, mask: Option<usize>, scratch: usize| {
         let mut buffers = (vec![0x5A; surface], vec![7; scratch]);
-        let answer = draw(&scene.bytes(), &mut buffers.0, &mut buffers.1);
+        let mask = mask.map(|length| vec![9; length]);
+        let answer = draw(&scene.bytes(), mask.as_deref(), &mut buffers.0, &mut buffers.1);
         if answer.code != 0 {
             assert_eq!(buffers, (vec![0x5A; surface], vec![7; scratch]));
         } else {
@@ -174,11 +175,18 @@ fn scratch_and_surface_lengths() {
         answer
     };
     let refused = |code| Answer::refused(code, NO_DRAW, 0);
-    assert_eq!(answers(24, 12_300).code, 0);
-    assert_eq!(answers(24, 20_000).code, 0);
-    assert_eq!(answers(24, 12_299), refused(OUT_OF_MEMORY));
-    assert_eq!(answers(23, 12_300), refused(UNSUPPORTED_IMAGE_FORMAT));
-    assert_eq!(answers(25, 12_299), refused(UNSUPPORTED_IMAGE_FORMAT));
+    for mask in [None, Some(6)] {
+        assert_eq!(answers(24, mask, 12_300).code, 0);
+        assert_eq!(answers(24, mask, 20_000).code, 0);
+        assert_eq!(answers(24, mask, 12_299), refused(OUT_OF_MEMORY));
+        assert_eq!(answers(23, mask, 12_300), refused(UNSUPPORTED_IMAGE_FORMAT));
+        assert_eq!(answers(25, mask, 12_299), refused(UNSUPPORTED_IMAGE_FORMAT));
+    }
+    // The mask is looked at before the scratch, also where no draw asks for it.
+    for length in [0, 5, 7, 24] {
+        assert_eq!(answers(24, Some(length), 12_300), refused(UNSUPPORTED_IMAGE_FORMAT));
+        assert_eq!(answers(24, Some(length), 12_299), refused(UNSUPPORTED_IMAGE_FORMAT));
+    }
 }
 
 #[test]
@@ -201,7 +209,7 @@ fn a_relative_step_out_of_range() {
 #[test]
 fn lengths_and_checks() {
     let bytes = with_path(square(1)).bytes();
-    let of = |bytes: &[u8]| rules::scene(bytes).map(|_| ());
+    let of = |bytes: &[u8]| rules::scene(bytes, false).map(|_| ());
     let whole = |code, offset| Err(Fault { code, draw: NO_DRAW, offset });
     assert_eq!(of(&[]), whole(BAD_LENGTH, 0));
     assert_eq!(of(&bytes[..511]), whole(BAD_LENGTH, 0));

@@ -19,12 +19,12 @@ fn a_block_out_of_place_is_refused() {
     let mut tried = 0;
     for path in files() {
         let file = fs::read(&path).expect("a scene");
-        if rules::scene(&file).is_err() {
+        if rules::scene(&file, false).is_err() {
             continue;
         }
         for case in places::cases(&file) {
             let expected = case.fault.map(|fault| Fault { code: fault.code, draw: fault.draw, offset: fault.offset });
-            let found = rules::scene(&case.bytes).map(|_| ()).err();
+            let found = rules::scene(&case.bytes, false).map(|_| ()).err();
             assert_eq!(found, expected, "{}: {}", path.display(), case.name);
             tried += 1;
         }

@@ -3,14 +3,14 @@
 use std::fs;
 use std::path::Path;
 
-use generate::steps::{self, Pixel, Step, MODES, MOST_COVERAGE, NO_COVERAGES, NO_MODES};
-use generate::{scenes, Random};
+use generate::steps::{self, Pixel, Step, MODES, MOST_COVERAGE, MOST_MASK, NO_COVERAGES, NO_MASKS, NO_MODES};
+use generate::{masks, scenes, Random};
 use reference::answer::{ACCEPTED, ILLEGAL_ARGUMENT};
 use reference::blend::step;
 use reference::picture::SCRATCH_NUMBERS;
 
 fn called(s: &Step) -> (u32, Pixel) {
-    step(s.mode, s.coverage, s.source, s.destination)
+    step(s.mode, s.coverage, s.mask, s.source, s.destination)
 }
 
 /// Whether no colour is above its alpha.
@@ -20,11 +20,13 @@ fn is_sound(pixel: Pixel) -> bool {
 
 #[test]
 fn vectors() {
-    let path = Path::new(env!("CARGO_MANIFEST_DIR")).join("../../tests/vectors/step/P02.txt");
-    let cases = steps::cases(&fs::read_to_string(path).expect("the cases of the step"));
-    assert_eq!(cases.len(), 400);
-    for case in cases {
-        assert_eq!(called(&case.step), (case.code, case.pixel), "{:x?}", case.step);
+    let folder = Path::new(env!("CARGO_MANIFEST_DIR")).join("../../tests/vectors/step");
+    for (name, count) in [("P02.txt", 400), ("P06.txt", 600)] {
+        let cases = steps::cases(&fs::read_to_string(folder.join(name)).expect("the cases of the step"));
+        assert_eq!(cases.len(), count, "{name}");
+        for case in cases {
+            assert_eq!(called(&case.step), (case.code, case.pixel), "{:x?}", case.step);
+        }
     }
 }
 
@@ -32,11 +34,13 @@ fn vectors() {
 #[test]
 fn refusals() {
     let mut random = Random::new(11);
-    let modes = NO_MODES.iter().flat_map(|&mode| (0..=20).map(move |coverage| (mode, coverage)));
-    let coverages = MODES.iter().flat_map(|&mode| NO_COVERAGES.map(|coverage| (mode, coverage)));
-    for (mode, coverage) in modes.chain(coverages) {
+    let modes = NO_MODES.iter().flat_map(|&mode| (0..=20).map(move |coverage| (mode, coverage, 255)));
+    let coverages = MODES.iter().flat_map(|&mode| NO_COVERAGES.map(|coverage| (mode, coverage, 128)));
+    let masks = MODES.iter().flat_map(|&mode| NO_MASKS.map(|mask| (mode, 16, mask)));
+    for (mode, coverage, mask) in modes.chain(coverages).chain(masks) {
         let (source, destination) = (steps::pixel(&mut random), steps::pixel(&mut random));
-        assert_eq!(step(mode, coverage, source, destination), (ILLEGAL_ARGUMENT, destination), "{mode:x} {coverage}");
+        let refused = (ILLEGAL_ARGUMENT, destination);
+        assert_eq!(step(mode, coverage, mask, source, destination), refused, "{mode:x} {coverage} {mask}");
     }
 }
 
@@ -47,12 +51,14 @@ fn calls(seed: u64, times: usize) -> impl Iterator<Item = Step> {
     (0..times).flat_map(move |_| all()).map(move |(mode, coverage)| Step {
         mode,
         coverage,
+        mask: steps::mask(&mut random),
         source: steps::pixel(&mut random),
         destination: steps::pixel(&mut random),
     })
 }
 
-/// With no coverage a pixel stays as it is, stray or not. Else, if the paint is sound, so is what is stored.
+/// With no coverage a pixel stays as it is, stray or not. Else, if the paint is sound, so is what is stored; under a mask's
+/// byte of 0 that is the destination, clamped.
 #[test]
 fn what_is_stored_is_sound() {
     for s in calls(12, 2_000) {
@@ -63,11 +69,14 @@ fn what_is_stored_is_sound() {
         } else if is_sound(s.source) {
             assert!(is_sound(pixel), "{s:x?}: {pixel:x?}");
         }
+        if s.coverage > 0 && s.mask == 0 {
+            assert_eq!(pixel, s.destination.map(|channel| channel.min(s.destination[3])));
+        }
     }
 }
 
-/// The formulas with the destination as it stands, as paper 01 had them.
-fn unclamped(s: &Step) -> Pixel {
+/// The formulas without a mask, and with the destination as it stands, as paper 01 had them.
+fn as_paper_01(s: &Step) -> Pixel {
     let (source_alpha, alpha) = (i64::from(s.source[3]), i64::from(s.destination[3]));
     let (fs, fd) = match s.mode {
         0x2000 => (255, 0),
@@ -84,20 +93,32 @@ fn unclamped(s: &Step) -> Pixel {
     })
 }
 
-/// The clamp changes nothing where the destination is sound, and something where it is not.
+/// Where the mask's byte is 255 and the destination sound, both are paper 01's formulas; a stray one is stored otherwise.
 #[test]
 fn only_stray_pixels_are_stored_otherwise() {
     let (mut stray, mut changed) = (0, 0);
     for s in calls(13, 2_000) {
+        let s = Step { mask: MOST_MASK, ..s };
         let pixel = called(&s).1;
         if is_sound(s.destination) {
-            assert_eq!(pixel, unclamped(&s), "{s:x?}");
+            assert_eq!(pixel, as_paper_01(&s), "{s:x?}");
         } else {
             stray += 1;
-            changed += usize::from(pixel != unclamped(&s));
+            changed += usize::from(pixel != as_paper_01(&s));
         }
     }
     assert!(changed > stray / 3, "{changed} of {stray}");
+}
+
+/// With a mask's byte of 255 the two formulas for the stored byte agree, for every blended byte, destination and coverage.
+#[test]
+fn a_full_mask_is_the_old_formula() {
+    for (blended, d) in (0..=255_i64).flat_map(|blended| (0..=255).map(move |d| (blended, d))) {
+        for k in 0..=16 {
+            let masked = (blended * k * 255 + d * (4_080 - k * 255) + 2_040) / 4_080;
+            assert_eq!(masked, (blended * k + d * (16 - k) + 8) / 16);
+        }
+    }
 }
 
 /// No draw of a scene meets a stray pixel: after each number of draws the whole picture is sound.
@@ -105,10 +126,12 @@ fn only_stray_pixels_are_stored_otherwise() {
 fn scenes_meet_no_stray_pixel() {
     let mut pictures = 0;
     for seed in 0..300 {
-        let mut scene = scenes::scene(&mut Random::new(seed), 24, 6);
+        let mut random = Random::new(seed);
+        let mut scene = scenes::scene(&mut random, 24, 6);
+        let mask = masks::mask(&mut random, scene.width, scene.height);
         loop {
-            let mut surface = vec![0xA5; scene.surface_bytes()];
-            if reference::draw(&scene.bytes(), &mut surface, &mut vec![0; SCRATCH_NUMBERS]).code == ACCEPTED {
+            let (mut surface, mut scratch) = (vec![0xA5; scene.surface_bytes()], vec![0; SCRATCH_NUMBERS]);
+            if reference::draw(&scene.bytes(), Some(&mask), &mut surface, &mut scratch).code == ACCEPTED {
                 assert!(surface.chunks(4).all(|p| is_sound([p[0], p[1], p[2], p[3]])), "seed {seed}");
                 pictures += 1;
             }

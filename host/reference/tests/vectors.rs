@@ -1,4 +1,5 @@
-//! The vectors of tests/vectors: what the two programs print, and the offset of each edge case's fault.
+//! The vectors of tests/vectors: what the two programs print, what they would print if they lent a mask, and the offset
+//! of each edge case's fault.
 
 use std::fs;
 use std::path::{Path, PathBuf};
@@ -35,7 +36,7 @@ fn draws() {
     let scenes = files("draw", "scene");
     assert_eq!(scenes.len(), 226);
     for scene in scenes {
-        check(&scene, &print::drawing(&read(&scene)));
+        check(&scene, &print::drawing(&read(&scene), None));
     }
 }
 
@@ -45,7 +46,26 @@ fn redraws() {
     assert_eq!(pairs.len(), 19);
     for old in pairs {
         let new = read(&old.with_extension("new"));
-        check(&old, &print::redrawing(&read(&old), &new));
+        check(&old, &print::redrawing(&read(&old), &new, None));
+    }
+}
+
+#[test]
+fn draws_with_a_mask() {
+    let scenes = files("mask", "scene");
+    assert_eq!(scenes.len(), 14);
+    for scene in scenes {
+        check(&scene, &print::drawing(&read(&scene), Some(&read(&scene.with_extension("mask")))));
+    }
+}
+
+#[test]
+fn redraws_with_a_mask() {
+    let pairs = files("mask", "old");
+    assert_eq!(pairs.len(), 7);
+    for old in pairs {
+        let (new, mask) = (read(&old.with_extension("new")), read(&old.with_extension("mask")));
+        check(&old, &print::redrawing(&read(&old), &new, Some(&mask)));
     }
 }
 
@@ -62,7 +82,7 @@ fn faults_of_the_edge_cases() {
         };
         let code = u32::from_str_radix(code, 16).expect("a code");
         let scene = read(&vectors().join(format!("draw/edge-{number}.scene")));
-        let found = rules::scene(&scene).map(|_| ());
+        let found = rules::scene(&scene, false).map(|_| ());
         let expected = match code {
             0 => Ok(()),
             code => Err(reference::Fault {

@@ -90,6 +90,8 @@ pub struct Draw {
     pub fill_rule: FillRule,
     pub scissoring: bool,
     pub premultiplied_ramp: bool,
+    /// Whether the draw asks for the mask that is lent with the scene.
+    pub masked: bool,
     pub blend: Blend,
     pub paint: PaintType,
     pub spread: Spread,
@@ -111,6 +113,7 @@ impl Default for Draw {
             fill_rule: FillRule::default(),
             scissoring: false,
             premultiplied_ramp: false,
+            masked: false,
             blend: Blend::default(),
             paint: PaintType::default(),
             spread: Spread::default(),
@@ -132,7 +135,12 @@ impl Scene {
 
     /// The bytes that a surface for this scene has.
     pub fn surface_bytes(&self) -> usize {
-        4 * usize::from(self.width) * usize::from(self.height)
+        4 * self.mask_bytes()
+    }
+
+    /// The bytes that a mask for this scene has.
+    pub fn mask_bytes(&self) -> usize {
+        usize::from(self.width) * usize::from(self.height)
     }
 
     /// The scene file.
@@ -167,7 +175,8 @@ impl Draw {
         let mut bytes = [0; DRAW_BYTES];
         let flags = u16::from(self.fill_rule == FillRule::NonZero)
             | u16::from(self.scissoring) << 1
-            | u16::from(self.premultiplied_ramp) << 2;
+            | u16::from(self.premultiplied_ramp) << 2
+            | u16::from(self.masked) << 3;
         let numbers = [flags, 0x2000 + self.blend as u16, 0x1B00 + self.paint as u16, 0x1C00 + self.spread as u16];
         for (i, number) in numbers.iter().enumerate() {
             put(&mut bytes, 2 * i, &number.to_le_bytes());

@@ -1,4 +1,3 @@
-use Rattle.scene.proofs.Accepted.{accepted-draw}
 use Rattle.scene.specs.Blocks.{drawOf}
 use Rattle.scene.specs.Accepted.{AcceptedDraw}
 use native.Mathlib.Omega.{arith}
@@ -39,7 +38,7 @@ draw-bounds-requires c κs =
     let entry = after-count .before .before in
     let a = entry .args in
     let e = entry .pre .0 .draws (a .i) (omega (arith, after-count .count .ensures .0, branch .if1 .left)) in (
-      (after-read-draw .read-draw .kept .1 .1 .0, subst AcceptedDraw (sym (after-read-draw .read-draw .ensures)) (accepted-draw (drawOf (a .s .now) (a .i)) e)),
+      (after-read-draw .read-draw .kept .1 .1 .0, subst AcceptedDraw (sym (after-read-draw .read-draw .ensures)) e),
       entry .pre .1,
     )
 

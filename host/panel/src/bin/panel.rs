@@ -1,4 +1,4 @@
-//! Writes the panel's scene files into the folder named as the argument.
+//! Writes the panel's scene files and its mask into the folder named as the argument.
 
 use std::path::Path;
 use std::{env, fs, process};
@@ -12,12 +12,18 @@ fn main() {
             process::exit(2);
         }
     };
-    for (name, scene) in panel::files() {
+    let write = |name: &str, bytes: &[u8]| {
         let path = Path::new(folder).join(name);
-        if let Err(error) = fs::write(&path, scene.bytes()) {
+        if let Err(error) = fs::write(&path, bytes) {
             eprintln!("{}: {error}", path.display());
             process::exit(2);
         }
-        println!("{}: {} by {}, {} draws", path.display(), scene.width, scene.height, scene.draws.len());
+        path.display().to_string()
+    };
+    for (name, scene) in panel::files() {
+        let path = write(name, &scene.bytes());
+        println!("{path}: {} by {}, {} draws", scene.width, scene.height, scene.draws.len());
     }
+    let (name, mask) = panel::mask_file();
+    println!("{}: {} bytes", write(name, &mask), mask.len());
 }

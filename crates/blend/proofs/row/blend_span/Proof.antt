@@ -7,13 +7,13 @@ use Rattle.color.specs.declared.Pixel.{Pixel}
 use Rattle.raster.specs.Surface.{pixelIn}
 use Rattle.raster.specs.Rows.{Stored}
 use Rattle.raster.proofs.Runs.{stored-none, stored-step, stored-all}
-use Rattle.blend.specs.PorterDuff.{compositeOn}
+use Rattle.blend.specs.Unmasked.{unmaskedOn}
 use borrow.Author.Needs.{needs}
 use Rattle.blend.proofs.row.blend_span.Statement.{statement}
 use Rattle.blend.proofs.row.blend_span.Tie as tie
 
 abbrev Inv-loop : tie.InvT-loop
-Inv-loop mode coverage src row₀ n i₀ row i = (i ≤ n) × Stored (λ j. compositeOn mode coverage src (pixelIn row₀ j)) row₀ i row
+Inv-loop mode coverage src row₀ n i₀ row i = (i ≤ n) × Stored (λ j. unmaskedOn mode coverage src (pixelIn row₀ j)) row₀ i row
 
 abbrev μ-loop : tie.MeasureT-loop
 μ-loop mode coverage src row₀ n i₀ row i = n - i
@@ -44,7 +44,7 @@ loop-again c =
     let at-loop = after-pixel .before .before .before in
     let entry = at-loop .before .before in
     let a = entry .args in
-    let step : ℕ → Pixel → Pixel = λ j. compositeOn (a .mode) (a .coverage) (a .src) in
+    let step : ℕ → Pixel → Pixel = λ j. unmaskedOn (a .mode) (a .coverage) (a .src) in
     let made = after-blend-pixel .blend-pixel in
     let put = after-put-pixel .put-pixel in (
       search needs,

@@ -8,15 +8,16 @@ use Rattle.color.specs.declared.Pixel.{Pixel}
 use Rattle.raster.specs.Surface.{pixelIn}
 use Rattle.raster.specs.Rows.{Stored}
 use Rattle.raster.proofs.Runs.{stored-none, stored-all}
-use Rattle.blend.specs.PorterDuff.{compositeOn}
+use Rattle.blend.specs.Unmasked.{unmaskedOn}
 use Rattle.blend.proofs.Spans.{span-turn}
+use Rattle.blend.proofs.Masks.{whole-mask-row}
 use borrow.Author.Needs.{needs}
 use Rattle.blend.proofs.row.composite_run.Statement.{statement}
 use Rattle.blend.proofs.row.composite_run.Tie as tie
 
 abbrev Inv-loop : tie.InvT-loop
 Inv-loop mode coverage src row₀ i₀ row i =
-    (i ≤ length coverage) × Stored (λ j. compositeOn mode (getD coverage j 0) src (pixelIn row₀ j)) row₀ i row
+    (i ≤ length coverage) × Stored (λ j. unmaskedOn mode (getD coverage j 0) src (pixelIn row₀ j)) row₀ i row
 
 abbrev μ-loop : tie.MeasureT-loop
 μ-loop mode coverage src row₀ i₀ row i = length coverage - i
@@ -77,7 +78,7 @@ loop-again c =
     let span = after-span-end .span-end in
     let call = after-composite-span .composite-span in (
       span .ensures .within,
-      span-turn (λ k p. compositeOn (a .mode) k (a .src) p) (a .coverage .now) (l .row) (a .row .now) (call .last .1 .1 .1 .0) (l .i) (span .result)
+      span-turn (λ k p. unmaskedOn (a .mode) k (a .src) p) (a .coverage .now) (l .row) (a .row .now) (call .last .1 .1 .1 .0) (l .i) (span .result)
           (span .ensures)
           (omega arith) (l .inv .1) (call .ensures),
     )
@@ -88,7 +89,9 @@ same-length c = search needs
 returns : tie.Need-returns Inv-loop μ-loop
 returns c =
     let entry = c .before .before .before .before in
-    stored-all (c .before .loop .inv .1) (length (entry .args .coverage .now)) (omega arith) (entry .pre .0)
+    let a = entry .args in
+    whole-mask-row (a .mode) (a .coverage .now) (λ i. a .src) (a .row .now) (c .before .loop .row) (entry .pre .1)
+    (stored-all (c .before .loop .inv .1) (length (a .coverage .now)) (omega arith) (entry .pre .0))
 
 pub composite-run-spec : {M : Type 1} → statement M
 composite-run-spec =

@@ -4,7 +4,8 @@ use Prim.Native.Nat.{_<_}
 use native.Mathlib.Omega.{arith}
 use borrow.Author.Needs.{needs}
 use Rattle.raster.specs.Surface.{pixelIn}
-use Rattle.blend.specs.PorterDuff.{sourceFactor, destinationFactor, compositeOn}
+use Rattle.blend.specs.PorterDuff.{sourceFactor, destinationFactor}
+use Rattle.blend.specs.Unmasked.{unmaskedOn}
 use Rattle.blend.specs.Spans.{blendedPixel}
 use Rattle.blend.proofs.Shortcuts.{uncovered-stores, hiding-replaces, covered-stores}
 use Rattle.raster.proofs.Runs.{run-is, run-same}
@@ -16,7 +17,7 @@ returns c =
     let entry = c .before .before in
     let a = entry .args in
     rw (c .if1 .taken)
-    (run-is (a .n) (λ i. compositeOn (a .mode) 0 (a .src) (pixelIn (a .row .now) i)) (a .row .now) (omega arith)
+    (run-is (a .n) (λ i. unmaskedOn (a .mode) 0 (a .src) (pixelIn (a .row .now) i)) (a .row .now) (omega arith)
     (λ i l. sym (uncovered-stores (a .mode) (a .src) (pixelIn (a .row .now) i))))
 
 fill-row-requires : tie.Need-fill-row-requires
@@ -40,7 +41,7 @@ returns-2 c =
     let b = source-bytes entry in
     after-fill-row .fill-row .ensures
     ∙ rw (then2 .if2 .taken)
-    (run-same (a .n) (λ i. a .src) (λ i. compositeOn (a .mode) 16 (a .src) (pixelIn (a .row .now) i))
+    (run-same (a .n) (λ i. a .src) (λ i. unmaskedOn (a .mode) 16 (a .src) (pixelIn (a .row .now) i))
     (λ i l. sym (hiding-replaces (a .mode) (a .src) (pixelIn (a .row .now) i) (b .0) (b .1) (b .2) (b .3) h)))
 
 blend-covered-requires : tie.Need-blend-covered-requires
@@ -63,7 +64,7 @@ returns-3 c =
     after-blend-covered .blend-covered .ensures
     ∙ rw (after-destination-factor .destination-factor .ensures, after-source-factor .source-factor .ensures, then2 .if2 .taken)
     (run-same (a .n) (λ i. blendedPixel (a .src) (sourceFactor (a .mode) 0) (pixelIn (a .row .now) i) (destinationFactor (a .mode) (a .src .a)))
-    (λ i. compositeOn (a .mode) 16 (a .src) (pixelIn (a .row .now) i))
+    (λ i. unmaskedOn (a .mode) 16 (a .src) (pixelIn (a .row .now) i))
     (λ i l. covered-stores (a .mode) (a .src) (pixelIn (a .row .now) i) h))
 
 blend-span-requires : tie.Need-blend-span-requires

@@ -4,7 +4,7 @@ use mathlib.Core.Bool.{Bool, true, false, _&&_}
 use Prim.Native.Nat.{ℕ, _<_}
 use native.Mathlib.Omega.{arith}
 use borrow.Author.Needs.{needs}
-use borrow.Author.Tests.{lt-leb}
+use borrow.Author.Tests.{le-leb, lt-leb, not-true, not-false}
 use lib.Dec.{leb}
 use Rattle.blend.specs.PorterDuff.{modeSrc, modeDstIn, isMode}
 use Rattle.blend.proofs.step.accepts.Statement.{statement}
@@ -24,10 +24,20 @@ cast-is-mode : tie.Need-cast-is-mode
 cast-is-mode c = search needs
 
 returns-2 : tie.Need-returns-2
-returns-2 c = rw (sym (c .before .is-mode .ensures) ∙ c .if2 .taken)
+returns-2 c = rw (sym (c .before .is-mode .ensures) ∙ not-true _ (c .if2 .taken))
+
+mode : (c : tie.Else2) → isMode (c .before .before .before .args .mode) ≡ true
+mode c = sym (c .before .is-mode .ensures) ∙ not-false _ (c .if2 .left)
 
 returns-3 : tie.Need-returns-3
-returns-3 c = rw (sym (c .before .is-mode .ensures) ∙ c .if2 .left)
+returns-3 c =
+    let named = c .before in
+    rw (mode named, le-leb (named .before .before .before .args .coverage) 16 (c .if3 .taken))
+
+returns-4 : tie.Need-returns-4
+returns-4 c =
+    let named = c .before in
+    rw (mode named, lt-leb (named .before .before .before .args .coverage) 16 (c .if3 .left))
 
 pub accepts-spec : {M : Type 1} → statement M
-accepts-spec = tie.close (tie.spec returns cast-is-mode (λ c κs. tt) returns-2 returns-3)
+accepts-spec = tie.close (tie.spec returns cast-is-mode (λ c κs. tt) returns-2 returns-3 returns-4)

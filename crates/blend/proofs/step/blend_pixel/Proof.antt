@@ -1,10 +1,10 @@
 -- `blend::blend_pixel` meets its contract, channel by channel. Assumes nothing.
-use Rattle.blend.specs.PorterDuff.{compositeByte}
+use Rattle.blend.specs.Unmasked.{unmaskedByte}
 use Rattle.blend.proofs.step.blend_pixel.Statement.{statement}
 use Rattle.blend.proofs.step.blend_pixel.Tie as tie
 
 returns : tie.Need-returns
-unfolding compositeByte
+unfolding unmaskedByte
 returns c =
     let after-stored-byte2 = c .before .before in
     let after-stored-byte = after-stored-byte2 .before in

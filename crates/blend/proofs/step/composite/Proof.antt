@@ -10,28 +10,20 @@ use Rattle.blend.proofs.step.composite.Statement.{statement}
 use Rattle.blend.proofs.step.composite.Tie as tie
 
 accepted : (c : tie.Then1)
-    → let entry = c .before .before in (isMode (entry .args .mode) && leb (entry .args .coverage) 16) ≡ true
+    → let a = c .before .before .args in (isMode (a .mode) && (leb (a .coverage) 16 && leb (a .mask) 255)) ≡ true
 accepted c = sym (c .before .accepts .ensures) ∙ c .if1 .taken
 
--- so mode and coverage are small, and nothing is cut when they are made narrow
-small : (c : tie.Then1) → let entry = c .before .before in (entry .args .mode ≤ modeDstIn) × (entry .args .coverage ≤ 16)
+-- so all three are small, and nothing is cut when they are made narrow
+small : (c : tie.Then1) → let a = c .before .before .args in (a .mode ≤ modeDstIn) × (a .coverage ≤ 16) × (a .mask ≤ 255)
 small c =
-    let entry = c .before .before in
-    let a = entry .args in
-    let both = subst T (sym (accepted c)) tt in
-    let mode = both-left (isMode (a .mode)) (leb (a .coverage) 16) both in (
+    let a = c .before .before .args in
+    let all = subst T (sym (accepted c)) tt in
+    let mode = both-left (isMode (a .mode)) (leb (a .coverage) 16 && leb (a .mask) 255) all in
+    let rest = both-right (isMode (a .mode)) (leb (a .coverage) 16 && leb (a .mask) 255) all in (
       leb→le (a .mode) modeDstIn (both-right (leb modeSrc (a .mode)) (leb (a .mode) modeDstIn) mode),
-      leb→le (a .coverage) 16 (both-right (isMode (a .mode)) (leb (a .coverage) 16) both),
+      leb→le (a .coverage) 16 (both-left (leb (a .coverage) 16) (leb (a .mask) 255) rest),
+      leb→le (a .mask) 255 (both-right (leb (a .coverage) 16) (leb (a .mask) 255) rest),
     )
-
-cast-composite-pixel : tie.Need-cast-composite-pixel
-cast-composite-pixel c = omega (arith, small c .0)
-
-cast-composite-pixel-2 : tie.Need-cast-composite-pixel-2
-cast-composite-pixel-2 c = omega (arith, small c .1)
-
-composite-pixel-requires : tie.Need-composite-pixel-requires
-composite-pixel-requires c κs = small c .1
 
 returns : tie.Need-returns
 returns c = rw (accepted (c .before), c .composite-pixel .ensures)
@@ -41,4 +33,12 @@ returns-2 c = rw (sym (c .before .accepts .ensures) ∙ c .if1 .left)
 
 pub composite-spec : {M : Type 1} → statement M
 composite-spec =
-    tie.close (tie.spec (λ c κs. tt) cast-composite-pixel cast-composite-pixel-2 composite-pixel-requires returns returns-2)
+    tie.close
+    (tie.spec
+    (λ c κs. tt)
+    (λ c. omega (arith, small c .0))
+    (λ c. omega (arith, small c .1))
+    (λ c. omega (arith, small c .2))
+    (λ c κs. small c .1)
+    returns
+    returns-2)

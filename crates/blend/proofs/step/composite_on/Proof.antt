@@ -1,30 +1,23 @@
--- `blend::composite_on` meets its contract: what it answers without arithmetic is the same by the channel's laws. Assumes nothing.
+-- `blend::composite_on` meets its contract: a whole mask is none, and where no sample is covered the pixel stays. Assumes nothing.
 use mathlib.Core.Path.{sym, _∙_}
-use native.Mathlib.Omega.{arith}
 use borrow.Author.Needs.{needs}
-use Rattle.blend.proofs.Shortcuts.{uncovered-stores, hiding-replaces}
+use Rattle.blend.proofs.Masks.{whole-mask-step, uncovered-masked}
 use Rattle.blend.proofs.step.composite_on.Statement.{statement}
 use Rattle.blend.proofs.step.composite_on.Tie as tie
 
 returns : tie.Need-returns
 returns c =
-    let entry = c .before in
-    rw (c .if1 .taken) (sym (uncovered-stores (entry .args .mode) (entry .args .src) (entry .args .read)))
+    let entry = c .before .before in
+    let a = entry .args in
+    rw (c .before .if1 .taken) (c .unmasked-on .ensures ∙ whole-mask-step (a .mode) (a .coverage) (a .src) (a .read) (entry .pre))
 
 returns-2 : tie.Need-returns-2
 returns-2 c =
-    let then2 = c .before .before in
-    let entry = then2 .before .before in
-    let a = entry .args in
-    rw (then2 .if2 .taken)
-    (sym (hiding-replaces (a .mode) (a .src) (a .read) (omega arith) (omega arith) (omega arith) (omega arith) (sym (c .before .hides .ensures)
-    ∙ c .if3 .taken)))
-
-blend-pixel-requires : tie.Need-blend-pixel-requires
-blend-pixel-requires c κs = search needs
+    let a = c .before .before .args in
+    rw (c .if2 .taken) (sym (uncovered-masked (a .mode) (a .mask) (a .src) (a .read)))
 
 returns-3 : tie.Need-returns-3
-returns-3 c = c .blend-pixel .ensures
+returns-3 c = c .masked-pixel .ensures
 
 pub composite-on-spec : {M : Type 1} → statement M
-composite-on-spec = tie.close (tie.spec returns (λ c κs. tt) returns-2 blend-pixel-requires returns-3)
+composite-on-spec = tie.close (tie.spec (λ c κs. search needs) returns returns-2 (λ c κs. search needs) returns-3)

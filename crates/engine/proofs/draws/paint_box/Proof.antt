@@ -3,7 +3,7 @@ use mathlib.Core.Path.{_≡_, refl, sym, ap, _∙_}
 use native.Mathlib.Omega.{arith}
 use Rattle.rect.specs.Rects.{meetOf}
 use Rattle.path.specs.Boxes.{boxOf}
-use Rattle.engine.specs.Picture.{drawEdges}
+use Rattle.engine.specs.Picture.{drawEdges, maskAt}
 use Rattle.engine.proofs.Steps.{box-enough, box-none, box-part}
 use borrow.Author.Needs.{needs}
 use Rattle.engine.proofs.draws.paint_box.Statement.{statement}
@@ -11,19 +11,19 @@ use Rattle.engine.proofs.draws.paint_box.Tie as tie
 
 -- the rectangle that is left
 met : (c : tie.After-meet)
-    → let entry = c .before .before .before .before .before in
+    → let entry = c .before .before .before .before .before .before in
     let a = entry .args in let t = a .target in c .meet .result ≡ meetOf (t .area) (boxOf (t .width) (t .height) (drawEdges (a .d .now)))
 met c =
-    let entry = c .before .before .before .before .before in
+    let entry = c .before .before .before .before .before .before in
     let t = entry .args .target in
     c .meet .ensures ∙ ap (meetOf (t .area)) (c .before .bounds .ensures ∙ ap (boxOf (t .width) (t .height)) (entry .pre .1 .0 .edges))
 
 bounds-requires : tie.Need-bounds-requires
 bounds-requires c κs =
-    let entry = c .before .before .before in
+    let entry = c .before .before .before .before in
     let p = entry .pre in
     let r = p .1 .0 .ready in
-    (omega (arith, r .few, r .room), (p .1 .1 .placed .wide, p .1 .1 .placed .high))
+    (omega (arith, r .few, r .room), (p .1 .1 .0 .placed .wide, p .1 .1 .0 .placed .high))
 
 meet-requires : tie.Need-meet-requires
 meet-requires c κs = search needs
@@ -37,10 +37,11 @@ same-length c = search needs
 returns : tie.Need-returns
 returns c =
     let after-meet = c .before .before in
-    let entry = after-meet .before .before .before .before .before in
+    let entry = after-meet .before .before .before .before .before .before in
     let a = entry .args in (
       refl,
-      box-none (a .target) (a .d .now) (a .surface .now) (after-meet .meet .result) (entry .pre .1 .1) (met after-meet)
+      box-none (a .target) (a .d .now) (maskAt (a .target .width) (a .mask .now)) (a .surface .now) (after-meet .meet .result) (entry .pre .1 .1 .0)
+          (met after-meet)
           (sym (c .before .is-empty .ensures) ∙ c .if1 .taken),
     )
 
@@ -48,12 +49,13 @@ fill-requires : tie.Need-fill-requires
 fill-requires c κs =
     let after-is-empty = c .before .before .before in
     let after-meet = after-is-empty .before in
-    let entry = after-meet .before .before .before .before .before in
+    let entry = after-meet .before .before .before .before .before .before in
     let a = entry .args in
     let p = entry .pre in
-    let part = box-part (a .target) (a .d .now) (a .surface .now) (after-meet .meet .result) (p .1 .1) (met after-meet)
+    let part = box-part (a .target) (a .d .now) (maskAt (a .target .width) (a .mask .now)) (a .surface .now) (after-meet .meet .result) (p .1 .1 .0)
+    (met after-meet)
     (sym (after-is-empty .is-empty .ensures) ∙ c .before .before .if1 .left) in
-    (p .0, (p .1 .0, part))
+    (p .0, (p .1 .0, (part, p .1 .1 .1)))
 
 same-length-2 : tie.Need-same-length-2
 same-length-2 c = search needs
@@ -65,10 +67,11 @@ returns-2 : tie.Need-returns-2
 returns-2 c =
     let after-fill = c .before .before .before in
     let after-meet = after-fill .before .before .before .before .before in
-    let entry = after-meet .before .before .before .before .before in
+    let entry = after-meet .before .before .before .before .before .before in
     let a = entry .args in
     let r = after-fill .fill in
-    (r .ensures .0, box-enough (a .target) (a .d .now) (a .surface .now) (after-meet .meet .result) (r .last .0) (met after-meet) (r .ensures .1))
+    let mask = maskAt (a .target .width) (a .mask .now) in
+    (r .ensures .0, box-enough (a .target) (a .d .now) mask (a .surface .now) (after-meet .meet .result) (r .last .0) (met after-meet) (r .ensures .1))
 
 pub paint-box-spec : {M : Type 1} → statement M
 paint-box-spec =

@@ -15,7 +15,7 @@ lay-edges-requires c κs = search needs
 paint-box-requires : tie.Need-paint-box-requires
 paint-box-requires c κs =
     let after-lay-edges = c .before .before .before in
-    let entry = after-lay-edges .before .before .before .before in
+    let entry = after-lay-edges .before .before .before .before .before in
     let p = entry .pre in
     (p .0, (after-lay-edges .lay-edges .ensures .0, p .1 .1))
 

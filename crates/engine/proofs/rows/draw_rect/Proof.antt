@@ -9,92 +9,113 @@ use Rattle.raster.specs.Rows.{Rows}
 use Rattle.raster.proofs.Rows.{Lent, rows-none, row-lent, rows-all}
 use Rattle.path.specs.Stored.{edgesOf}
 use Rattle.coverage.specs.Scanline.{Outlined}
+use Rattle.engine.specs.Picture.{maskAt}
 use Rattle.engine.specs.Rows.{stepWith, OnSurface}
+use Rattle.engine.proofs.Masks.{MaskRow, mask-row, mask-turn}
 use borrow.Author.Needs.{needs}
 use Rattle.engine.proofs.rows.draw_rect.Statement.{statement}
 use Rattle.engine.proofs.rows.draw_rect.Tie as tie
 
 abbrev Inv-loop : tie.InvT-loop
-Inv-loop surface₀ scratch₀ scissors ramp buffer₀ style target x n y1 y₀ surface scratch buffer y =
-    Rows target (stepWith style (edgesOf scratch₀ (style .edges)) scissors ramp) surface₀ y surface × (scratch ≡ scratch₀) × (length buffer ≡ length buffer₀)
+Inv-loop surface₀ scratch₀ scissors ramp mask buffer₀ style target x n y1 y₀ surface scratch buffer y =
+    Rows target (λ u v. stepWith style (edgesOf scratch₀ (style .edges)) scissors ramp (maskAt (target .width) mask u v) u v) surface₀ y surface
+    × (scratch ≡ scratch₀) × (length buffer ≡ length buffer₀)
 
 abbrev μ-loop : tie.MeasureT-loop
-μ-loop surface₀ scratch₀ scissors ramp buffer₀ style target x n y1 y₀ surface scratch buffer y = y1 - y
+μ-loop surface₀ scratch₀ scissors ramp mask buffer₀ style target x n y1 y₀ surface scratch buffer y = y1 - y
 
+-- the row that a turn draws, and the mask's bytes for it
 lent : (c : tie.After-row-bytes Inv-loop μ-loop)
     → let at-loop = c .before .before in
-    let entry = at-loop .before .before .before .before .before .before in
+    let entry = at-loop .before .before .before .before .before .before .before in
     let a = entry .args in
     let r = c .row-bytes .result in
-    Lent (a .target) (stepWith (a .style) (edgesOf (a .scratch .now) (a .style .edges)) (a .scissors .now) (a .ramp .now)) (a .surface .now)
-    (at-loop .loop .y) (at-loop .loop .surface) (r .from) (r .to)
+    Lent (a .target)
+    (λ u v. stepWith (a .style) (edgesOf (a .scratch .now) (a .style .edges)) (a .scissors .now) (a .ramp .now)
+    (maskAt (a .target .width) (a .mask .now) u v) u v)
+    (a .surface .now) (at-loop .loop .y) (at-loop .loop .surface) (r .from) (r .to)
 lent c =
-    let entry = c .before .before .before .before .before .before .before .before in
+    let entry = c .before .before .before .before .before .before .before .before .before in
     let a = entry .args in
     let r = c .row-bytes in
-    row-lent (a .target) _ (a .surface .now) (entry .pre .1 .1 .0) (c .before .before .loop .inv .0) (c .before .loop-test .taken) (r .result .from)
+    row-lent (a .target) _ (a .surface .now) (entry .pre .1 .1 .0 .0) (c .before .before .loop .inv .0) (c .before .loop-test .taken) (r .result .from)
     (r .result .to)
     (r .ensures .0) (r .ensures .1)
 
+through : (c : tie.After-mask-bytes Inv-loop μ-loop)
+    → let at-loop = c .before .before .before in
+    let entry = at-loop .before .before .before .before .before .before .before in
+    let a = entry .args in
+    let m = c .mask-bytes .result in
+    MaskRow (a .target) (a .style .masked) (a .mask .now) (at-loop .loop .y) (m .from) (m .to)
+through c =
+    let in-loop = c .before .before in
+    let at-loop = in-loop .before in
+    let entry = at-loop .before .before .before .before .before .before .before in
+    let a = entry .args in
+    let r = c .before .row-bytes in
+    let m = c .mask-bytes in
+    mask-row (a .target) (entry .pre .1 .1 .0 .0 .placed) (a .mask .now) (at-loop .loop .y) (r .result .from) (r .result .to) (m .result .from) (m .result .to)
+    (in-loop .loop-test .taken) (r .ensures .0) (r .ensures .1) (a .style .masked) (m .ensures .0) (m .ensures .1) (entry .pre .1 .1 .1)
+
 sub-length : tie.Need-sub-length Inv-loop μ-loop
 sub-length c =
-    let entry = c .before .before .before .before .before in
-    omega (arith, entry .pre .1 .1 .0 .placed .on .across)
+    let entry = c .before .before .before .before .before .before in
+    omega (arith, entry .pre .1 .1 .0 .0 .placed .on .across)
 
 loop-holds : tie.Need-loop-holds Inv-loop μ-loop
 loop-holds c =
-    let entry = c .before .before .before .before .before in
+    let entry = c .before .before .before .before .before .before in
     let a = entry .args in
-    (rows-none (a .target) _ (a .surface .now) (entry .pre .1 .1 .0), refl, refl)
+    (rows-none (a .target) _ (a .surface .now) (entry .pre .1 .1 .0 .0), refl, refl)
 
 row-bytes-requires : tie.Need-row-bytes-requires Inv-loop μ-loop
 row-bytes-requires c κs =
-    let entry = c .before .before .before .before .before .before .before in
-    (entry .pre .1 .1 .0 .placed, c .loop-test .taken)
-
-sub-draw-row : tie.Need-sub-draw-row Inv-loop μ-loop
-sub-draw-row c = omega (arith, lent c .across)
-
-part-draw-row-start : tie.Need-part-draw-row-start Inv-loop μ-loop
-part-draw-row-start c = lent c .across
-
-part-draw-row-end : tie.Need-part-draw-row-end Inv-loop μ-loop
-part-draw-row-end c = lent c .within
+    let entry = c .before .before .before .before .before .before .before .before in
+    (entry .pre .1 .1 .0 .0 .placed, c .loop-test .taken)
 
 draw-row-requires : tie.Need-draw-row-requires Inv-loop μ-loop
 draw-row-requires c κs =
-    let after-row-bytes = c .before .before .before in
+    let after-mask-bytes = c .before .before .before .before in
+    let after-row-bytes = after-mask-bytes .before in
     let in-loop = after-row-bytes .before in
     let at-loop = in-loop .before in
-    let entry = at-loop .before .before .before .before .before .before in
+    let entry = at-loop .before .before .before .before .before .before .before in
     let a = entry .args in
     let p = entry .pre in
     let l = at-loop .loop in
-    let placed = p .1 .1 .0 .placed in
+    let placed = p .1 .1 .0 .0 .placed in
     let on : OnSurface (record { x = a .target .area .x0; y = l .y; length = a .target .area .x1 - a .target .area .x0 }) =
-    (omega (arith, placed .high, placed .on .high, in-loop .loop-test .taken), omega (arith, placed .wide, placed .on .wide, placed .on .across)) in
-    (subst (λ (z : List ℤ). Outlined z (a .style .edges)) (sym (l .inv .1)) (p .0), (p .1 .0, (on, lent after-row-bytes .long, l .inv .2 ∙ p .1 .1 .1)))
+    (omega (arith, placed .high, placed .on .high, in-loop .loop-test .taken), omega (arith, placed .wide, placed .on .wide, placed .on .across)) in (
+      subst (λ (z : List ℤ). Outlined z (a .style .edges)) (sym (l .inv .1)) (p .0),
+      (p .1 .0, ((on, lent after-row-bytes .long, l .inv .2 ∙ p .1 .1 .0 .1), through after-mask-bytes .long)),
+    )
 
 add-y : tie.Need-add-y Inv-loop μ-loop
 add-y c =
-    let in-loop = c .before .before .before .before .before .before .before .before .before .before in
-    let entry = in-loop .before .before .before .before .before .before .before in
-    let placed = entry .pre .1 .1 .0 .placed in
+    let in-loop = c .before .before .before .before .before .before .before .before .before .before .before .before in
+    let entry = in-loop .before .before .before .before .before .before .before .before in
+    let placed = entry .pre .1 .1 .0 .0 .placed in
     record { fits = omega (arith, placed .high, placed .on .high, in-loop .loop-test .taken) }
 
 loop-less : tie.Need-loop-less Inv-loop μ-loop
 loop-less c =
-    let in-loop = c .before .before .before .before .before .before .before .before .before .before in
+    let in-loop = c .before .before .before .before .before .before .before .before .before .before .before .before in
     omega (arith, in-loop .loop-test .taken)
 
 loop-again : tie.Need-loop-again Inv-loop μ-loop
 loop-again c =
     let after-draw-row = c .before .before .before .before .before in
-    let after-row-bytes = after-draw-row .before .before .before .before in
+    let after-mask-bytes = after-draw-row .before .before .before .before .before in
+    let after-row-bytes = after-mask-bytes .before in
     let at-loop = after-row-bytes .before .before in
+    let entry = at-loop .before .before .before .before .before .before .before in
+    let a = entry .args in
     let l = at-loop .loop in
     let call = after-draw-row .draw-row in
-    (lent after-row-bytes .turn (call .last .0) (rw (l .inv .1) at (call .ensures .1)), call .ensures .0 ∙ l .inv .1, call .kept .1 .1 .1 .1 .0 ∙ l .inv .2)
+    let drawn = mask-turn (a .target) (a .style) (edgesOf (a .scratch .now) (a .style .edges)) (a .scissors .now) (a .ramp .now) (a .mask .now) (call .last .0)
+    _ (l .y) _ _ (through after-mask-bytes) (rw (l .inv .1) at (call .ensures .1)) in
+    (lent after-row-bytes .turn (call .last .0) drawn, call .ensures .0 ∙ l .inv .1, call .kept .1 .1 .1 .1 .1 .0 ∙ l .inv .2)
 
 same-length : tie.Need-same-length Inv-loop μ-loop
 same-length c = c .before .loop .inv .0 .long
@@ -107,10 +128,10 @@ same-length-3 c = c .before .loop .inv .2
 
 returns : tie.Need-returns Inv-loop μ-loop
 returns c =
-    let entry = c .before .before .before .before .before .before .before in
+    let entry = c .before .before .before .before .before .before .before .before in
     let a = entry .args in
     let l = c .before .loop in
-    (l .inv .1, rows-all (a .target) _ (a .surface .now) (entry .pre .1 .1 .0) (l .inv .0) (omega (arith, c .loop-test .left)))
+    (l .inv .1, rows-all (a .target) _ (a .surface .now) (entry .pre .1 .1 .0 .0) (l .inv .0) (omega (arith, c .loop-test .left)))
 
 pub draw-rect-spec : {M : Type 1} → statement M
 draw-rect-spec =
@@ -121,9 +142,13 @@ draw-rect-spec =
     sub-length
     loop-holds
     row-bytes-requires
-    sub-draw-row
-    part-draw-row-start
-    part-draw-row-end
+    (λ c κs. tt)
+    (λ c. omega (arith, lent (c .before) .across))
+    (λ c. lent (c .before) .across)
+    (λ c. lent (c .before) .within)
+    (λ c. omega (arith, through (c .before .before) .across))
+    (λ c. through (c .before .before) .across)
+    (λ c. through (c .before .before) .within)
     draw-row-requires
     add-y
     loop-less

@@ -12,7 +12,7 @@ slice-aggregate-fill-with-2 c = search needs
 
 fill-with-requires : tie.Need-fill-with-requires
 fill-with-requires c κs =
-    let entry = c .before .before .before .before .before .before in
+    let entry = c .before .before .before .before .before .before .before in
     let p = entry .pre in
     (p .0, (p .1 .0, (p .1 .1, (omega arith, omega arith))))
 

@@ -8,7 +8,8 @@ use Rattle.lists.proofs.Laws.{part-length}
 use Rattle.path.specs.Stored.{edgesOf}
 use Rattle.coverage.specs.Scanline.{Outlined}
 use Rattle.engine.specs.declared.Style.{Style}
-use Rattle.engine.specs.Rows.{Shaded}
+use Rattle.engine.specs.Picture.{maskAt}
+use Rattle.engine.specs.Rows.{Shaded, MaskFor}
 use Rattle.engine.proofs.Paints.{own-steps, scissors-length}
 use borrow.Author.Needs.{needs}
 use Rattle.engine.proofs.rows.fill_with.Statement.{statement}
@@ -17,32 +18,32 @@ use Rattle.engine.proofs.rows.fill_with.Tie as tie
 -- a row of the target has at most 1,024 pixels
 narrow : (c : tie.Start) → let a = c .args .target .area in (a .x0 ≤ a .x1) × (a .x1 - a .x0 ≤ 1024)
 narrow c =
-    let placed = c .pre .1 .1 .0 .placed in
+    let placed = c .pre .1 .1 .0 .0 .placed in
     (placed .on .across, omega (arith, placed .on .wide, placed .wide))
 
 shade-requires : tie.Need-shade-requires
 shade-requires c κs =
-    let entry = c .before .before .before .before .before in
+    let entry = c .before .before .before .before .before .before in
     (entry .pre .0, entry .pre .1 .1 .1 .0)
 
 style-requires : tie.Need-style-requires
 style-requires c κs =
-    let entry = c .before .before .before .before .before .before .before .before in
+    let entry = c .before .before .before .before .before .before .before .before .before in
     entry .pre .0 .0
 
 sub-m : tie.Need-sub-m
 sub-m c =
-    let entry = c .before .before .before .before .before .before .before .before .before .before in
+    let entry = c .before .before .before .before .before .before .before .before .before .before .before in
     omega (arith, narrow entry .0)
 
 mul-m : tie.Need-mul-m
 mul-m c =
-    let entry = c .before .before .before .before .before .before .before .before .before .before in
+    let entry = c .before .before .before .before .before .before .before .before .before .before .before in
     omega (arith, narrow entry .1)
 
 scissors-requires : tie.Need-scissors-requires
 scissors-requires c κs =
-    let entry = c .before .before .before .before .before .before .before .before .before .before .before .before in
+    let entry = c .before .before .before .before .before .before .before .before .before .before .before .before .before in
     entry .pre .0 .0
 
 sub-draw-rect : tie.Need-sub-draw-rect
@@ -53,14 +54,14 @@ part-draw-rect-start c = search needs
 
 part-draw-rect-end : tie.Need-part-draw-rect-end
 part-draw-rect-end c =
-    let entry = c .before .before .before .before .before .before .before .before .before .before .before .before .before .before in
+    let entry = c .before .before .before .before .before .before .before .before .before .before .before .before .before .before .before in
     omega (arith, narrow entry .1, entry .pre .1 .1 .1 .1)
 
 draw-rect-requires : tie.Need-draw-rect-requires
 draw-rect-requires c κs =
     let after-style = c .before .before .before .before .before .before in
     let after-shade = after-style .before .before .before in
-    let entry = after-shade .before .before .before .before .before .before in
+    let entry = after-shade .before .before .before .before .before .before .before in
     let a = entry .args in
     let p = entry .pre in
     let e = sym (after-style .style .ensures) in
@@ -70,7 +71,14 @@ draw-rect-requires c κs =
     let part = part-length (a .buffer .now) 0 (k * 5) (omega arith) (omega (arith, narrow entry .1, p .1 .1 .1 .1)) in
     let few = subst (λ (z : Style). z .scissors ≤ 4) e (p .0 .1 .scissors) in (
       subst (λ (z : Style). Outlined (a .scratch .now) (z .edges)) e (p .1 .0 .ready),
-      (((few, long), subst (λ (z : Style). Shaded (z .shade) (shade .last .1 .0)) e (shade .ensures .asked)), (p .1 .1 .0, part ∙ omega arith)),
+      (
+        ((few, long), subst (λ (z : Style). Shaded (z .shade) (shade .last .1 .0)) e (shade .ensures .asked)),
+        (
+          (p .1 .1 .0 .0, part ∙ omega arith),
+          subst (λ (z : Style). MaskFor (z .masked) (a .target .height * a .target .width) (a .mask .now)) e
+              (p .1 .1 .0 .1),
+        ),
+      ),
     )
 
 same-length : tie.Need-same-length
@@ -91,7 +99,7 @@ returns c =
     let after-scissors = after-draw-rect .before .before .before in
     let after-style = after-scissors .before .before .before .before in
     let after-shade = after-style .before .before .before in
-    let entry = after-shade .before .before .before .before .before .before in
+    let entry = after-shade .before .before .before .before .before .before .before in
     let a = entry .args in
     let p = entry .pre in
     let r = after-draw-rect .draw-rect in
@@ -99,7 +107,8 @@ returns c =
     let shade = after-shade .shade in
     let edges = ap (λ (z : Style). edgesOf (a .scratch .now) (z .edges)) (style .ensures) ∙ p .1 .0 .edges in (
       r .ensures .0,
-      own-steps (a .target) (a .d .now) (a .surface .now) (r .last .0) (style .result) (a .n) (shade .result) _ _ (shade .last .1 .0)
+      own-steps (a .target) (a .d .now) (maskAt (a .target .width) (a .mask .now)) (a .surface .now) (r .last .0) (style .result) (a .n) (shade .result) _ _
+          (shade .last .1 .0)
           (style .ensures) edges (after-scissors .scissors .ensures) (shade .ensures .paint) (r .ensures .1),
     )
 

@@ -1,172 +1,46 @@
--- `rows::shade_row` meets its contract: a plain colour is blended as it is, a gradient's row is made behind the coverage first.
-use mathlib.Core.List.{List}
-use mathlib.Core.Path.{_≡_, sym, ap, subst, _∙_}
-use Prim.Native.Nat.{ℕ, _-_, _*_}
-use native.Mathlib.Omega.{arith}
-use lib.ListN.{length, take}
-use Rattle.lists.proofs.Laws.{part-length}
-use Rattle.blend.specs.Rows.{Coverage}
-use Rattle.engine.specs.declared.Shade.{Shade}
-use Rattle.engine.specs.Rows.{Shaded}
-use Rattle.engine.proofs.RowLaws.{covered-length, first-of, cover-part, paint-part, solid-row, gradient-row}
+-- `rows::shade_row` meets its contract: with the mask or without it.
+use mathlib.Core.Bool.{true, false}
+use Prim.Native.Nat.{_+_}
+use lib.ListN.{getD, take}
+use Rattle.engine.specs.Rows.{shadeAt}
+use Rattle.engine.proofs.Masks.{mask-chosen}
 use borrow.Author.Needs.{needs}
 use Rattle.engine.proofs.rows.shade_row.Statement.{statement}
 use Rattle.engine.proofs.rows.shade_row.Tie as tie
 
--- k of each pixel, at the start of the buffer
-covered : (c : tie.Start) → let s = c .args .strip in length (take (s .length) (c .args .buffer .now)) ≡ s .length
-covered c = covered-length (c .args .buffer .now) (c .args .strip .length) (omega arith)
-
--- the paint that is given back
-painted : (c : tie.After-gradient-row)
-    → let entry = c .before .before .before .before .before .before .before .before in
-    let n = entry .args .strip .length in length (c .gradient-row .last .1 .1 .1 .1 .1 .0) ≡ n * 5 - n
-painted c =
-    let entry = c .before .before .before .before .before .before .before .before in
-    let a = entry .args in
-    let n = a .strip .length in
-    c .gradient-row .kept .1 .1 .1 .1 .1 .0 ∙ part-length (a .buffer .now) n (n * 5) (omega arith) (omega (arith, entry .pre .1 .0 .2))
-
-mul-m : tie.Need-mul-m
-mul-m c = search needs
-
-enum-known-shade : tie.Need-enum-known-shade
-enum-known-shade c = search needs
-
-sub-composite-run : tie.Need-sub-composite-run
-sub-composite-run c = search needs
-
-part-composite-run-start : tie.Need-part-composite-run-start
-part-composite-run-start c = search needs
-
-part-composite-run-end : tie.Need-part-composite-run-end
-part-composite-run-end c = search needs
-
-composite-run-requires : tie.Need-composite-run-requires
-composite-run-requires c κs =
-    let entry = c .before .before .before .before .before .before .before .before .before in
-    let a = entry .args in
-    let p = entry .pre in
-    let e = first-of (a .buffer .now) (a .strip .length) in
-    (p .1 .0 .1 ∙ ap (λ (k : ℕ). k * 4) (sym (ap length e ∙ covered entry)), subst Coverage (sym e) (p .1 .1))
-
-enum-known-shade-2 : tie.Need-enum-known-shade-2
-enum-known-shade-2 c = search needs
-
-sub-gradient-row : tie.Need-sub-gradient-row
-sub-gradient-row c = search needs
-
-part-gradient-row-start : tie.Need-part-gradient-row-start
-part-gradient-row-start c = search needs
-
-part-gradient-row-end : tie.Need-part-gradient-row-end
-part-gradient-row-end c = search needs
-
-gradient-row-requires : tie.Need-gradient-row-requires
-gradient-row-requires c κs =
-    let entry = c .before .before .before .before .before .before .before in
-    let a = entry .args in
-    let p = entry .pre in
-    let o = p .1 .0 in
-    let n = a .strip .length in
-    let long = part-length (a .buffer .now) n (n * 5) (omega arith) (omega (arith, o .2)) in
-    (subst (λ (z : Shade). Shaded z (a .ramp .now)) (c .before .before .shade2 .given .1) (p .0), (o .0 .1, omega (arith, o .0 .0), long ∙ omega arith))
-
-sub-composite-row : tie.Need-sub-composite-row
-sub-composite-row c = search needs
-
-part-composite-row-start : tie.Need-part-composite-row-start
-part-composite-row-start c = search needs
-
-part-composite-row-end : tie.Need-part-composite-row-end
-part-composite-row-end c = search needs
-
-sub-composite-row-2 : tie.Need-sub-composite-row-2
-sub-composite-row-2 c = search needs
-
-part-composite-row-start-2 : tie.Need-part-composite-row-start-2
-part-composite-row-start-2 c = search needs
-
-part-composite-row-end-2 : tie.Need-part-composite-row-end-2
-part-composite-row-end-2 c = search needs
-
-composite-row-requires : tie.Need-composite-row-requires
-composite-row-requires c κs =
-    let after-gradient-row = c .before .before .before .before .before .before in
-    let entry = after-gradient-row .before .before .before .before .before .before .before .before in
-    let a = entry .args in
-    let p = entry .pre in
-    let o = p .1 .0 in
-    let n = a .strip .length in
-    let q = after-gradient-row .gradient-row .last .1 .1 .1 .1 .1 .0 in
-    let cover = cover-part (a .buffer .now) q _ n (omega (arith, o .2)) in
-    let paint = paint-part (a .buffer .now) q _ n (n * 5) (omega (arith, o .2)) (painted after-gradient-row) in
-    let long = ap length cover ∙ covered entry in
-    let times = ap (λ (k : ℕ). k * 4) (sym long) in
-    ((ap length paint ∙ painted after-gradient-row ∙ omega arith ∙ times, o .1 ∙ times), subst Coverage (sym cover) (p .1 .1))
-
-same-length : tie.Need-same-length
-same-length c = search needs
-
-same-length-2 : tie.Need-same-length-2
-same-length-2 c = search needs
+shade-masked-requires : tie.Need-shade-masked-requires
+shade-masked-requires c κs =
+    let then1 = c .before .before in
+    let p = then1 .before .before .before .before .before .pre in
+    (p .0, (p .1 .0, (p .1 .1 .0, p .1 .1 .1 (then1 .if1 .taken))))
 
 returns : tie.Need-returns
 returns c =
-    let after-shade = c .before .before .before .before .before .before .before in
-    let entry = after-shade .before .before .before .before .before in
-    let a = entry .args in
-    let s = a .strip in
-    let call = c .before .before .composite-run in
-    let arm = after-shade .shade .given in
-    solid-row (a .style .mode) (s .length) (s .x) (s .y) (a .buffer .now) (a .row .now) (a .ramp .now) (call .last .1 .1 .1 .0) (a .style .shade)
-    (arm .0 .0) (arm .1) (call .ensures)
-
-same-length-3 : tie.Need-same-length-3
-same-length-3 c = search needs
-
-same-length-4 : tie.Need-same-length-4
-same-length-4 c = search needs
+    let after-shade-masked = c .before .before .before .before in
+    let then1 = after-shade-masked .before .before .before in
+    let a = then1 .before .before .before .before .before .args in
+    mask-chosen (a .style .mode) (take (a .strip .length) (a .buffer .now)) (λ i. getD (a .mask .now) i 0)
+    (λ i. shadeAt (a .style .shade) (a .ramp .now) (a .strip .x + i) (a .strip .y)) (a .row .now) _ (a .style .masked) true (then1 .if1 .taken)
+    (after-shade-masked .shade-masked .ensures)
 
 returns-2 : tie.Need-returns-2
 returns-2 c =
-    let after-gradient-row = c .before .before .before .before .before .before .before .before .before in
-    let after-shade2 = after-gradient-row .before .before .before in
-    let entry = after-shade2 .before .before .before .before .before in
-    let a = entry .args in
-    let s = a .strip in
-    let paint = after-gradient-row .gradient-row in
-    let call = c .before .before .composite-row in
-    let arm = after-shade2 .shade2 .given in
-    gradient-row (a .style .mode) (s .length) (s .x) (s .y) (a .buffer .now) (a .row .now) (a .ramp .now) (call .last .1 .1 .1 .0) (a .style .shade)
-    (arm .0 .0) (paint .last .1 .1 .1 .1 .1 .0) _ (s .length * 5) (arm .1) (omega (arith, entry .pre .1 .0 .2)) (painted after-gradient-row)
-    (paint .ensures) (call .ensures)
+    let after-shade-plain = c .before .before .before .before in
+    let else1 = after-shade-plain .before .before .before in
+    let a = else1 .before .before .before .before .before .args in
+    mask-chosen (a .style .mode) (take (a .strip .length) (a .buffer .now)) (λ i. getD (a .mask .now) i 0)
+    (λ i. shadeAt (a .style .shade) (a .ramp .now) (a .strip .x + i) (a .strip .y)) (a .row .now) _ (a .style .masked) false (else1 .if1 .left)
+    (after-shade-plain .shade-plain .ensures)
 
 pub shade-row-spec : {M : Type 1} → statement M
 shade-row-spec =
     tie.close
     (tie.spec
-    mul-m
-    enum-known-shade
-    sub-composite-run
-    part-composite-run-start
-    part-composite-run-end
-    composite-run-requires
-    enum-known-shade-2
-    sub-gradient-row
-    part-gradient-row-start
-    part-gradient-row-end
-    gradient-row-requires
-    sub-composite-row
-    part-composite-row-start
-    part-composite-row-end
-    sub-composite-row-2
-    part-composite-row-start-2
-    part-composite-row-end-2
-    composite-row-requires
-    same-length
-    same-length-2
+    shade-masked-requires
+    (λ c κs. search needs)
+    (λ c. search needs)
+    (λ c. search needs)
     returns
-    same-length-3
-    same-length-4
+    (λ c. search needs)
+    (λ c. search needs)
     returns-2)

@@ -13,7 +13,7 @@ use Rattle.render.proofs.redraw.Reads as redraw-reads
 fill-numbers-requires : tie.Need-fill-numbers-requires
 fill-numbers-requires c κs = search needs
 
-draw-requires : tie.Need-draw-requires
+draw-requires : tie.Need-draw-unmasked-requires
 draw-requires c κs = search needs
 
 same-length : tie.Need-same-length
@@ -29,20 +29,20 @@ returns c =
     let branch = after-fill-numbers .before .before in
     let a = branch .before .before .before .before .before .args in
     let f = after-fill-numbers .fill-numbers in
-    let d = after-draw .draw in
+    let d = after-draw .draw-unmasked in
     drawing-leaves (a .full) (a .old .now) (a .new .now) (a .surface .now) (a .other .now) (a .scratch .now) (d .result) (d .last .1 .0) (f .last .0)
     (d .last .1 .1 .0) (branch .if1 .taken) (f .ensures) (f .kept .0) (d .ensures)
 
-draw-requires-2 : tie.Need-draw-requires-2
+draw-requires-2 : tie.Need-draw-unmasked-requires-2
 draw-requires-2 c κs = search needs
 
-draw-requires-3 : tie.Need-draw-requires-3
+draw-requires-3 : tie.Need-draw-unmasked-requires-3
 draw-requires-3 c κs = search needs
 
 fill-numbers-requires-2 : tie.Need-fill-numbers-requires-2
 fill-numbers-requires-2 c κs = search needs
 
-redraw-requires : tie.Need-redraw-requires
+redraw-requires : tie.Need-redraw-unmasked-requires
 redraw-requires c κs = search needs
 
 same-length-3 : tie.Need-same-length-3
@@ -62,10 +62,10 @@ returns-2 c =
     let after-draw2 = after-draw3 .before .before .before .before .before .before in
     let branch = after-draw2 .before .before .before in
     let a = branch .before .before .before .before .before .args in
-    let d = after-draw2 .draw2 in
-    let e = after-draw3 .draw3 in
+    let d = after-draw2 .draw-unmasked2 in
+    let e = after-draw3 .draw-unmasked3 in
     let f = after-fill-numbers2 .fill-numbers2 in
-    let g = after-redraw .redraw in
+    let g = after-redraw .redraw-unmasked in
     let kept = e .kept .1 .1 .0 ∙ d .kept .1 .1 .0 in
     redraw-leaves (a .full) (a .old .now) (a .new .now) (a .surface .now) (a .other .now) (a .scratch .now) (g .result) (d .last .1 .0) (e .last .1 .0)
     (g .last .1 .1 .0) (d .last .1 .1 .0) (f .last .0) (g .last .1 .1 .1 .0) (branch .if1 .left) (d .ensures .1 .0) (d .kept .1 .0) (d .kept .1 .1 .0)

@@ -20,7 +20,7 @@ fill-bytes-requires c κs = search needs
 fill-numbers-requires : tie.Need-fill-numbers-requires
 fill-numbers-requires c κs = search needs
 
-draw-requires : tie.Need-draw-requires
+draw-requires : tie.Need-draw-unmasked-requires
 draw-requires c κs = search needs
 
 same-bytes-requires : tie.Need-same-bytes-requires
@@ -49,7 +49,7 @@ returns c =
     let a = after-fill-bytes .before .before .before .before .before .before .before .args in
     let b = after-fill-bytes .fill-bytes in
     let f = after-fill-numbers .fill-numbers in
-    let d = after-draw .draw in
+    let d = after-draw .draw-unmasked in
     report-leaves (a .scene .now) (a .other .now) (b .last .0) (d .last .1 .0) (a .scratch .now) (f .last .0) (d .last .1 .1 .0) (b .ensures) (b .kept .0)
     (f .ensures)
     (f .kept .0) (d .ensures .1)

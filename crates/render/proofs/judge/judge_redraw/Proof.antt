@@ -1,6 +1,6 @@
 use Prim.Native.Nat.{ℕ}
 use mathlib.Core.Path.{ap₂, _∙_}
-use Rattle.render.specs.Answers.{lentRefusal, redrawRefusal}
+use Rattle.render.specs.Answers.{maskOf, lentRefusal, redrawRefusal}
 use Rattle.render.proofs.Refusals.{first-refused, first-passed, scene-passed, accepted-block}
 use borrow.Author.Needs.{needs}
 use Rattle.render.proofs.judge.judge_redraw.Statement.{statement}
@@ -34,11 +34,11 @@ returns-2 c =
 
 judge-sizes-requires : tie.Need-judge-sizes-requires
 judge-sizes-requires c κs =
-    let a = c .before .before .before .before .before .before .before .before .args in
+    let a = c .before .before .before .before .before .before .before .before .before .args in
     let f = c .before .before .before .before .before .judge-scene in
     let g = c .before .before .judge-scene2 in (
-      accepted-block (a .old .now) (scene-passed (a .old .now) 0 (f .result) (f .ensures) (c .before .before .before .if1 .left)),
-      accepted-block (a .new .now) (scene-passed (a .new .now) 1 (g .result) (g .ensures) (c .if2 .left)),
+      accepted-block (a .masked) (a .old .now) (scene-passed (a .masked) (a .old .now) 0 (f .result) (f .ensures) (c .before .before .before .if1 .left)),
+      accepted-block (a .masked) (a .new .now) (scene-passed (a .masked) (a .new .now) 1 (g .result) (g .ensures) (c .if2 .left)),
     )
 
 returns-3 : tie.Need-returns-3
@@ -55,17 +55,18 @@ returns-3 c =
 width-requires : tie.Need-width-requires
 width-requires c κs =
     let after-judge-scene2 = c .before .before .before .before .before in
-    let entry = after-judge-scene2 .before .before .before .before .before .before in
+    let entry = after-judge-scene2 .before .before .before .before .before .before .before in
     let g = after-judge-scene2 .judge-scene2 in
-    accepted-block _ (scene-passed (entry .args .new .now) 1 (g .result) (g .ensures) (c .before .before .before .if2 .left))
+    accepted-block (entry .args .masked) _ (scene-passed (entry .args .masked) (entry .args .new .now) 1 (g .result) (g .ensures)
+    (c .before .before .before .if2 .left))
 
 height-requires : tie.Need-height-requires
 height-requires c κs =
     let branch2 = c .before .before .before .before in
     let after-judge-scene2 = branch2 .before .before in
-    let entry = after-judge-scene2 .before .before .before .before .before .before in
+    let entry = after-judge-scene2 .before .before .before .before .before .before .before in
     let g = after-judge-scene2 .judge-scene2 in
-    accepted-block _ (scene-passed (entry .args .new .now) 1 (g .result) (g .ensures) (branch2 .if2 .left))
+    accepted-block (entry .args .masked) _ (scene-passed (entry .args .masked) (entry .args .new .now) 1 (g .result) (g .ensures) (branch2 .if2 .left))
 
 judge-lent-requires : tie.Need-judge-lent-requires
 judge-lent-requires c κs =
@@ -78,7 +79,7 @@ returns-4 c =
     let branch2 = after-judge-sizes .before in
     let after-judge-scene2 = branch2 .before .before in
     let branch = after-judge-scene2 .before in
-    let a = branch .before .before .before .before .before .args in
+    let a = branch .before .before .before .before .before .before .args in
     let f = branch .before .before .judge-scene in
     let g = after-judge-scene2 .judge-scene2 in
     let e = after-judge-sizes .judge-sizes in
@@ -86,7 +87,8 @@ returns-4 c =
     first-passed (f .result) _ (r .result) _ (f .ensures) (branch .if1 .left)
     (first-passed (g .result) _ (r .result) _ (g .ensures) (branch2 .if2 .left)
     (first-passed (e .result) _ (r .result) _ (e .ensures) (c .before .before .before .if3 .left)
-    (r .ensures ∙ ap₂ (λ (x y : ℕ). lentRefusal x y (a .surface) (a .scratch)) (c .before .before .width .ensures .0) (c .before .height .ensures .0))))
+    (r .ensures ∙ ap₂ (λ (x y : ℕ). lentRefusal x y (maskOf (a .masked) (a .mask .now)) (a .surface) (a .scratch)) (c .before .before .width .ensures .0)
+    (c .before .height .ensures .0))))
 
 pub judge-redraw-spec : {M : Type 1} → statement M
 judge-redraw-spec =

@@ -24,14 +24,19 @@ refusal-requires c κs = search needs
 returns : tie.Need-returns
 returns c =
     let a = c .before .before .before .before .before .args in
-    c .refusal .ensures ∙ sym (scene-passes (a .s .now) (a .number)
+    c .refusal .ensures ∙ sym (scene-passes (a .masked) (a .s .now) (a .number)
     (sym (ap (λ (f : Fault). f .code) (c .before .before .before .verdict .ensures)) ∙ c .before .if1 .taken))
 
 -- src/judge.rt:59:15
-cast-t5 : tie.Need-cast-t5
-cast-t5 c =
+cast-t6 : tie.Need-cast-t6
+cast-t6 c =
     let judged = c .before .before .before in
-    omega (arith, ap (λ (f : Fault). f .draw) (judged .verdict .ensures), fault-draw (judged .before .before .args .s .now))
+    omega (
+      arith,
+      ap (λ (f : Fault). f .draw) (judged .verdict .ensures),
+      fault-draw (judged .before .before .args .masked)
+          (judged .before .before .args .s .now),
+    )
 
 -- src/judge.rt:50:1
 returns-2 : tie.Need-returns-2
@@ -40,8 +45,8 @@ returns-2 c =
     let a = judged .before .before .args in
     let v = judged .verdict in
     ap (λ (f : Fault). refuse (f .code) (f .draw) (a .number)) (v .ensures)
-    ∙ sym (scene-refused (a .s .now) (a .number) (λ e. c .before .if1 .left (ap (λ (f : Fault). f .code) (v .ensures) ∙ e)))
+    ∙ sym (scene-refused (a .masked) (a .s .now) (a .number) (λ e. c .before .if1 .left (ap (λ (f : Fault). f .code) (v .ensures) ∙ e)))
 
 pub judge-scene-spec : {M : Type 1} → statement M
 judge-scene-spec =
-    tie.close (tie.spec verdict-requires refusal-requires returns cast-t5 returns-2)
+    tie.close (tie.spec verdict-requires refusal-requires returns cast-t6 returns-2)

@@ -21,7 +21,9 @@ draw headed = headed .before .before .before .before .args .d .now
 
 -- what the rules before tell
 counted : (headed : tie.Else1) → Counted (draw headed)
-counted headed = head-counted (draw headed) (sym (ap code (headed .before .before .head-rules .ensures)) ∙ headed .if1 .left)
+counted headed =
+    head-counted (draw headed) (headed .before .before .before .before .args .lent)
+    (sym (ap code (headed .before .before .head-rules .ensures)) ∙ headed .if1 .left)
 
 within : (measured : tie.Else2) → matrixInLimits (matrixOf (draw (measured .before .before .before))) ≡ true
 within measured =

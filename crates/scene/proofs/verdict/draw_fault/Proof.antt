@@ -17,9 +17,9 @@ returns-2 c =
     let read = rules .before .before .before in
     let checked = read .before .before in
     let checks = checked .before .before .check-faults in
-    let i = checked .before .before .before .before .args .i in
+    let a = checked .before .before .before .before .args in
     sooner-second (λ f. f .code) (checks .result) _ _ _ (checks .ensures) (checked .if1 .left)
-    (c .in-draw .ensures ∙ ap (inDraw i) (rules .draw-rules .ensures ∙ ap drawRules (read .read-draw .ensures)))
+    (c .in-draw .ensures ∙ ap (inDraw (a .i)) (rules .draw-rules .ensures ∙ ap (drawRules (a .lent)) (read .read-draw .ensures)))
 
 pub draw-fault-spec : {M : Type 1} → statement M
 draw-fault-spec =

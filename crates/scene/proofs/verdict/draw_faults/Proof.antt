@@ -11,10 +11,10 @@ use Rattle.scene.proofs.verdict.draw_faults.Statement.{statement}
 use Rattle.scene.proofs.verdict.draw_faults.Tie as tie
 
 abbrev Inv-loop : tie.InvT-loop
-Inv-loop s n i₀ i = (i ≤ n) × (firstFault i (drawFault s) ≡ accepted)
+Inv-loop s n lent i₀ i = (i ≤ n) × (firstFault i (drawFault lent s) ≡ accepted)
 
 abbrev μ-loop : tie.MeasureT-loop
-μ-loop s n i₀ i = n - i
+μ-loop s n lent i₀ i = n - i
 
 returns : tie.Need-returns Inv-loop μ-loop
 returns c =
@@ -23,15 +23,15 @@ returns c =
     let a = c .before .before .before .before .before .before .args in
     let none = ap (λ f. f .code) (l .inv .1) in
     f .ensures
-    ∙ sym (first-hit (λ f. f .code) accepted (drawFault (a .s .now)) (l .i) (a .n) (omega arith) none (rw (← f .ensures) (c .if1 .taken)))
+    ∙ sym (first-hit (λ f. f .code) accepted (drawFault (a .lent) (a .s .now)) (l .i) (a .n) (omega arith) none (rw (← f .ensures) (c .if1 .taken)))
 
 loop-again : tie.Need-loop-again Inv-loop μ-loop
 loop-again c =
     let f = c .before .before .draw-fault in
     let l = c .before .before .before .before .loop in
     let a = c .before .before .before .before .before .before .args in
-    let none = draw-none (a .s .now) (l .i) (sym (ap (λ f. f .code) (f .ensures)) ∙ c .if1 .left) .1 in
-    (search needs, first-turn (λ f. f .code) accepted (drawFault (a .s .now)) refl (l .i) (l .inv .1) none)
+    let none = draw-none (a .s .now) (a .lent) (l .i) (sym (ap (λ f. f .code) (f .ensures)) ∙ c .if1 .left) .1 in
+    (search needs, first-turn (λ f. f .code) accepted (drawFault (a .lent) (a .s .now)) refl (l .i) (l .inv .1) none)
 
 returns-2 : tie.Need-returns-2 Inv-loop μ-loop
 returns-2 c =

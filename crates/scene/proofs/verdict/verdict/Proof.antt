@@ -1,7 +1,7 @@
 -- `scene::verdict::verdict` meets its contract.
 use mathlib.Core.Path.{_≡_, sym, ap, _∙_}
 use mathlib.Core.List.{List}
-use mathlib.Core.Bool.{true}
+use mathlib.Core.Bool.{Bool, true}
 use Prim.Native.Nat.{ℕ, _≤_}
 use native.Mathlib.Omega.{arith}
 use lib.ListN.{length}
@@ -19,6 +19,9 @@ use Rattle.scene.proofs.verdict.verdict.Tie as tie
 -- ---- what the tests passed tell: whole blocks, block 0's check, its fields
 abbrev scene : tie.Else1 → List ℕ
 scene cut = cut .before .before .before .args .s .now
+
+abbrev lent : tie.Else1 → Bool
+lent cut = cut .before .before .before .args .lent
 
 is-whole : (cut : tie.Else1) → whole (scene cut) ≡ true
 is-whole cut = sym (cut .before .whole-blocks .ensures) ∙ not-false _ (cut .if1 .left)
@@ -41,14 +44,14 @@ long cut = whole-length (scene cut) (is-whole cut)
 returns : tie.Need-returns
 returns c =
     let test = c .before in
-    let s = test .before .before .before .args .s .now in
-    c .fault .ensures ∙ sym (bad-length s (sym (test .before .whole-blocks .ensures) ∙ not-true _ (test .if1 .taken)))
+    let a = test .before .before .before .args in
+    c .fault .ensures ∙ sym (bad-length (a .lent) (a .s .now) (sym (test .before .whole-blocks .ensures) ∙ not-true _ (test .if1 .taken)))
 
 returns-2 : tie.Need-returns-2
 returns-2 c =
     let test = c .before in
     let cut = test .before .before in
-    c .fault2 .ensures ∙ sym (bad-check (scene cut) (is-whole cut) (sym (test .before .block-right .ensures) ∙ not-true _ (test .if2 .taken)))
+    c .fault2 .ensures ∙ sym (bad-check (lent cut) (scene cut) (is-whole cut) (sym (test .before .block-right .ensures) ∙ not-true _ (test .if2 .taken)))
 
 returns-3 : tie.Need-returns-3
 returns-3 c =
@@ -57,7 +60,7 @@ returns-3 c =
     let checked = test .before .before .before in
     let cut = first checked in
     c .in-header .ensures ∙ ap inHeader (header .ensures)
-    ∙ sym (bad-header (scene cut) (is-whole cut) (is-right checked) (rw (← header .ensures) (test .if3 .taken)))
+    ∙ sym (bad-header (lent cut) (scene cut) (is-whole cut) (is-right checked) (rw (← header .ensures) (test .if3 .taken)))
 
 returns-4 : tie.Need-returns-4
 returns-4 c =
@@ -66,7 +69,7 @@ returns-4 c =
     let checked = second read in
     let cut = first checked in
     c .fault3 .ensures
-    ∙ sym (bad-count (scene cut) (is-whole cut) (is-right checked) (calm read) (rw (← test .before .count .ensures .0) (test .if4 .taken)))
+    ∙ sym (bad-count (lent cut) (scene cut) (is-whole cut) (is-right checked) (calm read) (rw (← test .before .count .ensures .0) (test .if4 .taken)))
 
 draw-faults-requires : tie.Need-draw-faults-requires
 draw-faults-requires c κs =
@@ -80,8 +83,8 @@ returns-5 c =
     let read = test .before .before in
     let checked = second read in
     let cut = first checked in
-    c .draw-faults .ensures ∙ ap (λ (k : ℕ). firstFault k (drawFault (scene cut))) (n .ensures .0)
-    ∙ sym (by-draws (scene cut) (is-whole cut) (is-right checked) (calm read) (rw (← n .ensures .0) (test .if4 .left)))
+    c .draw-faults .ensures ∙ ap (λ (k : ℕ). firstFault k (drawFault (lent cut) (scene cut))) (n .ensures .0)
+    ∙ sym (by-draws (lent cut) (scene cut) (is-whole cut) (is-right checked) (calm read) (rw (← n .ensures .0) (test .if4 .left)))
 
 pub verdict-spec : {M : Type 1} → statement M
 verdict-spec =

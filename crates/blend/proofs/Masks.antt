@@ -1,0 +1,72 @@
+-- The step under a mask (paper 02, P6): sizes, the quotient by 4,080, and what it is with m = 255 and with no sample covered.
+use mathlib.Core.Path.{_≡_, _∙_}
+use mathlib.Core.List.{List}
+use Prim.Native.Nat.{ℕ, _+_, _-_, _*_, _/_, _≤_, _<_}
+use native.Mathlib.Nat.{mul-le-mul, mul-le-mul-right}
+use native.Mathlib.Omega.{arith}
+use lib.ListN.{length, getD}
+use Rattle.color.specs.declared.Pixel.{Pixel}
+use Rattle.raster.specs.Surface.{run, pixelIn}
+use Rattle.raster.proofs.Runs.{run-same}
+use Rattle.blend.specs.PorterDuff.{stored, storedUnmasked, compositeByte, compositeOn}
+use Rattle.blend.specs.Unmasked.{unmaskedByte, unmaskedOn}
+use Rattle.blend.specs.Rows.{Coverage, compositeRow}
+
+-- ---- the quotient by 4,080 is one by 16, then by 255
+pub by-4080 : (x : ℕ) → x / 16 / 255 ≡ x / 4080
+by-4080 x = omega arith
+
+-- ---- sizes: the weight k m, of 4,080, and what is divided
+pub weight-small : (k m : ℕ) → k ≤ 16 → m < 256 → k * m ≤ 4080
+weight-small k m h i =
+    let x : m ≤ 255 = omega arith in
+    mul-le-mul h x
+
+pub weighed-small : (w b d : ℕ) → w ≤ 4080 → b < 256 → d < 256 → b * w + d * (4080 - w) ≤ 1040400
+weighed-small w b d h i j =
+    let x : b ≤ 255 = omega arith in
+    let y : d ≤ 255 = omega arith in
+    omega (arith, mul-le-mul-right w x, mul-le-mul-right (4080 - w) y)
+
+-- ---- with m = 255 it is the old formula
+quotients : (p q n : ℕ) → n ≡ 255 * p + 255 * q → (n + 2040) / 4080 ≡ (p + q + 8) / 16
+quotients p q n e = omega arith
+
+pub whole-mask : (k b d : ℕ) → k ≤ 16 → stored k 255 b d ≡ storedUnmasked k b d
+whole-mask k b d h = quotients (b * k) (d * (16 - k)) (b * k * 255 + d * (4080 - k * 255)) (omega (arith, kept))
+  where
+    rest : 4080 - k * 255 ≡ 255 * (16 - k)
+    rest = omega arith
+
+    kept : d * (4080 - k * 255) ≡ 255 * (d * (16 - k))
+    kept = rw rest (omega arith)
+
+byte-whole : (mode k sa da s d : ℕ) → k ≤ 16 → unmaskedByte mode k sa da s d ≡ compositeByte mode k 255 sa da s d
+unfolding compositeByte unmaskedByte
+byte-whole mode k sa da s d h = rw (whole-mask k _ d h)
+
+pub whole-mask-step : (mode k : ℕ) (s d : Pixel) → k ≤ 16 → unmaskedOn mode k s d ≡ compositeOn mode k 255 s d
+whole-mask-step mode k s d h =
+    rw (
+      byte-whole mode k (s .a) (d .a) (s .r) (d .r) h,
+      byte-whole mode k (s .a) (d .a) (s .g) (d .g) h,
+      byte-whole mode k (s .a) (d .a) (s .b) (d .b) h,
+      byte-whole mode k (s .a) (d .a) (s .a) (d .a) h,
+    )
+
+-- a row of it
+pub whole-mask-row : (mode : ℕ) (ks : List ℕ) (paint : ℕ → Pixel) (d r : List ℕ) → Coverage ks
+    → r ≡ run (length ks) (λ i. unmaskedOn mode (getD ks i 0) (paint i) (pixelIn d i)) → r ≡ compositeRow mode ks (λ i. 255) paint d
+whole-mask-row mode ks paint d r h o = o ∙ run-same (length ks) _ _ (λ i l. whole-mask-step mode (getD ks i 0) (paint i) (pixelIn d i) (h i l))
+
+-- ---- with no sample covered a pixel keeps its bytes, whatever m is
+uncovered-byte : (m b d : ℕ) → stored 0 m b d ≡ d
+uncovered-byte m b d =
+    let a : b * 0 * m ≡ 0 = omega arith in
+    let w : 0 * m ≡ 0 = omega arith in
+    rw (a, w) (omega arith)
+
+pub uncovered-masked : (mode m : ℕ) (s d : Pixel) → compositeOn mode 0 m s d ≡ d
+unfolding compositeByte
+uncovered-masked mode m s d =
+    rw (uncovered-byte m _ (d .r), uncovered-byte m _ (d .g), uncovered-byte m _ (d .b), uncovered-byte m _ (d .a))
