@@ -2,11 +2,9 @@
  * wayramesh.h: the C interface of Wayramesh, a verified renderer for instrument panels.
  *
  * A scene file goes in, and pixels come out. wayramesh_draw draws a scene in full. wayramesh_redraw takes a surface
- * from one scene to the next by drawing only the area in which they may differ. The scene file's format is paper 01's,
- * "The scene file", with paper 02's P8 (both sums of a block's check begin at the block's number, counted from 0),
- * P3 (a draw with segments whose sx * sy - shx * shy is 0, in whole numbers of 1/65,536, is refused), P1 (radial
- * gradients) and P6 (flag bit 3, by which a draw asks for a mask). At the end of this file, wayramesh_compare says where
- * two pictures differ, and wayramesh_composite is the blending step on one pixel.
+ * from one scene to the next by drawing only the area in which they may differ. docs/FORMAT.md describes the scene file:
+ * paper 01's, with paper 02's P8, P3, P1, P6 and P10. At the end of this file, wayramesh_compare says where two pictures
+ * differ, and wayramesh_composite is the blending step on one pixel.
  *
  * Link with libwayramesh.a (x86-64; it needs memcpy and memset of the C library). The library allocates nothing, keeps
  * nothing between calls, and does no input or output. examples/panel.c is a whole program.
@@ -62,6 +60,7 @@ extern "C" {
  *   the length that the number of draws asks for                          WAYRAMESH_BAD_LENGTH
  *   each draw in turn: the checks of its four blocks                      WAYRAMESH_BAD_CHECKSUM
  *                      its fields, to the end of the stops                WAYRAMESH_ILLEGAL_ARGUMENT
+ *                      in edition 1, its colour transformation            WAYRAMESH_ILLEGAL_ARGUMENT
  *                      a flat matrix, if it has segments                  WAYRAMESH_ILLEGAL_ARGUMENT
  *                      its path, segment by segment                       WAYRAMESH_UNSUPPORTED_PATH_FORMAT for an arc,
  *                                                                         else WAYRAMESH_ILLEGAL_ARGUMENT
@@ -178,10 +177,10 @@ static inline wayramesh_answer wayramesh_draw_unmasked(const uint8_t *scene, siz
  *   surface, surface_len  As in wayramesh_draw. Pixels outside the answered area are as before.
  *   scratch, scratch_len  As in wayramesh_draw.
  *
- * Draws are compared by number and by bytes: a draw counts as changed if any byte of its fields or path differs, or only
- * one scene has it. If the surface did not hold the old picture, the answered area still ends up as the new picture's,
- * and the rest stays as it was. After a refusal the surface still holds what it held, and the next call may go on from
- * the same old scene.
+ * Draws are compared by number and by bytes: a draw counts as changed if any byte of its fields or path differs, if only
+ * one scene has it, or if the scenes are of different editions. If the surface did not hold the old picture, the answered
+ * area still ends up as the new picture's, and the rest stays as it was. After a refusal the surface still holds what it
+ * held, and the next call may go on from the same old scene.
  */
 wayramesh_answer wayramesh_redraw(const uint8_t *old, size_t old_len,
                                   const uint8_t *new_scene, size_t new_len,

@@ -20,8 +20,10 @@ use Rattle.coverage.specs.Winding.{upward, spans, atOrLeft, sign, weight, count
 use Rattle.coverage.specs.Scissors.{scissored}
 use Rattle.scene.specs.Blocks.{checksumOf, blockRightFrom, drawOf, sameDraw}
 use Rattle.scene.specs.Fields.{paintOf, firstStopAt}
-use Rattle.scene.specs.Rules.{stopLimitOf, countRules, flagsAllowed, headRules, floatRules, flatRule, pathRules, headerRules, drawRules}
-use Rattle.engine.specs.Picture.{drawEdges, drawCoverage, drawPaint, drawMask, drawStep, pixelAt, picture}
+use Rattle.scene.specs.Rules.{stopLimitOf, countRules, flagsAllowed, headRules, floatRules, transformRules, flatRule, pathRules}
+use Rattle.scene.specs.Rules.{headerRules, drawRules}
+use Rattle.scene.specs.Layout.{coordinatesAt, flagsLimit}
+use Rattle.engine.specs.Picture.{drawEdges, coverageOf, drawTransform, drawPaint, drawMask, stepOf, pixelAt, picture}
 use Rattle.damage.specs.Damage.{changedAt, drawBox, boxAt, sameBackground, damageOf, damage}
 use Rattle.render.specs.declared.Answer.{Answer}
 use Rattle.render.specs.Answers.{noMask, acceptedAnswer, drawAnswer, drawSurface, redrawAnswer, redrawSurface, scratchNumbers, Accepted, OneSize, Lent}
@@ -30,11 +32,12 @@ use Rattle.cases.specs.Scenes.{squareDraw, redDraw, blueDraw, curveDraw,
 use Rattle.cases.proofs.Judged.{block-there, lists-judged, rest-judged, draw-judged, scene-judged}
 
 -- ---- accepted: zero bytes of the draw from a place on, and how many; then every block
-red-rules : drawRules false redDraw .code ≡ 0
-unfolding squareDraw ofBits isNan pointsOf penAfter segmentCode stopLimitOf countRules flagsAllowed headRules floatRules flatRule pathRules
+red-rules : drawRules false 0 redDraw .code ≡ 0
+unfolding squareDraw ofBits isNan pointsOf penAfter segmentCode stopLimitOf countRules flagsLimit flagsAllowed headRules floatRules transformRules flatRule
+    coordinatesAt pathRules
 red-rules =
-    draw-judged false redDraw refl refl (lists-judged redDraw 68 64 132 640 refl refl refl refl refl refl refl refl) refl refl
-    (rest-judged redDraw 777 123 910 1122 refl refl refl refl refl refl)
+    draw-judged false 0 redDraw refl refl (lists-judged redDraw 68 64 132 640 refl refl refl refl refl refl refl refl) refl refl refl
+    (rest-judged redDraw 777 123 910 1122 refl refl 0 refl refl refl refl)
 
 red-accepted : Accepted noMask red
 unfolding red squareDraw checksumOf blockRightFrom headerRules drawOf
@@ -47,11 +50,12 @@ red-accepted =
     (block-there red 4 refl)
     refl red-rules
 
-blue-rules : drawRules false blueDraw .code ≡ 0
-unfolding squareDraw ofBits isNan pointsOf penAfter segmentCode stopLimitOf countRules flagsAllowed headRules floatRules flatRule pathRules
+blue-rules : drawRules false 0 blueDraw .code ≡ 0
+unfolding squareDraw ofBits isNan pointsOf penAfter segmentCode stopLimitOf countRules flagsLimit flagsAllowed headRules floatRules transformRules flatRule
+    coordinatesAt pathRules
 blue-rules =
-    draw-judged false blueDraw refl refl (lists-judged blueDraw 68 64 132 640 refl refl refl refl refl refl refl refl) refl refl
-    (rest-judged blueDraw 777 123 910 1122 refl refl refl refl refl refl)
+    draw-judged false 0 blueDraw refl refl (lists-judged blueDraw 68 64 132 640 refl refl refl refl refl refl refl refl) refl refl refl
+    (rest-judged blueDraw 777 123 910 1122 refl refl 0 refl refl refl refl)
 
 blue-accepted : Accepted noMask blue
 unfolding blue squareDraw checksumOf blockRightFrom headerRules drawOf
@@ -64,11 +68,12 @@ blue-accepted =
     (block-there blue 4 refl)
     refl blue-rules
 
-curve-rules : drawRules false curveDraw .code ≡ 0
-unfolding curveDraw ofBits isNan pointsOf penAfter segmentCode stopLimitOf countRules flagsAllowed headRules floatRules flatRule pathRules
+curve-rules : drawRules false 0 curveDraw .code ≡ 0
+unfolding curveDraw ofBits isNan pointsOf penAfter segmentCode stopLimitOf countRules flagsLimit flagsAllowed headRules floatRules transformRules flatRule
+    coordinatesAt pathRules
 curve-rules =
-    draw-judged false curveDraw refl refl (lists-judged curveDraw 68 64 172 600 refl refl refl refl refl refl refl refl) refl refl
-    (rest-judged curveDraw 775 125 912 1120 refl refl refl refl refl refl)
+    draw-judged false 0 curveDraw refl refl (lists-judged curveDraw 68 64 172 600 refl refl refl refl refl refl refl refl) refl refl refl
+    (rest-judged curveDraw 775 125 912 1120 refl refl 0 refl refl refl refl)
 
 curve-accepted : Accepted noMask curve
 unfolding curve curveDraw checksumOf blockRightFrom headerRules drawOf
@@ -84,24 +89,26 @@ curve-accepted =
 -- ---- the pictures, and the area of the change
 red-picture : picture red [] ≡ redPicture
 unfolding red squareDraw squarePicture drawOf paintOf ofBits lt mul add toUnsigned channelByte sourceFactor destinationFactor compositeByte paintAt
-    pointsOf penAfter cut curveEdges pathEdges upward spans atOrLeft sign weight counts winding coverage scissored drawEdges drawCoverage
-    composite drawPaint drawMask drawStep pixelAt picture
+    pointsOf penAfter cut curveEdges pathEdges upward spans atOrLeft sign weight counts winding coverage scissored coordinatesAt drawEdges coverageOf
+    drawTransform
+    composite drawPaint drawMask stepOf pixelAt picture
 red-picture = refl
 
 blue-picture : picture blue [] ≡ bluePicture
 unfolding blue squareDraw squarePicture drawOf paintOf ofBits lt mul add toUnsigned channelByte sourceFactor destinationFactor compositeByte paintAt
-    pointsOf penAfter cut curveEdges pathEdges upward spans atOrLeft sign weight counts winding coverage scissored drawEdges drawCoverage
-    composite drawPaint drawMask drawStep pixelAt picture
+    pointsOf penAfter cut curveEdges pathEdges upward spans atOrLeft sign weight counts winding coverage scissored coordinatesAt drawEdges coverageOf
+    drawTransform
+    composite drawPaint drawMask stepOf pixelAt picture
 blue-picture = refl
 
 curve-picture : picture curve [] ≡ curvePicture
 unfolding curve curveDraw curvePicture linearT mapped keptStops withEnds rampAt gradientColor drawOf paintOf firstStopAt ofBits lt mul add toUnsigned
     channelByte sourceFactor destinationFactor compositeByte paintAt pointsOf penAfter cut curveEdges pathEdges upward spans atOrLeft sign weight counts
-    winding coverage scissored drawEdges drawCoverage composite drawPaint drawMask drawStep pixelAt picture
+    winding coverage scissored coordinatesAt drawEdges coverageOf drawTransform composite drawPaint drawMask stepOf pixelAt picture
 curve-picture = refl
 
 red-blue-damage : acceptedAnswer (damage red blue) ≡ answer 0 0 3 3
-unfolding red blue squareDraw ofBits drawOf sameDraw pointsOf penAfter curveEdges pathEdges drawEdges outer outerOf boxOf changedAt drawBox boxAt
+unfolding red blue squareDraw ofBits drawOf sameDraw pointsOf penAfter curveEdges pathEdges coordinatesAt drawEdges outer outerOf boxOf changedAt drawBox boxAt
     sameBackground damageOf
 red-blue-damage = refl
 

@@ -8,12 +8,13 @@ use lib.ListN.{length, getD, drop, replicate, getD-replicate, length-replicate, 
 use lib.Seq.{getD-drop}
 use lib.Dec.{eqb}
 use Rattle.path.specs.Segments.{walkTo}
-use Rattle.scene.specs.Layout.{scissorsAt, scissorBytes, stopsAt, stopFloats, stopBytes, segmentsAt, coordinatesAt, drawBytes}
+use Rattle.scene.specs.Layout.{scissorsAt, scissorBytes, stopsAt, stopFloats, stopBytes, segmentsAt, segmentsEnd, coordinatesAt, drawBytes}
 use Rattle.scene.specs.Blocks.{blockNumber, blockRight, drawOf}
-use Rattle.scene.specs.Header.{countOf}
+use Rattle.scene.specs.Header.{countOf, editionOf}
 use Rattle.scene.specs.Fields.{isRadial, firstStopAt, segmentCount, scissorCount, stopCount, segmentsOf, coordinatesOf}
 use Rattle.scene.specs.Faults.{fine, firstOf, must, unused, numbers}
-use Rattle.scene.specs.Rules.{headerRules, headRules, floatRules, circleRules, stopRules, listRules, flatRule, pathRules, restRules, drawRules}
+use Rattle.scene.specs.Rules.{headerRules, headRules, floatRules, circleRules, stopRules, listRules, transformRules, flatRule}
+use Rattle.scene.specs.Rules.{pathRules, restRules, drawRules}
 use Rattle.scene.specs.Rules.{checkFaultsFrom, drawFaultFrom, sceneFaultFrom, sceneFault}
 use Rattle.scene.proofs.Places.{blockAt, passesAt, block-alone}
 
@@ -43,20 +44,22 @@ module _ (d : List ℕ) (a m b n : ℕ) (first : drop a d ≡ replicate m 0 ++ d
   lists-judged plain scissors m-end stops used n-end =
       rw (plain, scissors, unused-zeros d a m first stopsAt m-end, stops, used, unused-zeros d b n second segmentsAt n-end)
 
-  pub rest-judged : segmentsAt + segmentCount d ≡ a → a + m ≡ coordinatesAt
-      → coordinatesAt + 2 * walkTo (segmentsOf d) (coordinatesOf d) (segmentCount d) .used ≡ b → b + n ≡ drawBytes → restRules d .code ≡ 0
+  pub rest-judged : (edition : ℕ) → segmentsAt + segmentCount d ≡ a → a + m ≡ segmentsEnd
+      → coordinatesAt edition + 2 * walkTo (segmentsOf d) (coordinatesOf edition d) (segmentCount d) .used ≡ b → b + n ≡ drawBytes
+      → restRules edition d .code ≡ 0
   unfolding restRules
-  rest-judged segments m-end used n-end =
-      rw (segments, unused-zeros d a m first coordinatesAt m-end, used, unused-zeros d b n second drawBytes n-end)
+  rest-judged edition segments m-end used n-end =
+      rw (segments, unused-zeros d a m first segmentsEnd m-end, used, unused-zeros d b n second drawBytes n-end)
 
-pub draw-judged : (lent : Bool) (d : List ℕ) → headRules lent d .code ≡ 0 → floatRules d .code ≡ 0 → listRules d .code ≡ 0 → flatRule d .code ≡ 0
-    → pathRules d .code ≡ 0
-    → restRules d .code ≡ 0 → drawRules lent d .code ≡ 0
+pub draw-judged : (lent : Bool) (edition : ℕ) (d : List ℕ) → headRules lent edition d .code ≡ 0 → floatRules d .code ≡ 0 → listRules d .code ≡ 0
+    → transformRules edition d .code ≡ 0 → flatRule d .code ≡ 0 → pathRules edition d .code ≡ 0 → restRules edition d .code ≡ 0
+    → drawRules lent edition d .code ≡ 0
 unfolding drawRules
-draw-judged lent d head floats lists flat path rest = rw (head, floats, lists, flat, path, rest)
+draw-judged lent edition d head floats lists transform flat path rest = rw (head, floats, lists, transform, flat, path, rest)
 
 pub scene-judged : (lent : Bool) (s d : List ℕ) → length s ≡ 2560 → countOf s ≡ 1 → headerRules s .code ≡ 0 → blockRight s 0 ≡ true
-    → blockRight s 1 ≡ true → blockRight s 2 ≡ true → blockRight s 3 ≡ true → blockRight s 4 ≡ true → drawOf s 0 ≡ d → drawRules lent d .code ≡ 0
+    → blockRight s 1 ≡ true → blockRight s 2 ≡ true → blockRight s 3 ≡ true → blockRight s 4 ≡ true → drawOf s 0 ≡ d
+    → drawRules lent (editionOf s) d .code ≡ 0
     → sceneFault lent s .code ≡ 0
 unfolding sceneFaultFrom drawFaultFrom checkFaultsFrom
 scene-judged lent s d whole one header b0 b1 b2 b3 b4 bytes rules = rw (whole, b0, header, one, b1, b2, b3, b4, bytes, rules)

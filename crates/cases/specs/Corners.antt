@@ -10,7 +10,8 @@ use Rattle.blend.specs.declared.Composited.{Composited}
 use Rattle.blend.specs.PorterDuff.{compositeAnswer, modeDstOver, modeSrcIn, modeSrcOver}
 use Rattle.paint.specs.Ramps.{rampOf, rampAt}
 use Rattle.scene.specs.declared.Fault.{Fault}
-use Rattle.scene.specs.Rules.{inHeader, inDraw, headerRules, headRules, drawRules, flatRule, pathRules, restRules, checkFaults}
+use Rattle.scene.specs.Layout.{coordinatesAt}
+use Rattle.scene.specs.Rules.{inHeader, inDraw, headerRules, headRules, transformRules, drawRules, flatRule, pathRules, restRules, checkFaults}
 use Rattle.cases.specs.Bench.{Row}
 use Rattle.cases.specs.Scenes.{red, redDraw}
 
@@ -23,20 +24,24 @@ numbers f = f .code ∷ f .draw ∷ f .offset ∷ []
 
 -- the draw of the red square, as draw 1, with another byte, or two, at a place
 abbrev draw : ℕ → ℕ → List ℕ
-draw place byte = numbers (inDraw 1 (drawRules false (set redDraw place byte)))
+draw place byte = numbers (inDraw 1 (drawRules false 0 (set redDraw place byte)))
 
 abbrev draw2 : ℕ → ℕ → ℕ → List ℕ
-draw2 place low high = numbers (inDraw 1 (drawRules false (set (set redDraw place low) (place + 1) high)))
+draw2 place low high = numbers (inDraw 1 (drawRules false 0 (set (set redDraw place low) (place + 1) high)))
 
--- its matrix alone, with two bytes of zero; its path alone; its unused segments and coordinates alone
+-- its matrix alone, with two bytes of zero; then its path alone; its unused segments and coordinates alone
 abbrev flat : ℕ → List ℕ
 flat place = numbers (inDraw 1 (flatRule (set (set redDraw place 0) (place + 1) 0)))
 
+-- its colour transformation alone, as a draw of edition 1, with two bytes at a place
+abbrev transform : ℕ → ℕ → ℕ → List ℕ
+transform place low high = numbers (inDraw 1 (transformRules 1 (set (set redDraw place low) (place + 1) high)))
+
 abbrev path : ℕ → ℕ → List ℕ
-path place byte = numbers (inDraw 1 (pathRules (set redDraw place byte)))
+path place byte = numbers (inDraw 1 (pathRules 0 (set redDraw place byte)))
 
 abbrev rest : ℕ → ℕ → List ℕ
-rest place byte = numbers (inDraw 1 (restRules (set redDraw place byte)))
+rest place byte = numbers (inDraw 1 (restRules 0 (set redDraw place byte)))
 
 -- block 0 of the red square with another byte; the checks of draw 0 in a file that begins with these bytes and is zero behind them
 abbrev header : ℕ → ℕ → List ℕ
@@ -82,7 +87,7 @@ corners =
     row (header 0 0) (illegal 64 0)
     ∷ row (header 3 4) (illegal 64 2)
     ∷ row (header 4 65) (illegal 64 4)
-    ∷ row (header 6 1) (illegal 64 6)
+    ∷ row (header 6 2) (illegal 64 6)
     ∷ row (header 12 1) (illegal 64 12)
     ∷ row (checks []) (0xB001 ∷ 0 ∷ 1020 ∷ [])
     ∷ row (checks (replicate 1020 0 ++ (1 ∷ 0 ∷ 1 ∷ 0 ∷ []))) (0xB001 ∷ 0 ∷ 1532 ∷ [])
@@ -90,7 +95,14 @@ corners =
     ∷ row (draw 0 8) (illegal 1 2560)
     ∷ row (draw 2 5) (illegal 1 2562)
     -- where one is lent, bit 3 passes the head's rules, and bit 4 does not
-    ∷ row (headRules true (set redDraw 0 8) .code ∷ headRules true (set redDraw 0 16) .code ∷ []) (0 ∷ 0x1001 ∷ [])
+    ∷ row (headRules true 0 (set redDraw 0 8) .code ∷ headRules true 0 (set redDraw 0 16) .code ∷ []) (0 ∷ 0x1001 ∷ [])
+    -- in edition 1 the coordinates begin later, bit 4 passes too, and bit 5 does not; a NaN among its eight values is met at its place, an infinite
+    -- value is allowed
+    ∷ row (coordinatesAt 0 ∷ coordinatesAt 1 ∷ []) (900 ∷ 932 ∷ [])
+    ∷ row (headRules false 1 (set redDraw 0 16) .code ∷ headRules false 1 (set redDraw 0 32) .code ∷ []) (0 ∷ 0x1001 ∷ [])
+    ∷ row (transform 902 192 127) (illegal 1 3464)
+    ∷ row (transform 930 192 127) (illegal 1 3492)
+    ∷ row (transform 930 128 127) (0 ∷ 64 ∷ 0 ∷ [])
     ∷ row (draw 5 0) (illegal 1 2564)
     ∷ row (draw 7 0) (illegal 1 2566)
     ∷ row (draw 8 129) (illegal 1 2568)

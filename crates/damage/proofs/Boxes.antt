@@ -18,7 +18,7 @@ use Rattle.rect.specs.Rects.{smallest, joinOf, On}
 use Rattle.rect.proofs.Laws.{either, join-on}
 use Rattle.color.specs.declared.Pixel.{Pixel}
 use Rattle.scene.specs.Blocks.{drawOf, sameDraw}
-use Rattle.scene.specs.Header.{countOf, backgroundOf}
+use Rattle.scene.specs.Header.{countOf, editionOf, backgroundOf}
 use Rattle.engine.specs.Picture.{drawEdges}
 use Rattle.damage.specs.Damage.{has, changedAt, drawBox, boxAt, boxesAt, sameBytes, sameBackground}
 use Rattle.damage.proofs.Changes.{box-there, changed-bytes}
@@ -35,20 +35,20 @@ edges-on w h (e ∷ es) =
 
 pub box-on : (w h : ℕ) (s : List ℕ) (i : ℕ) → (boxAt w h s i .x1 ≤ w) × (boxAt w h s i .y1 ≤ h)
 unfolding boxAt drawBox
-box-on w h s i = either (has s i) (λ e. rw e (edges-on w h (drawEdges (drawOf s i)))) (λ e. rw e (omega arith, omega arith))
+box-on w h s i = either (has s i) (λ e. rw e (edges-on w h (drawEdges (editionOf s) (drawOf s i)))) (λ e. rw e (omega arith, omega arith))
 
 -- what `box_at` answers
-pub box-answer : (w h : ℕ) (s d : List ℕ) (i : ℕ) (r : Rect) → i < countOf s → d ≡ drawOf s i → r ≡ boxOf w h (drawEdges d)
-    → (r ≡ boxAt w h s i) × ((r .x1 ≤ w) × (r .y1 ≤ h))
+pub box-answer : (w h : ℕ) (s d : List ℕ) (edition i : ℕ) (r : Rect) → i < countOf s → edition ≡ editionOf s → d ≡ drawOf s i
+    → r ≡ boxOf w h (drawEdges edition d) → (r ≡ boxAt w h s i) × ((r .x1 ≤ w) × (r .y1 ≤ h))
 unfolding drawBox
-box-answer w h s d i r l e o =
-    let on = edges-on w h (drawEdges d) in
-    (o ∙ ap (λ (z : List ℕ). boxOf w h (drawEdges z)) e ∙ sym (box-there w h s i l), (rw o (on .0), rw o (on .1)))
+box-answer w h s d edition i r l f e o =
+    let on = edges-on w h (drawEdges edition d) in
+    (o ∙ ap₂ (λ (n : ℕ) (z : List ℕ). boxOf w h (drawEdges n z)) f e ∙ sym (box-there w h s i l), (rw o (on .0), rw o (on .1)))
 
 -- what `is_changed` answers
-pub changed-answer : (old new d e : List ℕ) (i : ℕ) (b : Bool) → i < countOf old → i < countOf new → d ≡ drawOf old i → e ≡ drawOf new i → b ≡ sameDraw d e
-    → not b ≡ changedAt old new i
-changed-answer old new d e i b k l p q o = ap not (o ∙ ap₂ sameDraw p q) ∙ sym (changed-bytes old new i k l)
+pub changed-answer : (old new d e : List ℕ) (i : ℕ) (b : Bool) → i < countOf old → i < countOf new → editionOf old ≡ editionOf new
+    → d ≡ drawOf old i → e ≡ drawOf new i → b ≡ sameDraw d e → not b ≡ changedAt old new i
+changed-answer old new d e i b k l m p q o = ap not (o ∙ ap₂ sameDraw p q) ∙ sym (changed-bytes old new i k l m)
 
 -- what `same_bytes` answers
 module _ (p q : Pixel) where

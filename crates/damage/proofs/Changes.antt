@@ -1,20 +1,20 @@
 -- What the tests of the definitions tell of changed draws, of their boxes and of the background.
 use mathlib.Core.Path.{_≡_, sym, _∙_}
 use mathlib.Core.List.{List, [], _++_}
-use mathlib.Core.Bool.{true, false, not}
+use mathlib.Core.Bool.{true, false, not, _&&_}
 use mathlib.Core.Logic.{⊎-elim}
 use Prim.Native.Nat.{ℕ, zero, suc, _+_, _*_, _≤_, _<_}
 use native.Mathlib.Nat.{eq-or-lt-of-le, le-of-suc-le-suc, not-suc-le-zero}
 use native.Mathlib.Omega.{arith}
 use lib.ListN.{length, getD, take, drop, length-append, length-take, length-drop}
 use lib.Seq.{ext-getD}
-use borrow.Author.Tests.{eqb-true, le-ltb, lt-ltb}
+use borrow.Author.Tests.{eqb-true, eq-eqb, ne-eqb, le-ltb, lt-ltb, not-false}
 use Rattle.color.specs.declared.Pixel.{Pixel}
 use Rattle.rect.specs.Rects.{none, whole, smallest}
 use Rattle.rect.proofs.Laws.{both}
 use Rattle.scene.specs.Blocks.{drawOf, sameTo, sameDraw}
-use Rattle.scene.specs.Header.{countOf, backgroundOf}
-use Rattle.damage.specs.Damage.{has, changedAt, drawBox, boxAt, changedBoxes, sameBytes, sameBackground, damageOf}
+use Rattle.scene.specs.Header.{countOf, editionOf, backgroundOf}
+use Rattle.damage.specs.Damage.{has, sameEdition, changedAt, drawBox, boxAt, changedBoxes, sameBytes, sameBackground, damageOf}
 
 -- ---- bytes
 same-at : (s t : List ℕ) (n k : ℕ) → sameTo s t n ≡ true → k < n → getD s k 0 ≡ getD t k 0
@@ -51,16 +51,29 @@ module _ (old new : List ℕ) (i : ℕ) where
   unfolding changedAt
   changed-gone h k = rw (lt-ltb i (countOf old) h, le-ltb i (countOf new) k)
 
-  pub changed-bytes : i < countOf old → i < countOf new → changedAt old new i ≡ not (sameDraw (drawOf old i) (drawOf new i))
-  unfolding changedAt
-  changed-bytes h k = rw (lt-ltb i (countOf old) h, lt-ltb i (countOf new) k)
+  -- both scenes have it
+  module _ (h : i < countOf old) (k : i < countOf new) where
+    changed-both : changedAt old new i ≡ not (sameEdition old new && sameDraw (drawOf old i) (drawOf new i))
+    unfolding changedAt
+    changed-both = rw (lt-ltb i (countOf old) h, lt-ltb i (countOf new) k)
+
+    pub changed-edition : (editionOf old ≡ editionOf new → ⊥) → changedAt old new i ≡ true
+    changed-edition n = changed-both ∙ rw (ne-eqb (editionOf old) (editionOf new) n)
+
+    pub changed-bytes : editionOf old ≡ editionOf new → changedAt old new i ≡ not (sameDraw (drawOf old i) (drawOf new i))
+    changed-bytes e = changed-both ∙ rw (eq-eqb (editionOf old) (editionOf new) e)
+
+    pub unchanged : changedAt old new i ≡ false → (editionOf old ≡ editionOf new) × (sameDraw (drawOf old i) (drawOf new i) ≡ true)
+    unchanged c =
+        let p = both (sameEdition old new) (sameDraw (drawOf old i) (drawOf new i)) (not-false _ (sym changed-both ∙ c)) in
+        (eqb-true (editionOf old) (editionOf new) (p .0), p .1)
 
 module _ (w h : ℕ) (s : List ℕ) (i : ℕ) where
   pub box-past : countOf s ≤ i → boxAt w h s i ≡ none
   unfolding boxAt
   box-past l = rw (le-ltb i (countOf s) l)
 
-  pub box-there : i < countOf s → boxAt w h s i ≡ drawBox w h (drawOf s i)
+  pub box-there : i < countOf s → boxAt w h s i ≡ drawBox w h (editionOf s) (drawOf s i)
   unfolding boxAt
   box-there l = rw (lt-ltb i (countOf s) l)
 

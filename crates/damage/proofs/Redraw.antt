@@ -8,7 +8,7 @@ use Prim.Native.Nat.{ℕ, zero, suc, _+_, _*_, _≤_, _<_, max}
 use native.Mathlib.Nat.{eq-or-lt-of-le, le-of-suc-le-suc}
 use native.Mathlib.Omega.{arith}
 use lib.ListN.{length}
-use borrow.Author.Tests.{le-ltb, lt-ltb, not-false}
+use borrow.Author.Tests.{le-ltb, lt-ltb}
 use Rattle.rect.specs.Rects.{Inside}
 use Rattle.rect.proofs.Laws.{either, in-or-out}
 use Rattle.color.specs.declared.Pixel.{Pixel}
@@ -16,17 +16,17 @@ use Rattle.color.specs.Channels.{premultiplied}
 use Rattle.raster.specs.Surface.{raster, overlay}
 use Rattle.raster.proofs.Pixels.{raster-at, raster-length, surface-same}
 use Rattle.raster.proofs.Overlay.{less-or, overlay-in, overlay-out, overlay-length}
-use Rattle.scene.specs.Blocks.{drawOf, sameDraw}
-use Rattle.scene.specs.Header.{countOf, backgroundOf}
-use Rattle.engine.proofs.Steps.{step-out}
-use Rattle.engine.specs.Picture.{drawStep, drawAll, firstDraws, pixelAt, picture}
+use Rattle.scene.specs.Blocks.{drawOf}
+use Rattle.scene.specs.Header.{countOf, editionOf, backgroundOf}
+use Rattle.engine.proofs.Steps.{draw-closed, step-out}
+use Rattle.engine.specs.Picture.{drawEdges, drawStep, drawAll, firstDraws, pixelAt, picture}
 use Rattle.damage.specs.Damage.{has, changedAt, drawBox, boxAt, sameBackground, damageOf}
-use Rattle.damage.proofs.Changes.{same-equal, draw-length, changed-past, changed-gone, changed-bytes, box-there, same-background, damage-whole}
+use Rattle.damage.proofs.Changes.{same-equal, draw-length, changed-past, changed-gone, unchanged, box-there, same-background, damage-whole}
 use Rattle.damage.proofs.Smallest.{damage-holds}
 
 -- what draw i does to a pixel: nothing where the scene has no such draw
 abbrev stepAt : (ℕ → ℕ → ℕ) → List ℕ → ℕ → ℕ → ℕ → Pixel → Pixel
-stepAt mask s i x y p = cond (has s i) (drawStep (drawOf s i) mask x y p) p
+stepAt mask s i x y p = cond (has s i) (drawStep (editionOf s) (drawOf s i) mask x y p) p
 
 -- the first n draws, as far as there are any
 abbrev runTo : (ℕ → ℕ → ℕ) → List ℕ → ℕ → ℕ → ℕ → Pixel → Pixel
@@ -34,11 +34,11 @@ runTo mask s zero x y p = p
 runTo mask s (suc n) x y p = stepAt mask s n x y (runTo mask s n x y p)
 
 module _ (mask : ℕ → ℕ → ℕ) (s : List ℕ) (x y : ℕ) (p : Pixel) where
-  run-is : (n : ℕ) → n ≤ countOf s → runTo mask s n x y p ≡ drawAll (firstDraws s n) mask x y p
+  run-is : (n : ℕ) → n ≤ countOf s → runTo mask s n x y p ≡ drawAll (editionOf s) (firstDraws s n) mask x y p
   run-is zero l = refl
   run-is (suc n) l = rw (lt-ltb n (countOf s) l, run-is n (omega arith), foldl-append)
 
-  run-all : (n : ℕ) → countOf s ≤ n → runTo mask s n x y p ≡ drawAll (firstDraws s (countOf s)) mask x y p
+  run-all : (n : ℕ) → countOf s ≤ n → runTo mask s n x y p ≡ drawAll (editionOf s) (firstDraws s (countOf s)) mask x y p
   run-all zero l =
       let e : countOf s ≡ 0 = omega arith in
       rw e
@@ -56,7 +56,10 @@ module _
     unfolding drawBox
     step-none s i x y p k l o =
         less-or i (countOf s)
-        (λ m. rw (lt-ltb i (countOf s) m) (step-out (drawOf s i) mask w h x y p k l (rw (box-there w h s i m) at o)))
+        (λ m.
+        let d = drawOf s i in
+        rw (lt-ltb i (countOf s) m)
+        (step-out (drawEdges (editionOf s) d) d mask w h x y p (draw-closed (editionOf s) d) k l (rw (box-there w h s i m) at o)))
         (λ m. rw (le-ltb i (countOf s) m))
 
     -- a draw that is not changed does the same in both scenes
@@ -66,9 +69,10 @@ module _
         (λ a.
         less-or i (countOf new)
         (λ b.
-        let e : sameDraw (drawOf old i) (drawOf new i) ≡ true = not-false _ (sym (changed-bytes old new i a b) ∙ c) in
-        let d = same-equal (drawOf old i) (drawOf new i) (draw-length old (countOf old) i bo a) (draw-length new (countOf new) i bn b) e in
-        rw (lt-ltb i (countOf old) a, lt-ltb i (countOf new) b, d))
+        let e = unchanged old new i a b c in
+        let d = same-equal (drawOf old i) (drawOf new i) (draw-length old (countOf old) i bo a) (draw-length new (countOf new) i bn b) (e .1) in
+        rw (lt-ltb i (countOf old) a, lt-ltb i (countOf new) b, d)
+        (ap (λ (n : ℕ). drawStep n (drawOf new i) mask x y p) (e .0)))
         (λ b. absurd (true≢false (sym (changed-gone old new i a b) ∙ c))))
         (λ a. rw (le-ltb i (countOf old) a, sym (changed-past old new i a) ∙ c))
 
@@ -78,15 +82,15 @@ module _
         (i : ℕ) → i < max (countOf old) (countOf new) → changedAt old new i ≡ true → (Inside (boxAt w h old i) x y → ⊥) × (Inside (boxAt w h new i) x y → ⊥)
 
     -- there each draw does the same in both scenes
-    step-same : (i x y : ℕ) (p : Pixel) → i < max (countOf old) (countOf new) → x < w → y < h → Untouched x y → stepAt mask old i x y p
-        ≡ stepAt mask new i x y p
+    step-same : (i x y : ℕ) (p : Pixel) → i < max (countOf old) (countOf new) → x < w → y < h → Untouched x y
+        → stepAt mask old i x y p ≡ stepAt mask new i x y p
     step-same i x y p b k l away =
         either (changedAt old new i)
         (λ c. step-none old i x y p k l (away i b c .0) ∙ sym (step-none new i x y p k l (away i b c .1)))
         (λ c. step-kept i x y p c)
 
-    runs-same : (x y : ℕ) (p : Pixel) → x < w → y < h → Untouched x y → (i : ℕ) → i ≤ max (countOf old) (countOf new) → runTo mask old i x y p
-        ≡ runTo mask new i x y p
+    runs-same : (x y : ℕ) (p : Pixel) → x < w → y < h → Untouched x y → (i : ℕ) → i ≤ max (countOf old) (countOf new)
+        → runTo mask old i x y p ≡ runTo mask new i x y p
     runs-same x y p k l away zero b = refl
     runs-same x y p k l away (suc i) b =
         step-same i x y (runTo mask old i x y p) b k l away ∙ ap (stepAt mask new i x y) (runs-same x y p k l away i (omega arith))
@@ -100,7 +104,7 @@ module _
         sym (run-all mask old x y p all (omega arith))
         ∙ runs-same x y p k l away all (omega arith)
         ∙ run-all mask new x y p all (omega arith)
-        ∙ ap (λ (c : Pixel). drawAll (firstDraws new (countOf new)) mask x y (premultiplied c)) (same-background old new b)
+        ∙ ap (λ (c : Pixel). drawAll (editionOf new) (firstDraws new (countOf new)) mask x y (premultiplied c)) (same-background old new b)
 
     -- outside the area both scenes have the same pixels
     pub outside-same : (x y : ℕ) → x < w → y < h → (Inside (damageOf w h old new) x y → ⊥) → pixelAt old mask x y ≡ pixelAt new mask x y

@@ -9,23 +9,26 @@ use Rattle.rect.specs.declared.Rect.{Rect}
 use Rattle.rect.specs.Rects.{none, whole, smallest}
 use Rattle.path.specs.Boxes.{boxOf}
 use Rattle.scene.specs.Blocks.{drawOf, sameDraw}
-use Rattle.scene.specs.Header.{widthOf, heightOf, countOf, backgroundOf}
+use Rattle.scene.specs.Header.{widthOf, heightOf, countOf, editionOf, backgroundOf}
 use Rattle.engine.specs.Picture.{drawEdges}
 
 -- the scene has a draw i
 abbrev pub has : List ℕ → ℕ → Bool
 has s i = ltb i (countOf s)
 
--- draw i is changed: its 2,032 bytes differ, or only one scene has it
+abbrev pub sameEdition : List ℕ → List ℕ → Bool
+sameEdition old new = eqb (editionOf old) (editionOf new)
+
+-- draw i is changed: the scenes' editions differ, or its 2,032 bytes do, or only one scene has it
 unfoldable pub changedAt : List ℕ → List ℕ → ℕ → Bool
-changedAt old new i = cond (has old i) (cond (has new i) (not (sameDraw (drawOf old i) (drawOf new i))) true) (has new i)
+changedAt old new i = cond (has old i) (cond (has new i) (not (sameEdition old new && sameDraw (drawOf old i) (drawOf new i))) true) (has new i)
 
 -- the box of draw i on a surface of w by h pixels
-unfoldable pub drawBox : ℕ → ℕ → List ℕ → Rect
-drawBox w h d = boxOf w h (drawEdges d)
+unfoldable pub drawBox : ℕ → ℕ → ℕ → List ℕ → Rect
+drawBox w h edition d = boxOf w h (drawEdges edition d)
 
 unfoldable pub boxAt : ℕ → ℕ → List ℕ → ℕ → Rect
-boxAt w h s i = cond (has s i) (drawBox w h (drawOf s i)) none
+boxAt w h s i = cond (has s i) (drawBox w h (editionOf s) (drawOf s i)) none
 
 -- the boxes, old and new, of draw i, if it is changed
 abbrev pub boxesAt : ℕ → ℕ → List ℕ → List ℕ → ℕ → List Rect

@@ -30,7 +30,7 @@ fn box_at(s: &[u8], i: usize, scratch: &mut [i32], width: usize, height: usize) 
     }
     let mut d = [0u8; DRAW_BYTES];
     scene::blocks::read_draw(s, i, &mut d);
-    engine::edges::draw_bounds(scratch, &d, width, height)
+    engine::edges::draw_bounds(scratch, &d, scene::header::edition(s), width, height)
 }
 
 // Whether draw i is changed.
@@ -44,6 +44,9 @@ fn is_changed(old: &[u8], new: &[u8], i: usize) -> bool
         return i < n;
     }
     if n <= i {
+        return true;
+    }
+    if scene::header::edition(old) != scene::header::edition(new) {
         return true;
     }
     let mut d = [0u8; DRAW_BYTES];

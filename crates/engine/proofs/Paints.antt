@@ -25,56 +25,71 @@ use Rattle.paint.specs.declared.Paint.{Paint}
 use Rattle.paint.specs.declared.Paint.the-variants as paint
 use Rattle.paint.specs.Paints.{paintLinear, paintAt}
 use Rattle.paint.specs.Radial.{fixedCircle, focalAllowed}
+use Rattle.transform.specs.declared.FixedTransform.{FixedTransform}
+use Rattle.transform.specs.Transforms.{fixedTransform, transformed}
+use Rattle.scene.specs.Fields.{transforms, transformOf}
 use Rattle.scene.specs.Fields.{paintOf, paintTypeOf, pickPaint, colorOf, linearOf, isRadial, radialOf, firstStopAt, stopsOf, stopCount, scissorsOf, blendOf}
 use Rattle.scene.specs.Rules.{stopLimitOf}
-use Rattle.scene.specs.Accepted.{AcceptedDraw}
+use Rattle.scene.specs.Accepted.{AcceptedFields}
 use Rattle.scene.proofs.Accepted.{stops-fit}
 use Rattle.lists.proofs.Laws.{part-length}
-use Rattle.engine.specs.Picture.{drawEdges, drawCoverage, drawPaint, drawMask}
-use Rattle.engine.specs.Unclamped.{unclampedStep}
+use Rattle.engine.specs.Picture.{coverageOf, drawTransform, drawPaint, drawMask}
+use Rattle.engine.specs.Unclamped.{unclampedOf}
+use Rattle.engine.specs.declared.Tint.{Tint}
+use Rattle.engine.specs.declared.Tint.the-variants.{Plain, Transformed}
 use Rattle.engine.specs.declared.Shade.{Shade}
 use Rattle.engine.specs.declared.Shade.the-variants.{Solid, Gradient}
 use Rattle.engine.specs.declared.Style.{Style}
-use Rattle.engine.specs.Rows.{coverageWith, stepWith, shadeAt, styleOf, MadeLinear, MadeRadial, Shades}
+use Rattle.engine.specs.Rows.{coverageWith, stepWith, tintedBy, shadeAt, styleOf, Tints, MadeLinear, MadeRadial, Shades}
+
+-- ---- the colour transformation
+pub tint-on : (d : List ℕ) (t : FixedTransform) → transforms d ≡ true → t ≡ fixedTransform (transformOf d) → Tints d (Transformed t)
+unfolding tintedBy drawTransform
+tint-on d t e f p = rw e (ap (λ (u : FixedTransform). transformed u p) f)
+
+pub tint-off : (d : List ℕ) → transforms d ≡ false → Tints d Plain
+unfolding tintedBy drawTransform
+tint-off d e p = rw e
 
 -- ---- the paint
-pub solid-shades : (d : List ℕ) (c : Color) (p : Pixel) (before : List ℕ) → paintOf d ≡ paint.Solid c → p ≡ premultiplied (bytesOfColor c)
-    → Shades d (Solid p) before before
-unfolding shadeAt drawPaint paintAt
-solid-shades d c p before e f = record { paint = λ x y. rw e f; asked = tt; run = refl }
-
-module _ (d before after : List ℕ) where
-  pub linear-shades : (p : LinearPoints) (g : LinearGradient) → paintOf d ≡ paint.Linear p → MadeLinear d p g before after
-      → Shades d (Gradient (gradient.Linear g)) before after
+module _ (d : List ℕ) (t : Tint) (tints : Tints d t) where
+  pub solid-shades : (c : Color) (p q : Pixel) (before : List ℕ) → paintOf d ≡ paint.Solid c → p ≡ premultiplied (bytesOfColor c) → q ≡ tintedBy t p
+      → Shades d (Solid q) before before
   unfolding shadeAt drawPaint paintAt
-  linear-shades p g e o = record {
-    paint = λ x y. rw (e, o .ramp .written .stops, o .spread, o .premultiply, o .points);
-    asked = (o .limited, o .ramp .held);
-    run = o .ramp .written;
-  }
+  solid-shades c p q before e f g = record { paint = λ x y. g ∙ tints p ∙ rw e (ap (drawTransform d) f); asked = tt; run = refl }
 
-  pub radial-shades : (p : RadialPoints) (g : RadialGradient) → paintOf d ≡ paint.Radial p → MadeRadial d p g before after
-      → Shades d (Gradient (gradient.Radial g)) before after
-  unfolding shadeAt drawPaint paintAt
-  radial-shades p g e o = record {
-    paint = λ x y. rw (e, o .ramp .written .stops, o .spread, o .premultiply, o .circle);
-    asked = (o .limited, o .focal, o .ramp .held);
-    run = o .ramp .written;
-  }
+  module _ (before after : List ℕ) where
+    pub linear-shades : (p : LinearPoints) (g : LinearGradient) → paintOf d ≡ paint.Linear p → MadeLinear d p g before after
+        → Shades d (Gradient (record { gradient = gradient.Linear g; tint = t })) before after
+    unfolding shadeAt drawPaint paintAt
+    linear-shades p g e o = record {
+      paint = λ x y. tints _ ∙ rw (e, o .ramp .written .stops, o .spread, o .premultiply, o .points);
+      asked = (o .limited, o .ramp .held);
+      run = o .ramp .written;
+    }
+
+    pub radial-shades : (p : RadialPoints) (g : RadialGradient) → paintOf d ≡ paint.Radial p → MadeRadial d p g before after
+        → Shades d (Gradient (record { gradient = gradient.Radial g; tint = t })) before after
+    unfolding shadeAt drawPaint paintAt
+    radial-shades p g e o = record {
+      paint = λ x y. tints _ ∙ rw (e, o .ramp .written .stops, o .spread, o .premultiply, o .circle);
+      asked = (o .limited, o .focal, o .ramp .held);
+      run = o .ramp .written;
+    }
 
 -- ---- the step
-own-step : (d : List ℕ) (mask : ℕ → ℕ → ℕ) (n : ℕ) (shade : Shade) (ramp : List ℕ) (x y : ℕ) (q : Pixel) → shadeAt shade ramp x y ≡ drawPaint d x y
-    → stepWith (styleOf d n shade) (drawEdges d) (scissorsOf d) ramp (mask x y) x y q ≡ unclampedStep d mask x y q
-unfolding stepWith coverageWith unclampedStep drawCoverage drawMask
-own-step d mask n shade ramp x y q e = ap (λ (p : Pixel). compositeOn (blendOf d) (drawCoverage d x y) (drawMask d mask x y) p q) e
+own-step : (es : List Edge) (d : List ℕ) (mask : ℕ → ℕ → ℕ) (n : ℕ) (shade : Shade) (ramp : List ℕ) (x y : ℕ) (q : Pixel)
+    → shadeAt shade ramp x y ≡ drawPaint d x y → stepWith (styleOf d n shade) es (scissorsOf d) ramp (mask x y) x y q ≡ unclampedOf es d mask x y q
+unfolding stepWith coverageWith unclampedOf coverageOf drawMask
+own-step es d mask n shade ramp x y q e = ap (λ (p : Pixel). compositeOn (blendOf d) (coverageOf es d x y) (drawMask d mask x y) p q) e
 
-pub own-steps : (t : Target) (d : List ℕ) (mask : ℕ → ℕ → ℕ) (s r : List ℕ) (style : Style) (n : ℕ) (shade : Shade) (es : List Edge) (scissors ramp : List ℕ)
-    → style ≡ styleOf d n shade → es ≡ drawEdges d → scissors ≡ scissorsOf d → ((x y : ℕ) → shadeAt shade ramp x y ≡ drawPaint d x y)
-    → r ≡ stepped t (λ x y. stepWith style es scissors ramp (mask x y) x y) s → r ≡ stepped t (unclampedStep d mask) s
-own-steps t d mask s r style n shade es scissors ramp e f g h o =
+pub own-steps : (t : Target) (es fs : List Edge) (d : List ℕ) (mask : ℕ → ℕ → ℕ) (s r : List ℕ) (style : Style) (n : ℕ) (shade : Shade) (scissors ramp : List ℕ)
+    → style ≡ styleOf d n shade → fs ≡ es → scissors ≡ scissorsOf d → ((x y : ℕ) → shadeAt shade ramp x y ≡ drawPaint d x y)
+    → r ≡ stepped t (λ x y. stepWith style fs scissors ramp (mask x y) x y) s → r ≡ stepped t (unclampedOf es d mask) s
+own-steps t es fs d mask s r style n shade scissors ramp e f g h o =
     o
     ∙ rw (e, f, g)
-    (overlay-same (t .width) (t .height) (t .area) _ _ s (λ x y k l i. own-step d mask n shade ramp x y (pixelOf (t .width) s x y) (h x y)))
+    (overlay-same (t .width) (t .height) (t .area) _ _ s (λ x y k l i. own-step es d mask n shade ramp x y (pixelOf (t .width) s x y) (h x y)))
 
 -- ---- what the gradient's functions ask
 abbrev pointsOf : LinearPoints → Paint → LinearPoints
@@ -115,12 +130,12 @@ radial-is : (d : List ℕ) (p : RadialPoints) → paintOf d ≡ paint.Radial p �
 unfolding paintOf
 radial-is d p e = picked-circle (colorOf d) (linearOf d) (radialOf d) (isRadial d) (eqb (paintTypeOf d) paintLinear) p e
 
-pub points-limited : (d : List ℕ) (p : LinearPoints) → AcceptedDraw d → paintOf d ≡ paint.Linear p
+pub points-limited : (d : List ℕ) (p : LinearPoints) → AcceptedFields d → paintOf d ≡ paint.Linear p
     → (atMost 4096 (p .x0) ≡ true) × (atMost 4096 (p .y0) ≡ true) × (atMost 4096 (p .x1) ≡ true) × (atMost 4096 (p .y1) ≡ true)
 points-limited d p a e =
     rw (← (linear-is d p e)) (a .points 0 (omega arith), a .points 1 (omega arith), a .points 2 (omega arith), a .points 3 (omega arith))
 
-module _ (d : List ℕ) (p : RadialPoints) (a : AcceptedDraw d) (e : paintOf d ≡ paint.Radial p) where
+module _ (d : List ℕ) (p : RadialPoints) (a : AcceptedFields d) (e : paintOf d ≡ paint.Radial p) where
   pub circle-limited : ((atMost 1024 (p .cx) ≡ true) × (atMost 1024 (p .cy) ≡ true))
       × ((atMost 1024 (p .fx) ≡ true) × (atMost 1024 (p .fy) ≡ true) × (atMost 1024 (p .r) ≡ true))
   circle-limited =

@@ -1,8 +1,8 @@
 -- A row's coverage and a row of pixels, taken apart and put together.
-use mathlib.Core.Path.{_≡_, sym, ap, _∙_}
+use mathlib.Core.Path.{_≡_, refl, sym, ap, _∙_}
 use mathlib.Core.List.{List, [], _∷_, _++_}
 use mathlib.Core.Bool.{Bool, true, false}
-use Prim.Native.Nat.{ℕ, _+_, _-_, _≤_, _<_}
+use Prim.Native.Nat.{ℕ, _+_, _-_, _*_, _≤_, _<_}
 use native.Mathlib.Nat.{le-trans}
 use native.Mathlib.Omega.{arith}
 use lib.ListN.{length, getD, take, drop, length-append, length-drop, length-take}
@@ -14,17 +14,20 @@ use Rattle.raster.specs.Surface.{run, pixelIn}
 use Rattle.raster.proofs.Pixels.{run-at}
 use Rattle.blend.specs.PorterDuff.{compositeOn}
 use Rattle.blend.specs.Rows.{Coverage, compositeRow}
-use Rattle.raster.proofs.Runs.{run-same}
+use Rattle.raster.proofs.Runs.{run-same, run-is}
 use Rattle.path.specs.declared.Edge.{Edge}
 use Rattle.coverage.specs.Winding.{coverage}
 use Rattle.coverage.specs.Scissors.{scissored}
 use Rattle.coverage.proofs.Limits.{coverage-at-most-16, scissored-at-most}
-use Rattle.paint.specs.declared.AnyGradient.{AnyGradient}
-use Rattle.paint.specs.Circles.{gradientAt}
+use Rattle.transform.specs.declared.FixedTransform.{FixedTransform}
+use Rattle.transform.specs.Transforms.{transformed}
 use Rattle.engine.specs.declared.Style.{Style}
+use Rattle.engine.specs.declared.Tint.{Tint}
+use Rattle.engine.specs.declared.Tint.the-variants.{Plain, Transformed}
+use Rattle.engine.specs.declared.TintedGradient.{TintedGradient}
 use Rattle.engine.specs.declared.Shade.{Shade}
 use Rattle.engine.specs.declared.Shade.the-variants.{Solid, Gradient}
-use Rattle.engine.specs.Rows.{coverageWith, maskWith, stepWith, shadeAt}
+use Rattle.engine.specs.Rows.{coverageWith, maskWith, stepWith, tintedBy, gradientTinted, shadeAt}
 
 tab-same : {A : Type 0} (n : ℕ) (f g : ℕ → A) → ((k : ℕ) → k < n → f k ≡ g k) → tab n f ≡ tab n g
 tab-same n f g h = upto-same n (λ k. f k ∷ []) (λ k. g k ∷ []) (λ k l. ap (λ a. a ∷ []) (h k l))
@@ -98,13 +101,29 @@ module _ (b q rest : List ℕ) (n : ℕ) where
   pub paint-part : (m : ℕ) → n ≤ length b → length q ≡ m - n → take (m - n) (drop n (take n b ++ (q ++ rest))) ≡ q
   paint-part m h e = rw (drop-at (take n b) (q ++ rest) n (covered-length b n h)) (take-at q rest (m - n) e)
 
+-- ---- pixels by a colour transformation
+module _ (n : ℕ) (row : List ℕ) (t : Tint) where
+  pub plain-row : t ≡ Plain → length row ≡ n * 4 → row ≡ run n (λ i. tintedBy t (pixelIn row i))
+  unfolding tintedBy
+  plain-row e l = rw e (run-is n (pixelIn row) row l (λ i k. refl))
+
+  pub transformed-row : (f : FixedTransform) (r : List ℕ) → t ≡ Transformed f → r ≡ run n (λ i. transformed f (pixelIn row i))
+      → r ≡ run n (λ i. tintedBy t (pixelIn row i))
+  unfolding tintedBy
+  transformed-row f r e o = o ∙ rw e
+
+  -- where the pixels are f's
+  pub tinted-pixels : (f : ℕ → Pixel) (r : List ℕ) → row ≡ run n f → r ≡ run n (λ i. tintedBy t (pixelIn row i)) → r ≡ run n (λ i. tintedBy t (f i))
+  tinted-pixels f r e o = o ∙ run-same n _ _ (λ i l. ap (tintedBy t) (ap (λ (z : List ℕ). pixelIn z i) e ∙ run-at n f i l))
+
 -- ---- a shade's row
 module _ (n x y : ℕ) (ramp q : List ℕ) (s : Shade) where
   pub solid-pixels : (p : Pixel) → s ≡ Solid p → q ≡ run n (λ i. p) → q ≡ run n (λ i. shadeAt s ramp (x + i) y)
   unfolding shadeAt
   solid-pixels p e o = o ∙ rw e
 
-  pub gradient-pixels : (g : AnyGradient) → s ≡ Gradient g → q ≡ run n (λ i. gradientAt g ramp (x + i) y) → q ≡ run n (λ i. shadeAt s ramp (x + i) y)
+  pub gradient-pixels : (g : TintedGradient) → s ≡ Gradient g → q ≡ run n (λ i. gradientTinted g ramp (x + i) y)
+      → q ≡ run n (λ i. shadeAt s ramp (x + i) y)
   unfolding shadeAt
   gradient-pixels g e o = o ∙ rw e
 

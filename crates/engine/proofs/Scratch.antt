@@ -33,16 +33,16 @@ zeros-dropped (suc k) zero l = absurd (omega arith)
 zeros-dropped (suc k) (suc n) l = ap (λ (z : List ℤ). pos 0 ∷ z) (zeros-dropped k n (omega arith))
 
 -- what `flatten` gets of draw d
-module _ (d : List ℕ) (m : FixedMatrix) (ss cs : List ℕ) (n : ℕ) (matrix : m ≡ fixedMatrix (matrixOf d)) (segments : ss ≡ segmentsOf d)
-    (coordinates : cs ≡ coordinatesOf d) (count : n ≡ segmentCount d) (accepted : AcceptedDraw d) where
+module _ (edition : ℕ) (d : List ℕ) (m : FixedMatrix) (ss cs : List ℕ) (n : ℕ) (matrix : m ≡ fixedMatrix (matrixOf d)) (segments : ss ≡ segmentsOf d)
+    (coordinates : cs ≡ coordinatesOf edition d) (count : n ≡ segmentCount d) (accepted : AcceptedDraw edition d) where
   limited : Limited m
-  limited = subst Limited (sym matrix) (matrix-limited (matrixOf d) (accepted .matrix))
+  limited = subst Limited (sym matrix) (matrix-limited (matrixOf d) (accepted .fields .matrix))
 
   faultless : faultTo m ss cs n .code ≡ 0
   faultless = rw (matrix, segments, coordinates, count) (accepted .path)
 
   few : n ≤ 128
-  few = omega (arith, count, accepted .segments)
+  few = omega (arith, count, accepted .fields .segments)
 
   pub flatten-asked : length d ≡ 2032 → ((n ≤ 128) × (n ≤ length ss)) × (Limited m × (faultTo m ss cs n .code ≡ 0))
   flatten-asked e =
@@ -54,7 +54,7 @@ module _ (d : List ℕ) (m : FixedMatrix) (ss cs : List ℕ) (n : ℕ) (matrix :
     flat : Flattened m ss cs n l q r
     flat = flattened m ss cs n l q r few limited faultless (omega arith) put all
 
-    pub edges-laid : Laid d q r
+    pub edges-laid : Laid edition d q r
     unfolding drawEdges
     edges-laid = record {
       ready = record {

@@ -25,12 +25,16 @@ use Rattle.paint.specs.Radial.{fixedCircle, focalAllowed}
 use Rattle.paint.specs.Ramps.{rampOf}
 use Rattle.paint.specs.Buffers.{LimitedPoints, HeldRamp, Written}
 use Rattle.paint.specs.Circles.{LimitedCircle, HeldGradient, gradientAt}
+use Rattle.transform.specs.Transforms.{transformed}
 use Rattle.scene.specs.Blocks.{drawOf}
 use Rattle.scene.specs.Header.{countOf}
 use Rattle.scene.specs.Fields.{blendOf, nonZeroRule, scissoring, scissorCount, spreadOf, rampPremultiplied, usesMask, stopsOf, stopCount}
-use Rattle.engine.specs.Picture.{drawEdges, drawPaint}
+use Rattle.engine.specs.Picture.{drawEdges, drawTransform, drawPaint}
 use Rattle.engine.specs.declared.Style.{Style}
 use Rattle.engine.specs.declared.Strip.{Strip}
+use Rattle.engine.specs.declared.Tint.{Tint}
+use Rattle.engine.specs.declared.Tint.the-variants.{Plain, Transformed}
+use Rattle.engine.specs.declared.TintedGradient.{TintedGradient}
 use Rattle.engine.specs.declared.Shade.{Shade}
 use Rattle.engine.specs.declared.Shade.the-variants.{Solid, Gradient}
 
@@ -39,10 +43,18 @@ use Rattle.engine.specs.declared.Shade.the-variants.{Solid, Gradient}
 unfoldable pub coverageWith : Style → List Edge → List ℕ → ℕ → ℕ → ℕ
 coverageWith s es scissors x y = scissored (s .scissoring) scissors (s .scissors) x y (coverage es (s .nonzero) x y)
 
+-- premultiplied bytes by a colour transformation, or as they are
+unfoldable pub tintedBy : Tint → Pixel → Pixel
+tintedBy Plain p = p
+tintedBy (Transformed t) p = transformed t p
+
 -- the paint, with a ramp in a run of numbers
+abbrev pub gradientTinted : TintedGradient → List ℕ → ℕ → ℕ → Pixel
+gradientTinted g ramp x y = tintedBy (g .tint) (gradientAt (g .gradient) ramp x y)
+
 unfoldable pub shadeAt : Shade → List ℕ → ℕ → ℕ → Pixel
 shadeAt (Solid p) ramp x y = p
-shadeAt (Gradient g) ramp x y = gradientAt g ramp x y
+shadeAt (Gradient g) ramp x y = gradientTinted g ramp x y
 
 -- m, of the mask's byte
 abbrev pub maskWith : Style → ℕ → ℕ
@@ -60,7 +72,7 @@ Scissors s scissors = (s .scissors ≤ 4) × (64 ≤ length scissors)
 -- of the run that a gradient's ramp lies in
 abbrev pub Shaded : Shade → List ℕ → Type 0
 Shaded (Solid p) ramp = Unit
-Shaded (Gradient g) ramp = HeldGradient g ramp
+Shaded (Gradient g) ramp = HeldGradient (g .gradient) ramp
 
 -- of the pixels of a row
 abbrev pub OnSurface : Strip → Type 0
@@ -83,9 +95,9 @@ abbrev pub Blank : List ℤ → Type 0
 Blank scratch = (12300 ≤ length scratch) × (scratch ≡ replicate (length scratch) (pos 0))
 
 -- the scratch holds the n edges of draw d, and zeros after them
-pub record Laid (d : List ℕ) (scratch : List ℤ) (n : ℕ) : Type 0 where
+pub record Laid (edition : ℕ) (d : List ℕ) (scratch : List ℤ) (n : ℕ) : Type 0 where
   pub ready : Outlined scratch n
-  pub edges : edgesOf scratch n ≡ drawEdges d
+  pub edges : edgesOf scratch n ≡ drawEdges edition d
 
 -- ---- a draw decoded, by its bytes d
 abbrev pub styleOf : List ℕ → ℕ → Shade → Style
@@ -98,6 +110,10 @@ styleOf d n shade = record {
   mode = blendOf d;
   shade = shade;
 }
+
+-- its colour transformation
+abbrev pub Tints : List ℕ → Tint → Type 0
+Tints d t = (p : Pixel) → tintedBy t p ≡ drawTransform d p
 
 -- the ramp of its stops, written to the run `before`
 pub record MadeRamp (d : List ℕ) (count : ℕ) (before after : List ℕ) : Type 0 where
@@ -128,7 +144,7 @@ rampCount (Radial g) = g .count
 -- the run after a shade was decoded: a gradient's ramp is written to it
 abbrev pub RampBy : List ℕ → Shade → List ℕ → List ℕ → Type 0
 RampBy d (Solid p) before after = after ≡ before
-RampBy d (Gradient g) before after = Written before after (rampCount g) (rampOf (rampPremultiplied d) (stopsOf d) (stopCount d))
+RampBy d (Gradient g) before after = Written before after (rampCount (g .gradient)) (rampOf (rampPremultiplied d) (stopsOf d) (stopCount d))
 
 -- a shade of the draw's paint
 pub record Shades (d : List ℕ) (s : Shade) (before after : List ℕ) : Type 0 where

@@ -10,13 +10,16 @@ ghost use Prim.Native.Nat.{_*_};
 ghost use lib.ListN.{length};
 ghost use Rattle.raster.specs.Surface.{overlay};
 ghost use Rattle.raster.specs.Rows.{Part, stepped};
+ghost use Rattle.path.specs.Closed.{Closed};
+ghost use Rattle.path.specs.Stored.{edgesOf};
+ghost use Rattle.coverage.specs.Scanline.{Outlined};
 ghost use Rattle.scene.specs.Layout.{drawBytes};
-ghost use Rattle.scene.specs.Header.{countOf};
+ghost use Rattle.scene.specs.Header.{countOf, editionOf};
 ghost use Rattle.scene.specs.Fields.{usesMask};
-ghost use Rattle.scene.specs.Accepted.{AcceptedDraw, AcceptedScene};
+ghost use Rattle.scene.specs.Accepted.{AcceptedFields, AcceptedDraw, AcceptedScene};
 ghost use Rattle.engine.specs.Picture.{firstDraws, pixelAt, maskAt};
-ghost use Rattle.engine.specs.Unclamped.{unclampedStep, unclampedAll};
-ghost use Rattle.engine.specs.Rows.{Laid, Blank, Area, MaskFor, MaskForScene};
+ghost use Rattle.engine.specs.Unclamped.{unclampedOf, unclampedStep, unclampedAll};
+ghost use Rattle.engine.specs.Rows.{Blank, Area, MaskFor, MaskForScene};
 
 // The scene's picture under a mask, at every pixel of a.
 pub fn paint_area(
@@ -65,34 +68,42 @@ fn paint_draws(
     ensures { λ _. ⌜ now (scratch .exit) ≡ now (scratch .entry) ⌝ }
     ensures { λ _. ⌜
         now (surface .exit)
-        ≡ stepped target (unclampedAll (firstDraws (now (scene .entry)) n) (maskAt (target .width) (now (mask .entry)))) (now (surface .entry))
+        ≡ stepped target (unclampedAll (editionOf (now (scene .entry))) (firstDraws (now (scene .entry)) n) (maskAt (target .width) (now (mask .entry))))
+        (now (surface .entry))
         ⌝ }
 {
+    let edition = scene::header::edition(scene);
     let mut i = 0;
     while i < n {
         scene::blocks::read_draw(scene, i, d);
-        paint_draw(surface, scratch, mask, d, target);
+        paint_draw(surface, scratch, mask, d, edition, target);
         i += 1;
     }
 }
 
-// A draw, at every pixel of the target.
-fn paint_draw(surface: &mut [u8], scratch: &mut [i32], mask: &[u8], d: &[u8], target: Target)
-    requires { ⌜ (length (now d) ≡ drawBytes) × AcceptedDraw (now d) ⌝ }
+// A draw of a scene of that edition, at every pixel of the target.
+fn paint_draw(
+    surface: &mut [u8],
+    scratch: &mut [i32],
+    mask: &[u8],
+    d: &[u8],
+    edition: u32,
+    target: Target,
+)
+    requires { ⌜ (length (now d) ≡ drawBytes) × AcceptedDraw edition (now d) ⌝ }
     requires { ⌜ Blank (now scratch) ⌝ }
     requires { ⌜ Part target (now surface) × MaskFor (usesMask (now d)) (target .height * target .width) (now mask) ⌝ }
     ensures { λ _. ⌜ now (scratch .exit) ≡ now (scratch .entry) ⌝ }
     ensures { λ _. ⌜
-        now (surface .exit)
-        ≡ stepped target (unclampedStep (now (d .entry)) (maskAt (target .width) (now (mask .entry)))) (now (surface .entry))
+        now (surface .exit) ≡ stepped target (unclampedStep edition (now (d .entry)) (maskAt (target .width) (now (mask .entry)))) (now (surface .entry))
         ⌝ }
 {
-    let n = lay_edges(scratch, d);
+    let n = lay_edges(scratch, d, edition);
     paint_box(surface, scratch, mask, n, d, target);
     clear_edges(scratch, n);
 }
 
-// A draw of n edges, at every pixel of the target: only the pixels of its box are gone through.
+// A draw whose n edges lie in the scratch, at every pixel of the target: only the pixels of its box are gone through.
 fn paint_box(
     surface: &mut [u8],
     scratch: &mut [i32],
@@ -101,13 +112,13 @@ fn paint_box(
     d: &[u8],
     target: Target,
 )
-    requires { ⌜ (length (now d) ≡ drawBytes) × AcceptedDraw (now d) ⌝ }
-    requires { ⌜ Laid (now d) (now scratch) n ⌝ }
+    requires { ⌜ (length (now d) ≡ drawBytes) × AcceptedFields (now d) ⌝ }
+    requires { ⌜ Outlined (now scratch) n × Closed (edgesOf (now scratch) n) ⌝ }
     requires { ⌜ Part target (now surface) × MaskFor (usesMask (now d)) (target .height * target .width) (now mask) ⌝ }
     ensures { λ _. ⌜ now (scratch .exit) ≡ now (scratch .entry) ⌝ }
     ensures { λ _. ⌜
         now (surface .exit)
-        ≡ stepped target (unclampedStep (now (d .entry)) (maskAt (target .width) (now (mask .entry)))) (now (surface .entry))
+        ≡ stepped target (unclampedOf (edgesOf (now (scratch .entry)) n) (now (d .entry)) (maskAt (target .width) (now (mask .entry)))) (now (surface .entry))
         ⌝ }
 {
     let width = target.width;

@@ -27,31 +27,31 @@ pub fn clear_edges(scratch: &mut [i32], n: usize)
     clear(&mut scratch[0..e]);
 }
 
-// The edges of a draw, laid into zeros. How many there are.
-pub fn lay_edges(scratch: &mut [i32], d: &[u8]) -> usize
-    requires { ⌜ (length (now d) ≡ drawBytes) × AcceptedDraw (now d) ⌝ }
+// The edges of a draw of a scene of that edition, laid into zeros. How many there are.
+pub fn lay_edges(scratch: &mut [i32], d: &[u8], edition: u32) -> usize
+    requires { ⌜ (length (now d) ≡ drawBytes) × AcceptedDraw edition (now d) ⌝ }
     requires { ⌜ Blank (now scratch) ⌝ }
-    ensures { λ r. ⌜ Laid (now (d .entry)) (now (scratch .exit)) r ⌝ }
+    ensures { λ r. ⌜ Laid edition (now (d .entry)) (now (scratch .exit)) r ⌝ }
     ensures { λ r. ⌜ replicate (r * 4) (pos 0) ++ drop (r * 4) (now (scratch .exit)) ≡ now (scratch .entry) ⌝ }
 {
     outline::flatten::flatten(
         scene::fields::fixed_matrix(d),
         scene::fields::segments(d),
         scene::fields::segment_count(d),
-        scene::fields::coordinates(d),
+        scene::fields::coordinates(d, edition),
         scratch,
     )
 }
 
 // The box of a draw, cut to the surface.
-pub fn draw_bounds(scratch: &mut [i32], d: &[u8], width: usize, height: usize) -> Rect
-    requires { ⌜ (length (now d) ≡ drawBytes) × AcceptedDraw (now d) ⌝ }
+pub fn draw_bounds(scratch: &mut [i32], d: &[u8], edition: u32, width: usize, height: usize) -> Rect
+    requires { ⌜ (length (now d) ≡ drawBytes) × AcceptedDraw edition (now d) ⌝ }
     requires { ⌜ Blank (now scratch) ⌝ }
     requires { ⌜ (width ≤ 1024) × (height ≤ 1024) ⌝ }
-    ensures { λ r. ⌜ r ≡ boxOf width height (drawEdges (now (d .entry))) ⌝ }
+    ensures { λ r. ⌜ r ≡ boxOf width height (drawEdges edition (now (d .entry))) ⌝ }
     ensures { λ _. ⌜ now (scratch .exit) ≡ now (scratch .entry) ⌝ }
 {
-    let n = lay_edges(scratch, d);
+    let n = lay_edges(scratch, d, edition);
     let b = outline::bounds::bounds(scratch, n, width, height);
     clear_edges(scratch, n);
     b

@@ -2,11 +2,11 @@
 //
 //     draws    the scene: the background, then every draw in order; of a draw only its box
 //     edges    the draw's path as edges in the scratch
-//     decode   the rest of the draw, decoded once: rule, scissors, blend mode, and its paint with its ramp
+//     decode   the rest of the draw, decoded once: rule, scissors, blend mode, and its paint with its ramp and its colour transformation
 //     rows     row after row: the coverage of each pixel, its paint, and both blended into the surface
 //
 // What a stage computes is in a crate of its own: `scene` reads the fields, `outline` makes the edges and their box, `coverage` counts a
-// row's samples, `paint` colours a row, `blend` stores it.
+// row's samples, `paint` colours a row, `transform` gives it other colours, `blend` stores it.
 pub mod decode;
 pub mod draws;
 pub mod edges;
@@ -14,6 +14,7 @@ pub mod rows;
 
 use color::Pixel;
 use paint::AnyGradient;
+use transform::FixedTransform;
 
 // How a draw is filled: the number of its edges, its fill rule, whether scissoring is on and by how many scissors, whether it is drawn through the
 // mask, its blend mode, its paint.
@@ -27,10 +28,22 @@ pub struct Style {
     pub shade: Shade,
 }
 
-// What a draw paints with, ready for its rows: a premultiplied pixel, or a gradient whose ramp lies in a lent run of numbers.
+// What a draw paints with, ready for its rows: a premultiplied pixel, already transformed, or a gradient.
 pub enum Shade {
     Solid(Pixel),
-    Gradient(AnyGradient),
+    Gradient(TintedGradient),
+}
+
+// A gradient, whose ramp lies in a lent run of numbers, and what becomes of its pixels.
+pub struct TintedGradient {
+    pub gradient: AnyGradient,
+    pub tint: Tint,
+}
+
+// Whether premultiplied pixels go through a colour transformation, and through which.
+pub enum Tint {
+    Plain,
+    Transformed(FixedTransform),
 }
 
 // The pixels (x, y) to (x + length - 1, y).

@@ -2,6 +2,8 @@
 use crate::Shade;
 use crate::Strip;
 use crate::Style;
+use crate::Tint;
+use crate::TintedGradient;
 use crate::decode::shade;
 use crate::decode::style;
 use paint::build::RAMP_NUMBERS;
@@ -17,13 +19,14 @@ ghost use Rattle.raster.specs.Rows.{Part, stepped};
 ghost use Rattle.path.specs.Stored.{edgesOf};
 ghost use Rattle.coverage.specs.Scanline.{Outlined};
 ghost use Rattle.paint.specs.Buffers.{rampNumbers};
+ghost use Rattle.paint.specs.Circles.{HeldGradient};
 ghost use Rattle.blend.specs.Rows.{Coverage, compositeRow};
 ghost use Rattle.scene.specs.Layout.{drawBytes};
 ghost use Rattle.scene.specs.Fields.{usesMask};
-ghost use Rattle.scene.specs.Accepted.{AcceptedDraw};
+ghost use Rattle.scene.specs.Accepted.{AcceptedFields};
 ghost use Rattle.engine.specs.Picture.{maskAt};
-ghost use Rattle.engine.specs.Unclamped.{unclampedStep};
-ghost use Rattle.engine.specs.Rows.{coverageWith, maskWith, stepWith, shadeAt, Shaded, Scissors, OnSurface, MaskFor, Laid};
+ghost use Rattle.engine.specs.Unclamped.{unclampedOf};
+ghost use Rattle.engine.specs.Rows.{coverageWith, maskWith, stepWith, tintedBy, gradientTinted, shadeAt, Shaded, Scissors, OnSurface, MaskFor};
 
 // Bytes for the longest row: k and four bytes of paint to a pixel.
 const ROW_BYTES: usize = 5120;
@@ -37,13 +40,13 @@ pub fn fill(
     d: &[u8],
     target: Target,
 )
-    requires { ⌜ (length (now d) ≡ drawBytes) × AcceptedDraw (now d) ⌝ }
-    requires { ⌜ Laid (now d) (now scratch) n ⌝ }
+    requires { ⌜ (length (now d) ≡ drawBytes) × AcceptedFields (now d) ⌝ }
+    requires { ⌜ Outlined (now scratch) n ⌝ }
     requires { ⌜ Part target (now surface) × MaskFor (usesMask (now d)) (target .height * target .width) (now mask) ⌝ }
     ensures { λ _. ⌜ now (scratch .exit) ≡ now (scratch .entry) ⌝ }
     ensures { λ _. ⌜
         now (surface .exit)
-        ≡ stepped target (unclampedStep (now (d .entry)) (maskAt (target .width) (now (mask .entry)))) (now (surface .entry))
+        ≡ stepped target (unclampedOf (edgesOf (now (scratch .entry)) n) (now (d .entry)) (maskAt (target .width) (now (mask .entry)))) (now (surface .entry))
         ⌝ }
 {
     let mut ramp = [0u32; RAMP_NUMBERS];
@@ -62,14 +65,14 @@ fn fill_with(
     ramp: &mut [u32],
     buffer: &mut [u8],
 )
-    requires { ⌜ (length (now d) ≡ drawBytes) × AcceptedDraw (now d) ⌝ }
-    requires { ⌜ Laid (now d) (now scratch) n ⌝ }
+    requires { ⌜ (length (now d) ≡ drawBytes) × AcceptedFields (now d) ⌝ }
+    requires { ⌜ Outlined (now scratch) n ⌝ }
     requires { ⌜ Part target (now surface) × MaskFor (usesMask (now d)) (target .height * target .width) (now mask) ⌝ }
     requires { ⌜ (rampNumbers ≤ length (now ramp)) × (5120 ≤ length (now buffer)) ⌝ }
     ensures { λ _. ⌜ now (scratch .exit) ≡ now (scratch .entry) ⌝ }
     ensures { λ _. ⌜
         now (surface .exit)
-        ≡ stepped target (unclampedStep (now (d .entry)) (maskAt (target .width) (now (mask .entry)))) (now (surface .entry))
+        ≡ stepped target (unclampedOf (edgesOf (now (scratch .entry)) n) (now (d .entry)) (maskAt (target .width) (now (mask .entry)))) (now (surface .entry))
         ⌝ }
 {
     let s = style(d, n, shade(d, ramp));
@@ -256,7 +259,33 @@ fn paint_row(ramp: &[u32], paints: &mut [u8], shade: Shade, strip: Strip)
             raster::fill_row(paints, strip.length, p);
         }
         Shade::Gradient(g) => {
-            paint::row::gradient_row(g, ramp, strip.x, strip.y, strip.length, paints);
+            gradient_row(ramp, paints, g, strip);
+        }
+    }
+}
+
+// The same of a gradient: its colours, and then the colour transformation of all of them.
+fn gradient_row(ramp: &[u32], paints: &mut [u8], g: TintedGradient, strip: Strip)
+    requires { ⌜ HeldGradient (g .gradient) (now ramp) ⌝ }
+    requires { ⌜ OnSurface strip × (length (now paints) ≡ strip .length * 4) ⌝ }
+    ensures { λ _. ⌜ now (paints .exit) ≡ run (strip .length) (λ i. gradientTinted g (now (ramp .entry)) (strip .x + i) (strip .y)) ⌝ }
+{
+    let n = strip.length;
+    let gradient = g.gradient;
+    let tint = g.tint;
+    paint::row::gradient_row(gradient, ramp, strip.x, strip.y, n, paints);
+    tint_row(paints, tint, n);
+}
+
+// n pixels, by the colour transformation.
+fn tint_row(row: &mut [u8], tint: Tint, n: usize)
+    requires { ⌜ length (now row) ≡ n * 4 ⌝ }
+    ensures { λ _. ⌜ now (row .exit) ≡ run n (λ i. tintedBy tint (pixelIn (now (row .entry)) i)) ⌝ }
+{
+    match tint {
+        Tint::Plain => {}
+        Tint::Transformed(t) => {
+            transform::transform_row(t, row, n);
         }
     }
 }
@@ -280,7 +309,7 @@ fn shade_plain(row: &mut [u8], ramp: &[u32], buffer: &mut [u8], style: Style, st
             blend::composite_run(style.mode, &buffer[0..n], p, row);
         }
         Shade::Gradient(g) => {
-            paint::row::gradient_row(g, ramp, strip.x, strip.y, n, &mut buffer[n..m]);
+            gradient_row(ramp, &mut buffer[n..m], g, strip);
             blend::composite_row(style.mode, &buffer[0..n], &buffer[n..m], row);
         }
     }

@@ -9,7 +9,6 @@ use lib.Ieee.{isNan}
 use Rattle.codes.specs.Codes.{acceptedCode, badLength, badChecksum, illegalArgument, unsupportedPathFormat, unsupportedImageFormat, outOfMemory}
 use Rattle.codes.specs.Codes.{sceneCodes, isOneOf, inTable}
 use Rattle.codes.proofs.Coded.{Coded, choice, then, first}
-use Rattle.fixed.specs.Little.{u16At}
 use Rattle.fixed.specs.Floats.{f32At, atMost}
 use Rattle.rect.specs.declared.Rect.{Rect}
 use Rattle.rect.specs.Rects.{whole}
@@ -22,18 +21,18 @@ use Rattle.path.specs.Matrices.{linearLimit, translationLimit, fixedMatrix, isF
 use Rattle.path.specs.Segments.{coordinatesTaken, isArc, isNone, curveAt, walkTo, curveInRange, curveOnGrid, segmentCode, noFault, faultTo}
 use Rattle.scene.specs.declared.Fault.{Fault}
 use Rattle.scene.specs.declared.FieldFault.{FieldFault}
-use Rattle.scene.specs.Layout.{blockBytes, payloadBytes, drawBlocks, widthAt, heightAt, countAt, reservedAt, headerEnd, sideLimit, drawLimit, noDraw}
+use Rattle.scene.specs.Layout.{blockBytes, payloadBytes, drawBlocks, widthAt, heightAt, countAt, editionAt, headerEnd, sideLimit, drawLimit, noDraw}
 use Rattle.scene.specs.Layout.{flagsAt, blendAt, paintTypeAt, spreadAt, segmentCountAt, scissorCountAt, stopCountAt, paddingAt}
 use Rattle.scene.specs.Layout.{matrixAt, translationAt, colorAt, linearPointsAt}
-use Rattle.scene.specs.Layout.{scissorsAt, stopsAt, segmentsAt, coordinatesAt, drawBytes}
+use Rattle.scene.specs.Layout.{scissorsAt, stopsAt, segmentsAt, segmentsEnd, transformAt, transformFloats, coordinatesAt, drawBytes, newEdition, isNew}
 use Rattle.scene.specs.Layout.{segmentLimit, scissorLimit, scissorBytes, stopBytes, stopFloats, radialAt, radialFloats}
 use Rattle.scene.specs.Blocks.{blockRight, blockOf, drawOf, fileOffset}
-use Rattle.scene.specs.Header.{widthOf, heightOf, countOf}
+use Rattle.scene.specs.Header.{widthOf, heightOf, countOf, editionOf}
 use Rattle.scene.specs.Fields.{blendOf, paintTypeOf, spreadOf, segmentCount, scissorCount, stopCount, matrixOf, segmentsOf, coordinatesOf}
 use Rattle.scene.specs.Fields.{isRadial, radialOf, firstStopAt}
 use Rattle.scene.specs.Faults.{fine, firstOf, must, unused, limited, numbers, accepted, fault, demand}
 use Rattle.scene.specs.Rules.{linearPointLimit, countRules, flagsAllowed, headRules, floatRules, listRules, flatRule}
-use Rattle.scene.specs.Rules.{pathRules, restRules, drawRules, headerRules}
+use Rattle.scene.specs.Rules.{transformRules, pathRules, restRules, drawRules, headerRules}
 use Rattle.scene.specs.Rules.{radialLimit, stopLimitOf, isPaint, focalRule, circleRules, stopRules}
 use Rattle.scene.specs.Rules.{inHeader, inDraw, checkFaultsFrom, checkFaults, drawFaultFrom, drawFault, sceneFaultFrom, sceneFault}
 use Rattle.damage.specs.Damage.{damage}
@@ -87,10 +86,10 @@ module _ (P : ℕ → Type 0) (none : P acceptedCode) (illegal : P illegalArgume
         (then (rule (leb (stopCount d) (stopLimitOf d)) stopCountAt)
         (rule (eqb (getD d paddingAt 0) 0) paddingAt)))
 
-    head-coded : (masked : Bool) → Field (headRules masked d)
+    head-coded : (masked : Bool) (edition : ℕ) → Field (headRules masked edition d)
     unfolding headRules
-    head-coded masked =
-        then (rule (flagsAllowed masked d) flagsAt)
+    head-coded masked edition =
+        then (rule (flagsAllowed masked edition d) flagsAt)
         (then (rule (isMode (blendOf d)) blendAt)
         (then (rule (isPaint (paintTypeOf d)) paintTypeAt)
         (then (rule (leb spreadPad (spreadOf d) && leb (spreadOf d) spreadReflect) spreadAt)
@@ -126,19 +125,29 @@ module _ (P : ℕ → Type 0) (none : P acceptedCode) (illegal : P illegalArgume
     unfolding flatRule
     flat-coded = rule (eqb (segmentCount d) 0 || not (isFlat (fixedMatrix (matrixOf d)))) matrixAt
 
-    segments-coded : Field (pathRules d)
+    transform-coded : (edition : ℕ) → Field (transformRules edition d)
+    unfolding transformRules
+    transform-coded edition = choice P (λ f. f .code) (isNew edition) _ fine (numbers-coded d transformAt transformFloats .holds) none
+
+    segments-coded : (edition : ℕ) → Field (pathRules edition d)
     unfolding pathRules
-    segments-coded = record { holds = path-coded (fixedMatrix (matrixOf d)) (segmentsOf d) (coordinatesOf d) (segmentCount d) .holds }
+    segments-coded edition = record { holds = path-coded (fixedMatrix (matrixOf d)) (segmentsOf d) (coordinatesOf edition d) (segmentCount d) .holds }
 
-    rest-coded : Field (restRules d)
+    rest-coded : (edition : ℕ) → Field (restRules edition d)
     unfolding restRules
-    rest-coded =
-        then (unused-coded d (segmentsAt + segmentCount d) coordinatesAt)
-        (unused-coded d (coordinatesAt + 2 * walkTo (segmentsOf d) (coordinatesOf d) (segmentCount d) .used) drawBytes)
+    rest-coded edition =
+        then (unused-coded d (segmentsAt + segmentCount d) segmentsEnd)
+        (unused-coded d (coordinatesAt edition + 2 * walkTo (segmentsOf d) (coordinatesOf edition d) (segmentCount d) .used) drawBytes)
 
-    rules-coded : (masked : Bool) → Field (drawRules masked d)
+    rules-coded : (masked : Bool) (edition : ℕ) → Field (drawRules masked edition d)
     unfolding drawRules
-    rules-coded masked = then (head-coded masked) (then floats-coded (then lists-coded (then flat-coded (then segments-coded rest-coded))))
+    rules-coded masked edition =
+        then (head-coded masked edition)
+        (then floats-coded
+        (then lists-coded
+        (then (transform-coded edition)
+        (then flat-coded
+        (then (segments-coded edition) (rest-coded edition))))))
 
   -- ---- a scene
   module _ (bad-length : P badLength) (bad-check : P badChecksum) (masked : Bool) (s : List ℕ) where
@@ -151,7 +160,7 @@ module _ (P : ℕ → Type 0) (none : P acceptedCode) (illegal : P illegalArgume
         then (rule (leb 1 (widthOf s) && leb (widthOf s) sideLimit) widthAt)
         (then (rule (leb 1 (heightOf s) && leb (heightOf s) sideLimit) heightAt)
         (then (rule (leb (countOf s) drawLimit) countAt)
-        (then (rule (eqb (u16At s reservedAt) 0) reservedAt)
+        (then (rule (leb (editionOf s) newEdition) editionAt)
         (unused-coded s headerEnd payloadBytes))))
 
     -- a fault or none, by a test
@@ -172,7 +181,7 @@ module _ (P : ℕ → Type 0) (none : P acceptedCode) (illegal : P illegalArgume
 
     draw-coded : (i : ℕ) → Scene (drawFault masked s i)
     unfolding drawFaultFrom
-    draw-coded i = then (checks-coded i) (in-draw i (drawRules masked (drawOf s i)) (rules-coded (drawOf s i) masked))
+    draw-coded i = then (checks-coded i) (in-draw i (drawRules masked (editionOf s) (drawOf s i)) (rules-coded (drawOf s i) masked (editionOf s)))
 
     scene-coded : Scene (sceneFault masked s)
     unfolding sceneFaultFrom

@@ -13,7 +13,7 @@ use Rattle.scene.specs.declared.FieldFault.{FieldFault}
 use Rattle.codes.specs.Codes.{badLength, badChecksum}
 use Rattle.scene.specs.Layout.{blockBytes, payloadBytes, noDraw}
 use Rattle.scene.specs.Blocks.{blockRight, blockOf, drawOf}
-use Rattle.scene.specs.Header.{countOf}
+use Rattle.scene.specs.Header.{countOf, editionOf}
 use Rattle.scene.specs.Faults.{fault, orFault, firstFault, demand}
 use Rattle.scene.specs.Rules.{headerRules, drawRules, inHeader, inDraw, checkFaultsFrom, checkFaults, drawFaultFrom, drawFault, sceneFaultFrom, sceneFault}
 use Rattle.scene.proofs.Accepted.{header-count}
@@ -50,10 +50,10 @@ header-fine f h = either (eqb (f .code) 0) (λ e. eqb-true _ _ e) (λ e. rw e at
 draw-number : (masked : Bool) (s : List ℕ) (i : ℕ) → i ≤ 64 → drawFault masked s i .draw ≤ 64
 unfolding drawFaultFrom checkFaultsFrom
 draw-number masked s i a =
-    sooner-draw (checkFaults s i) (inDraw i (drawRules masked (drawOf s i)))
+    sooner-draw (checkFaults s i) (inDraw i (drawRules masked (editionOf s) (drawOf s i)))
     (first-draw 4 (λ j. demand (blockRight s (blockOf i + j)) (fault badChecksum i (blockBytes * (blockOf i + j) + payloadBytes)))
     (λ j l. demanded-draw (blockRight s (blockOf i + j)) _ a))
-    (λ e. in-draw i (drawRules masked (drawOf s i)) a)
+    (λ e. in-draw i (drawRules masked (editionOf s) (drawOf s i)) a)
 
 pub fault-draw : (masked : Bool) (s : List ℕ) → sceneFault masked s .draw ≤ 64
 unfolding sceneFaultFrom

@@ -15,7 +15,7 @@ use Rattle.lists.proofs.Laws.{part-length}
 use Rattle.rect.specs.declared.Rect.{Rect}
 use Rattle.rect.specs.Rects.{On, whole}
 use Rattle.rect.proofs.Laws.{either}
-use Rattle.scene.specs.Header.{widthOf, heightOf}
+use Rattle.scene.specs.Header.{widthOf, heightOf, editionOf}
 use Rattle.scene.specs.Rules.{sceneFault}
 use Rattle.scene.specs.Blocks.{drawOf}
 use Rattle.scene.proofs.Accepted.{accepted-scene, draws-passed, asks-lent}
@@ -175,7 +175,7 @@ module _ (s : List ℕ) (m : Mask) (surface scratch w h : ℕ) (r : Ready s m su
   -- the mask's bytes as they are taken
   pub ready-mask : (n : ℕ) → n ≡ cond (m .lent) (length (m .bytes)) 0 → MaskForScene s (h * w) (take (n - 0) (drop 0 (m .bytes)))
   ready-mask n z i l asks =
-      let lent = asks-lent (drawOf s i) (m .lent) (draws-passed s (m .lent) (r .scene) i l) asks in
+      let lent = asks-lent (drawOf s i) (m .lent) (editionOf s) (draws-passed s (m .lent) (r .scene) i l) asks in
       let all : n ≡ length (m .bytes) = z ∙ rw lent in
       let long = r .mask lent in
       let pixels : n ≡ w * h = rw (e, f) (all ∙ long) in

@@ -21,13 +21,12 @@ use Rattle.scene.specs.Layout.{blockBytes, payloadBytes, drawLimit, noDr
 use Rattle.scene.specs.Layout.{matrixAt, translationAt, colorAt, linearPointsAt, scissorsAt, scissorBytes, stopsAt, stopBytes, stopFloats, segmentsAt}
 use Rattle.scene.specs.Layout.{radialAt, radialFloats}
 use Rattle.scene.specs.Blocks.{blockNumber, blockRightFrom, blockOf, drawOf, fileOffset}
-use Rattle.scene.specs.Header.{widthOf, heightOf, countOf}
+use Rattle.scene.specs.Header.{widthOf, heightOf, countOf, editionOf}
 use Rattle.scene.specs.Fields.{blendOf, paintTypeOf, spreadOf, segmentCount, scissorCount, stopCount, matrixOf, segmentsOf, coordinatesOf}
 use Rattle.scene.specs.Fields.{flagsOf, usesMask, isRadial, radialOf, firstStopAt}
 use Rattle.scene.specs.Faults.{fine, must, orElse, firstOf, unused, limited, numbers, accepted, fault, demand, orFault, firstFault}
-use Rattle.scene.specs.Rules.{linearPointLimit, isPaint, isSpread, flagsAllowed, headRules, stopLimitOf, countRules}
-use Rattle.scene.specs.Rules.{floatRules, flatRule, pathRules, restRules}
-use Rattle.scene.specs.Rules.{radialLimit, focalRule, circleRules, stopRules, listRules}
+use Rattle.scene.specs.Rules.{linearPointLimit, isPaint, isSpread, flagsAllowed, headRules, stopLimitOf, countRules, floatRules, flatRule, pathRules}
+use Rattle.scene.specs.Rules.{radialLimit, focalRule, circleRules, stopRules, listRules, transformRules, restRules}
 use Rattle.scene.specs.Rules.{drawRules, isSide, headerRules, located, inHeader, inDraw}
 use Rattle.scene.specs.Rules.{checkFaults, drawFaultFrom, drawFault, sceneFaultFrom, sceneFault}
 use Rattle.scene.specs.Accepted.{AcceptedDraw, AcceptedScene}
@@ -86,24 +85,24 @@ module _ (d : List ℕ) where
       let c = obeyed _ _ _ (b .1) in
       record { segments = leb-true _ _ (a .0); scissors = leb-true _ _ (b .0); stops = leb-true _ _ (c .0) }
 
-  record Headed (lent : Bool) : Type 0 where
-    pub flags : flagsAllowed lent d ≡ true
+  record Headed (lent : Bool) (edition : ℕ) : Type 0 where
+    pub flags : flagsAllowed lent edition d ≡ true
     pub mode : isMode (blendOf d) ≡ true
     pub paintType : isPaint (paintTypeOf d) ≡ true
     pub spread : isSpread (spreadOf d) ≡ true
     pub counts : Counted d
 
-  headed : (lent : Bool) → headRules lent d .code ≡ 0 → Headed lent
+  headed : (lent : Bool) (edition : ℕ) → headRules lent edition d .code ≡ 0 → Headed lent edition
   unfolding headRules
-  headed lent h =
-      let a = obeyed (flagsAllowed lent d) flagsAt _ h in
+  headed lent edition h =
+      let a = obeyed (flagsAllowed lent edition d) flagsAt _ h in
       let b = obeyed _ _ _ (a .1) in
       let c = obeyed _ _ _ (b .1) in
       let e = obeyed _ _ (countRules d) (c .1) in
       record { flags = a .0; mode = b .0; paintType = c .0; spread = e .0; counts = counted (e .1) }
 
-  pub head-counted : (lent : Bool) → headRules lent d .code ≡ 0 → Counted d
-  head-counted lent h = headed lent h .counts
+  pub head-counted : (lent : Bool) (edition : ℕ) → headRules lent edition d .code ≡ 0 → Counted d
+  head-counted lent edition h = headed lent edition h .counts
 
   record Measured : Type 0 where
     pub matrix : matrixInLimits (matrixOf d) ≡ true
@@ -159,48 +158,53 @@ module _ (d : List ℕ) where
         stops = no-nans d (firstStopAt d) (stopFloats * stopCount d) (stops-kept (q .1));
       }
 
-  path-code : pathRules d .code ≡ 0 → faultTo (fixedMatrix (matrixOf d)) (segmentsOf d) (coordinatesOf d) (segmentCount d) .code ≡ 0
+  path-code : (edition : ℕ) → pathRules edition d .code ≡ 0
+      → faultTo (fixedMatrix (matrixOf d)) (segmentsOf d) (coordinatesOf edition d) (segmentCount d) .code ≡ 0
   unfolding pathRules
-  path-code h = h
+  path-code edition h = h
 
   -- a draw that asks for the mask is accepted only where one is lent
-  mask-lent : (lent : Bool) → flagsAllowed lent d ≡ true → usesMask d ≡ true → lent ≡ true
+  mask-lent : (lent : Bool) (edition : ℕ) → flagsAllowed lent edition d ≡ true → usesMask d ≡ true → lent ≡ true
   unfolding flagsAllowed
-  mask-lent true h e = refl
-  mask-lent false h e = sym (not-true _ (both (ltb (flagsOf d) flagsLimit) (not (usesMask d)) h .1)) ∙ e
+  mask-lent true edition h e = refl
+  mask-lent false edition h e = sym (not-true _ (both (ltb (flagsOf d) (flagsLimit edition)) (not (usesMask d)) h .1)) ∙ e
 
-  pub asks-lent : (lent : Bool) → drawRules lent d .code ≡ 0 → usesMask d ≡ true → lent ≡ true
+  pub asks-lent : (lent : Bool) (edition : ℕ) → drawRules lent edition d .code ≡ 0 → usesMask d ≡ true → lent ≡ true
   unfolding drawRules
-  asks-lent lent h = mask-lent lent (headed lent (two (headRules lent d) _ h .0) .flags)
+  asks-lent lent edition h = mask-lent lent edition (headed lent edition (two (headRules lent edition d) _ h .0) .flags)
 
-  pub accepted-draw : (lent : Bool) → drawRules lent d .code ≡ 0 → AcceptedDraw d
+  pub accepted-draw : (lent : Bool) (edition : ℕ) → drawRules lent edition d .code ≡ 0 → AcceptedDraw edition d
   unfolding drawRules
-  accepted-draw lent h =
-      let from-path : FieldFault = orElse (pathRules d) (restRules d) in
+  accepted-draw lent edition h =
+      let from-path : FieldFault = orElse (pathRules edition d) (restRules edition d) in
       let from-flat : FieldFault = orElse (flatRule d) from-path in
-      let from-lists : FieldFault = orElse (listRules d) from-flat in
-      let p = two (headRules lent d) (orElse (floatRules d) from-lists) h in
+      let from-transform : FieldFault = orElse (transformRules edition d) from-flat in
+      let from-lists : FieldFault = orElse (listRules d) from-transform in
+      let p = two (headRules lent edition d) (orElse (floatRules d) from-lists) h in
       let q = two (floatRules d) from-lists (p .1) in
-      let r = two (listRules d) from-flat (q .1) in
-      let t = two (flatRule d) from-path (r .1) in
-      let s = two (pathRules d) (restRules d) (t .1) in
-      let head = headed lent (p .0) in
+      let r = two (listRules d) from-transform (q .1) in
+      let u = two (transformRules edition d) from-flat (r .1) in
+      let t = two (flatRule d) from-path (u .1) in
+      let s = two (pathRules edition d) (restRules edition d) (t .1) in
+      let head = headed lent edition (p .0) in
       let floats = measured (q .0) in
       let lists = listed (r .0) in
       record {
-        mode = head .mode;
-        paintType = head .paintType;
-        spread = head .spread;
-        segments = head .counts .segments;
-        scissors = head .counts .scissors;
-        stops = head .counts .stops;
-        matrix = floats .matrix;
-        color = floats .color;
-        points = floats .points;
-        circle = lists .circle;
-        focal = lists .focal;
-        stopFloats = lists .stops;
-        path = path-code (s .0);
+        fields = record {
+          mode = head .mode;
+          paintType = head .paintType;
+          spread = head .spread;
+          segments = head .counts .segments;
+          scissors = head .counts .scissors;
+          stops = head .counts .stops;
+          matrix = floats .matrix;
+          color = floats .color;
+          points = floats .points;
+          circle = lists .circle;
+          focal = lists .focal;
+          stopFloats = lists .stops;
+        };
+        path = path-code edition (s .0);
       }
 
 -- ---- a scene
@@ -249,11 +253,12 @@ module _ (start : ℕ → ℕ) (lent : Bool) (s : List ℕ) where
       }
 
 module _ (s : List ℕ) where
-  pub draw-none : (lent : Bool) (i : ℕ) → drawFault lent s i .code ≡ 0 → (drawRules lent (drawOf s i) .code ≡ 0) × (drawFault lent s i ≡ accepted)
+  pub draw-none : (lent : Bool) (i : ℕ) → drawFault lent s i .code ≡ 0
+      → (drawRules lent (editionOf s) (drawOf s i) .code ≡ 0) × (drawFault lent s i ≡ accepted)
   unfolding drawFaultFrom
   draw-none lent i h =
-      let p = both-none (checkFaults s i) (inDraw i (drawRules lent (drawOf s i))) h in
-      let f = drawRules lent (drawOf s i) in
+      let f : FieldFault = drawRules lent (editionOf s) (drawOf s i) in
+      let p = both-none (checkFaults s i) (inDraw i f) h in
       let q = located-none i (fileOffset i (f .place)) f (p .1) in
       (q .0, rw (eq-eqb (checkFaults s i .code) 0 (p .0)) (q .1))
 
@@ -274,7 +279,7 @@ module _ (s : List ℕ) where
   header-count h = bordered h .count
 
   -- the rules of each draw are kept
-  pub draws-passed : (lent : Bool) → sceneFault lent s .code ≡ 0 → (i : ℕ) → i < countOf s → drawRules lent (drawOf s i) .code ≡ 0
+  pub draws-passed : (lent : Bool) → sceneFault lent s .code ≡ 0 → (i : ℕ) → i < countOf s → drawRules lent (editionOf s) (drawOf s i) .code ≡ 0
   draws-passed lent h i l = draw-none lent i (passed blockNumber lent s h .draws i l) .0
 
   pub accepted-scene : (lent : Bool) → sceneFault lent s .code ≡ 0 → AcceptedScene s
@@ -290,5 +295,5 @@ module _ (s : List ℕ) where
         heightMost = leb-true _ _ (height .1);
         count = b .count;
         bytes = p .bytes;
-        draws = λ i l. accepted-draw (drawOf s i) lent (draws-passed lent h i l);
+        draws = λ i l. accepted-draw (drawOf s i) lent (editionOf s) (draws-passed lent h i l);
       }

@@ -17,7 +17,7 @@ use Rattle.rect.proofs.Laws.{both, either}
 use Rattle.fixed.specs.Little.{u16At}
 use Rattle.scene.specs.Layout.{blockBytes, payloadBytes, payloadWords, checkModulus, drawBlocks}
 use Rattle.scene.specs.Blocks.{checksumOf, blockNumber, blockRightFrom, blockRight, blockOf, drawOf}
-use Rattle.scene.specs.Header.{countOf}
+use Rattle.scene.specs.Header.{countOf, editionOf}
 use Rattle.scene.specs.Faults.{accepted, fault, demand, firstFault}
 use Rattle.scene.specs.Rules.{drawRules, inDraw, checkFaultsFrom, drawFaultFrom, drawFault, sceneFaultFrom, sceneFault}
 use Rattle.scene.specs.declared.Fault.{Fault}
@@ -97,7 +97,7 @@ module _ (start : ℕ → ℕ) (lent : Bool) (s : List ℕ) where
       let checks : Fault = firstFault drawBlocks (λ k. demand (right k) (wrong k)) in
       met (right j) (wrong j) (refuses badChecksum refl)
       (soonest-none (λ f. f .code) accepted (λ k. demand (right k) (wrong k)) drawBlocks
-      (sooner-none (λ f. f .code) checks (inDraw i (drawRules lent (drawOf s i))) h .0) j l)
+      (sooner-none (λ f. f .code) checks (inDraw i (drawRules lent (editionOf s) (drawOf s i))) h .0) j l)
 
   pub accepted-blocks : sceneFaultFrom start lent s .code ≡ 0 → (b : ℕ) → b < blockOf (countOf s) → blockRightFrom start s b ≡ true
   accepted-blocks h b l =

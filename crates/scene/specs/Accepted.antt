@@ -13,12 +13,13 @@ use Rattle.path.specs.Matrices.{matrixInLimits, fixedMatrix}
 use Rattle.path.specs.Segments.{faultTo}
 use Rattle.scene.specs.Layout.{blockBytes, sideLimit, drawLimit, segmentLimit, scissorLimit, colorAt, linearPointsAt, radialAt, radialFloats, stopFloats}
 use Rattle.scene.specs.Blocks.{blockOf, drawOf}
-use Rattle.scene.specs.Header.{widthOf, heightOf, countOf}
+use Rattle.scene.specs.Header.{widthOf, heightOf, countOf, editionOf}
 use Rattle.scene.specs.Fields.{blendOf, paintTypeOf, spreadOf, segmentCount, scissorCount, stopCount, matrixOf, segmentsOf, coordinatesOf}
 use Rattle.scene.specs.Fields.{isRadial, radialOf, firstStopAt}
 use Rattle.scene.specs.Rules.{linearPointLimit, radialLimit, stopLimitOf, isPaint, isSpread}
 
-pub record AcceptedDraw (d : List ℕ) : Type 0 where
+-- a draw in either edition, but for its path
+pub record AcceptedFields (d : List ℕ) : Type 0 where
   pub mode : isMode (blendOf d) ≡ true
   pub paintType : isPaint (paintTypeOf d) ≡ true
   pub spread : isSpread (spreadOf d) ≡ true
@@ -31,7 +32,10 @@ pub record AcceptedDraw (d : List ℕ) : Type 0 where
   pub circle : isRadial d ≡ true → (i : ℕ) → i < radialFloats → atMost radialLimit (f32At d (radialAt + 4 * i)) ≡ true
   pub focal : isRadial d ≡ true → focalAllowed (fixedCircle (radialOf d)) ≡ true
   pub stopFloats : (i : ℕ) → i < stopFloats * stopCount d → isNan (f32At d (firstStopAt d + 4 * i)) ≡ false
-  pub path : faultTo (fixedMatrix (matrixOf d)) (segmentsOf d) (coordinatesOf d) (segmentCount d) .code ≡ 0
+
+pub record AcceptedDraw (edition : ℕ) (d : List ℕ) : Type 0 where
+  pub fields : AcceptedFields d
+  pub path : faultTo (fixedMatrix (matrixOf d)) (segmentsOf d) (coordinatesOf edition d) (segmentCount d) .code ≡ 0
 
 pub record AcceptedScene (s : List ℕ) : Type 0 where
   pub widthLeast : 1 ≤ widthOf s
@@ -40,4 +44,4 @@ pub record AcceptedScene (s : List ℕ) : Type 0 where
   pub heightMost : heightOf s ≤ sideLimit
   pub count : countOf s ≤ drawLimit
   pub bytes : length s ≡ blockBytes * blockOf (countOf s)
-  pub draws : (i : ℕ) → i < countOf s → AcceptedDraw (drawOf s i)
+  pub draws : (i : ℕ) → i < countOf s → AcceptedDraw (editionOf s) (drawOf s i)

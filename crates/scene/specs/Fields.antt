@@ -1,4 +1,4 @@
--- A draw's fields, of its 2,032 bytes d.
+-- A draw's fields, of its 2,032 bytes d; where its coordinates lie depends on the scene's edition too.
 use Prim.Native.Nat.{ℕ, _+_, _/_, _%_, _-_, _^_}
 use mathlib.Core.List.{List}
 use mathlib.Core.Bool.{Bool, true, false, cond}
@@ -13,13 +13,15 @@ use Rattle.paint.specs.declared.RadialPoints.{RadialPoints}
 use Rattle.paint.specs.declared.Paint.{Paint}
 use Rattle.paint.specs.declared.Paint.the-variants.{Solid, Linear, Radial}
 use Rattle.paint.specs.Paints.{paintLinear, paintRadial}
+use Rattle.transform.specs.declared.ColorTransform.{ColorTransform}
 use Rattle.scene.specs.Layout.{flagsAt, blendAt, paintTypeAt, spreadAt, segmentCountAt, scissorCountAt, stopCountAt, matrixAt}
-use Rattle.scene.specs.Layout.{translationAt, colorAt, linearPointsAt, scissorsAt, stopsAt, radialAt, segmentsAt, coordinatesAt, drawBytes, stopBytes}
+use Rattle.scene.specs.Layout.{translationAt, colorAt, linearPointsAt, scissorsAt, stopsAt, radialAt, segmentsAt, segmentsEnd, transformAt, coordinatesAt}
+use Rattle.scene.specs.Layout.{drawBytes, stopBytes}
 
 abbrev pub flagsOf : List ℕ → ℕ
 flagsOf d = u16At d flagsAt
 
--- bit 0 fill rule, bit 1 scissoring on, bit 2 ramp premultiplied, bit 3 mask
+-- bit 0 fill rule, bit 1 scissoring on, bit 2 ramp premultiplied, bit 3 mask, bit 4 colour transformation, which only edition 1 lets be set
 abbrev pub bit : ℕ → ℕ → Bool
 bit n flags = eqb (flags / 2 ^ n % 2) 1
 
@@ -34,6 +36,9 @@ rampPremultiplied d = bit 2 (flagsOf d)
 
 abbrev pub usesMask : List ℕ → Bool
 usesMask d = bit 3 (flagsOf d)
+
+abbrev pub transforms : List ℕ → Bool
+transforms d = bit 4 (flagsOf d)
 
 abbrev pub blendOf : List ℕ → ℕ
 blendOf d = u16At d blendAt
@@ -88,6 +93,19 @@ pickPaint false a b = b
 unfoldable pub paintOf : List ℕ → Paint
 paintOf d = pickPaint (isRadial d) (Radial (radialOf d)) (pickPaint (eqb (paintTypeOf d) paintLinear) (Linear (linearOf d)) (Solid (colorOf d)))
 
+-- edition 1's colour transformation
+abbrev pub transformOf : List ℕ → ColorTransform
+transformOf d = record {
+  sr = f32At d transformAt;
+  sg = f32At d (transformAt + 4);
+  sb = f32At d (transformAt + 8);
+  sa = f32At d (transformAt + 12);
+  br = f32At d (transformAt + 16);
+  bg = f32At d (transformAt + 20);
+  bb = f32At d (transformAt + 24);
+  ba = f32At d (transformAt + 28);
+}
+
 -- the bytes of the scissors, the stops, the segments and the coordinates
 abbrev pub part : ℕ → ℕ → List ℕ → List ℕ
 part from to d = take (to - from) (drop from d)
@@ -103,7 +121,7 @@ abbrev pub stopsOf : List ℕ → List ℕ
 stopsOf d = part (firstStopAt d) segmentsAt d
 
 abbrev pub segmentsOf : List ℕ → List ℕ
-segmentsOf d = part segmentsAt coordinatesAt d
+segmentsOf d = part segmentsAt segmentsEnd d
 
-abbrev pub coordinatesOf : List ℕ → List ℕ
-coordinatesOf d = part coordinatesAt drawBytes d
+abbrev pub coordinatesOf : ℕ → List ℕ → List ℕ
+coordinatesOf edition d = part (coordinatesAt edition) drawBytes d

@@ -4,7 +4,7 @@ use mathlib.Core.List.{List}
 use lib.ListN.{getD}
 use Rattle.fixed.specs.Little.{u16At}
 use Rattle.color.specs.declared.Pixel.{Pixel}
-use Rattle.scene.specs.Layout.{widthAt, heightAt, countAt, backgroundAt}
+use Rattle.scene.specs.Layout.{widthAt, heightAt, countAt, editionAt, backgroundAt}
 
 abbrev pub widthOf : List ℕ → ℕ
 widthOf s = u16At s widthAt
@@ -14,6 +14,9 @@ heightOf s = u16At s heightAt
 
 abbrev pub countOf : List ℕ → ℕ
 countOf s = u16At s countAt
+
+abbrev pub editionOf : List ℕ → ℕ
+editionOf s = u16At s editionAt
 
 -- the background as given, not premultiplied
 abbrev pub backgroundOf : List ℕ → Pixel

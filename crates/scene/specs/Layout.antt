@@ -1,5 +1,7 @@
 -- The scene file's sizes, limits and places ("The scene file"): each number of the paper stands here once, under its name.
 use Prim.Native.Nat.{ℕ}
+use mathlib.Core.Bool.{Bool, cond}
+use lib.Dec.{eqb}
 
 -- blocks of 512 bytes: 508 of payload, then the check of two 16-bit numbers
 abbrev pub blockBytes : ℕ
@@ -31,8 +33,8 @@ heightAt = 2
 abbrev pub countAt : ℕ
 countAt = 4
 
-abbrev pub reservedAt : ℕ
-reservedAt = 6
+abbrev pub editionAt : ℕ
+editionAt = 6
 
 abbrev pub backgroundAt : ℕ
 backgroundAt = 8
@@ -45,6 +47,13 @@ sideLimit = 1024
 
 abbrev pub drawLimit : ℕ
 drawLimit = 64
+
+-- a scene's edition: 0, or 1, whose draws have a colour transformation. Whatever is not 1 is read like 0; the rules let nothing else pass
+abbrev pub newEdition : ℕ
+newEdition = 1
+
+abbrev pub isNew : ℕ → Bool
+isNew edition = eqb edition newEdition
 
 -- the draw number of what is not in a draw
 abbrev pub noDraw : ℕ
@@ -100,12 +109,20 @@ radialAt = stopsAt
 abbrev pub segmentsAt : ℕ
 segmentsAt = 772
 
-abbrev pub coordinatesAt : ℕ
-coordinatesAt = 900
+abbrev pub segmentsEnd : ℕ
+segmentsEnd = 900
 
--- bits 0 to 3; the others are 0
-abbrev pub flagsLimit : ℕ
-flagsLimit = 16
+-- the colour transformation's eight floats, in edition 1
+abbrev pub transformAt : ℕ
+transformAt = segmentsEnd
+
+-- 566 coordinates, in edition 1 550 behind the colour transformation
+unfoldable pub coordinatesAt : ℕ → ℕ
+coordinatesAt edition = cond (isNew edition) 932 900
+
+-- bits 0 to 3, in edition 1 bit 4 too; the others are 0
+unfoldable pub flagsLimit : ℕ → ℕ
+flagsLimit edition = cond (isNew edition) 32 16
 
 abbrev pub segmentLimit : ℕ
 segmentLimit = 128
@@ -130,3 +147,6 @@ stopFloats = 5
 
 abbrev pub radialFloats : ℕ
 radialFloats = 5
+
+abbrev pub transformFloats : ℕ
+transformFloats = 8

@@ -1,25 +1,25 @@
--- The rules, in the order in which they are judged ("Codes, and which comes first"): a draw by its own bytes, then a scene by its bytes.
+-- The rules, in the order in which they are judged ("Codes, and which comes first"): a draw by its own bytes and the edition, then a scene by its
+-- bytes.
 use Prim.Native.Nat.{ℕ, _+_, _*_, _%_}
 use mathlib.Core.List.{List}
 use mathlib.Core.Bool.{Bool, cond, not, _&&_, _||_}
 use lib.ListN.{getD, length}
 use lib.Dec.{leb, ltb, eqb}
 use Rattle.codes.specs.Codes.{acceptedCode, badLength, badChecksum}
-use Rattle.fixed.specs.Little.{u16At}
 use Rattle.blend.specs.PorterDuff.{isMode}
 use Rattle.paint.specs.Gradient.{spreadPad, spreadReflect}
 use Rattle.paint.specs.Paints.{paintColor, paintLinear, paintRadial}
 use Rattle.paint.specs.Radial.{fixedCircle, focalAllowed}
 use Rattle.path.specs.Matrices.{linearLimit, translationLimit, fixedMatrix, isFlat}
 use Rattle.path.specs.Segments.{faultTo, walkTo}
-use Rattle.scene.specs.Layout.{blockBytes, payloadBytes, drawBlocks, widthAt, heightAt, countAt, reservedAt, headerEnd, sideLimit, drawLimit, noDraw}
+use Rattle.scene.specs.Layout.{blockBytes, payloadBytes, drawBlocks, widthAt, heightAt, countAt, editionAt, headerEnd, sideLimit, drawLimit, noDraw}
 use Rattle.scene.specs.Layout.{flagsAt, blendAt, paintTypeAt, spreadAt, segmentCountAt, scissorCountAt}
 use Rattle.scene.specs.Layout.{stopCountAt, paddingAt, matrixAt, translationAt, colorAt, linearPointsAt}
-use Rattle.scene.specs.Layout.{scissorsAt, stopsAt, segmentsAt, coordinatesAt, drawBytes, flagsLimit}
+use Rattle.scene.specs.Layout.{scissorsAt, stopsAt, segmentsAt, segmentsEnd, coordinatesAt, drawBytes, newEdition, isNew, flagsLimit}
 use Rattle.scene.specs.Layout.{segmentLimit, scissorLimit, stopLimit, radialStopLimit, scissorBytes, stopBytes, stopFloats}
-use Rattle.scene.specs.Layout.{radialAt, radialFloats}
+use Rattle.scene.specs.Layout.{radialAt, radialFloats, transformAt, transformFloats}
 use Rattle.scene.specs.Blocks.{blockNumber, blockRightFrom, blockOf, drawOf, fileOffset}
-use Rattle.scene.specs.Header.{widthOf, heightOf, countOf}
+use Rattle.scene.specs.Header.{widthOf, heightOf, countOf, editionOf}
 use Rattle.scene.specs.Fields.{flagsOf, blendOf, paintTypeOf, spreadOf, segmentCount, scissorCount, stopCount, matrixOf, segmentsOf, coordinatesOf}
 use Rattle.scene.specs.Fields.{usesMask, isRadial, radialOf, firstStopAt}
 use Rattle.scene.specs.Faults.{fine, orElse, must, unused, limited, numbers, accepted, fault, orFault, firstFault, demand}
@@ -54,12 +54,12 @@ abbrev pub isSpread : ℕ → Bool
 isSpread mode = leb spreadPad mode && leb mode spreadReflect
 
 -- no other bit is set, and bit 3 only where a mask is lent
-unfoldable pub flagsAllowed : Bool → List ℕ → Bool
-flagsAllowed lent d = ltb (flagsOf d) flagsLimit && (lent || not (usesMask d))
+unfoldable pub flagsAllowed : Bool → ℕ → List ℕ → Bool
+flagsAllowed lent edition d = ltb (flagsOf d) (flagsLimit edition) && (lent || not (usesMask d))
 
-unfoldable pub headRules : Bool → List ℕ → FieldFault
-headRules lent d =
-    orElse (must (flagsAllowed lent d) flagsAt)
+unfoldable pub headRules : Bool → ℕ → List ℕ → FieldFault
+headRules lent edition d =
+    orElse (must (flagsAllowed lent edition d) flagsAt)
     (orElse (must (isMode (blendOf d)) blendAt)
     (orElse (must (isPaint (paintTypeOf d)) paintTypeAt)
     (orElse (must (isSpread (spreadOf d)) spreadAt)
@@ -89,26 +89,37 @@ stopRules d = orElse (numbers d (firstStopAt d) (stopFloats * stopCount d)) (unu
 unfoldable pub listRules : List ℕ → FieldFault
 listRules d = orElse (unused d (scissorsAt + scissorBytes * scissorCount d) stopsAt) (orElse (circleRules d) (stopRules d))
 
+-- edition 1's colour transformation, on or off: each of its values is a number, which may be infinite
+unfoldable pub transformRules : ℕ → List ℕ → FieldFault
+transformRules edition d = cond (isNew edition) (numbers d transformAt transformFloats) fine
+
 -- a flat matrix, judged on the whole numbers, where the draw has segments: the place is that of its sx
 unfoldable pub flatRule : List ℕ → FieldFault
 flatRule d = must (eqb (segmentCount d) 0 || not (isFlat (fixedMatrix (matrixOf d)))) matrixAt
 
 -- the path, segment by segment
-unfoldable pub pathRules : List ℕ → FieldFault
-pathRules d = record {
-  code = faultTo (fixedMatrix (matrixOf d)) (segmentsOf d) (coordinatesOf d) (segmentCount d) .code;
-  place = segmentsAt + faultTo (fixedMatrix (matrixOf d)) (segmentsOf d) (coordinatesOf d) (segmentCount d) .segment;
+unfoldable pub pathRules : ℕ → List ℕ → FieldFault
+pathRules edition d = record {
+  code = faultTo (fixedMatrix (matrixOf d)) (segmentsOf d) (coordinatesOf edition d) (segmentCount d) .code;
+  place = segmentsAt + faultTo (fixedMatrix (matrixOf d)) (segmentsOf d) (coordinatesOf edition d) (segmentCount d) .segment;
 }
 
 -- places past the last segment and past the last coordinate used
-unfoldable pub restRules : List ℕ → FieldFault
-restRules d =
-    orElse (unused d (segmentsAt + segmentCount d) coordinatesAt)
-    (unused d (coordinatesAt + 2 * walkTo (segmentsOf d) (coordinatesOf d) (segmentCount d) .used) drawBytes)
+unfoldable pub restRules : ℕ → List ℕ → FieldFault
+restRules edition d =
+    orElse (unused d (segmentsAt + segmentCount d) segmentsEnd)
+    (unused d (coordinatesAt edition + 2 * walkTo (segmentsOf d) (coordinatesOf edition d) (segmentCount d) .used) drawBytes)
 
--- a draw judged by itself, where a mask is lent or is not
-unfoldable pub drawRules : Bool → List ℕ → FieldFault
-drawRules lent d = orElse (headRules lent d) (orElse (floatRules d) (orElse (listRules d) (orElse (flatRule d) (orElse (pathRules d) (restRules d)))))
+-- a draw of a scene of that edition, judged by itself, where a mask is lent or is not
+unfoldable pub drawRules : Bool → ℕ → List ℕ → FieldFault
+drawRules lent edition d =
+    orElse (headRules lent edition d)
+    (orElse (floatRules d)
+    (orElse (listRules d)
+    (orElse (transformRules edition d)
+    (orElse (flatRule d)
+    (orElse (pathRules edition d)
+    (restRules edition d))))))
 
 -- ---- the fields of block 0, in order
 abbrev pub isSide : ℕ → Bool
@@ -119,7 +130,7 @@ headerRules s =
     orElse (must (isSide (widthOf s)) widthAt)
     (orElse (must (isSide (heightOf s)) heightAt)
     (orElse (must (leb (countOf s) drawLimit) countAt)
-    (orElse (must (eqb (u16At s reservedAt) 0) reservedAt)
+    (orElse (must (leb (editionOf s) newEdition) editionAt)
     (unused s headerEnd payloadBytes))))
 
 -- a fault among fields as one of the scene, with a draw number and an offset in the file
@@ -141,9 +152,9 @@ unfoldable pub checkFaultsFrom : (ℕ → ℕ) → List ℕ → ℕ → Fault
 checkFaultsFrom start s i =
     firstFault drawBlocks (λ j. demand (blockRightFrom start s (blockOf i + j)) (fault badChecksum i (blockBytes * (blockOf i + j) + payloadBytes)))
 
--- draw i: its four checks, then its own rules
+-- draw i: its four checks, then its own rules, in the scene's edition
 unfoldable pub drawFaultFrom : (ℕ → ℕ) → Bool → List ℕ → ℕ → Fault
-drawFaultFrom start lent s i = orFault (checkFaultsFrom start s i) (inDraw i (drawRules lent (drawOf s i)))
+drawFaultFrom start lent s i = orFault (checkFaultsFrom start s i) (inDraw i (drawRules lent (editionOf s) (drawOf s i)))
 
 -- the first fault of a scene
 unfoldable pub sceneFaultFrom : (ℕ → ℕ) → Bool → List ℕ → Fault

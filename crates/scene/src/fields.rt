@@ -1,11 +1,13 @@
-// A draw's fields, of its 2,032 bytes.
+// A draw's fields, of its 2,032 bytes, and of the scene's edition where they depend on it.
 use crate::layout::BLEND_AT;
 use crate::layout::COLOR_AT;
-use crate::layout::COORDINATES_AT;
 use crate::layout::DRAW_BYTES;
 use crate::layout::FLAGS_AT;
 use crate::layout::LINEAR_POINTS_AT;
 use crate::layout::MATRIX_AT;
+use crate::layout::NEW_COORDINATES_AT;
+use crate::layout::NEW_EDITION;
+use crate::layout::OLD_COORDINATES_AT;
 use crate::layout::PAINT_LINEAR;
 use crate::layout::PAINT_RADIAL;
 use crate::layout::PAINT_TYPE_AT;
@@ -14,10 +16,12 @@ use crate::layout::SCISSOR_COUNT_AT;
 use crate::layout::SCISSORS_AT;
 use crate::layout::SEGMENT_COUNT_AT;
 use crate::layout::SEGMENTS_AT;
+use crate::layout::SEGMENTS_END;
 use crate::layout::SPREAD_AT;
 use crate::layout::STOP_BYTES;
 use crate::layout::STOP_COUNT_AT;
 use crate::layout::STOPS_AT;
+use crate::layout::TRANSFORM_AT;
 use crate::layout::TRANSLATION_AT;
 use color::Color;
 use fixed::Real;
@@ -29,6 +33,7 @@ use paint::RadialPoints;
 use path::Converted;
 use path::FixedMatrix;
 use path::Matrix;
+use transform::ColorTransform;
 ghost use mathlib.Core.Path.{_≡_};
 ghost use mathlib.Core.Bool.{true};
 ghost use Prim.Native.Nat.{_+_, _≤_, _<_};
@@ -37,11 +42,11 @@ ghost use lib.Ieee.{nan};
 ghost use Rattle.fixed.specs.Floats.{f32At};
 ghost use Rattle.paint.specs.Paints.{paintType};
 ghost use Rattle.path.specs.Matrices.{matrixInLimits, fixedMatrix};
-ghost use Rattle.scene.specs.Layout.{drawBytes};
+ghost use Rattle.scene.specs.Layout.{drawBytes, coordinatesAt};
 ghost use Rattle.scene.specs.Fields as Fields;
-ghost use Rattle.scene.specs.Fields.{flagsOf, bit, nonZeroRule, rampPremultiplied, usesMask, blendOf, paintTypeOf};
-ghost use Rattle.scene.specs.Fields.{spreadOf, segmentCount, scissorCount, stopCount};
-ghost use Rattle.scene.specs.Fields.{matrixOf, colorOf, linearOf, isRadial, radialOf, paintOf};
+ghost use Rattle.scene.specs.Fields.{flagsOf, bit, nonZeroRule, rampPremultiplied, usesMask, blendOf, paintTypeOf, spreadOf};
+ghost use Rattle.scene.specs.Fields.{segmentCount, scissorCount, stopCount};
+ghost use Rattle.scene.specs.Fields.{matrixOf, colorOf, linearOf, isRadial, radialOf, paintOf, transformOf};
 ghost use Rattle.scene.specs.Fields.{scissorsOf, firstStopAt, stopsOf, segmentsOf, coordinatesOf};
 ghost use Rattle.scene.specs.Rules.{isPaint};
 
@@ -75,6 +80,14 @@ pub fn uses_mask(d: &[u8]) -> bool
     ensures { λ r. ⌜ r ≡ usesMask (now (d .entry)) ⌝ }
 {
     flag(d, 3)
+}
+
+// Whether the draw's paint is transformed. Only edition 1 lets it be.
+pub fn transforms(d: &[u8]) -> bool
+    requires { ⌜ length (now d) ≡ drawBytes ⌝ }
+    ensures { λ r. ⌜ r ≡ Fields.transforms (now (d .entry)) ⌝ }
+{
+    flag(d, 4)
 }
 
 // Whether bit n of the flags is set.
@@ -227,6 +240,23 @@ pub fn radial_points(d: &[u8]) -> RadialPoints
     }
 }
 
+// Edition 1's colour transformation.
+pub fn transform(d: &[u8]) -> ColorTransform
+    requires { ⌜ length (now d) ≡ drawBytes ⌝ }
+    ensures { λ r. ⌜ r ≡ transformOf (now (d .entry)) ⌝ }
+{
+    ColorTransform {
+        sr: float_at(d, TRANSFORM_AT),
+        sg: float_at(d, TRANSFORM_AT + 4),
+        sb: float_at(d, TRANSFORM_AT + 8),
+        sa: float_at(d, TRANSFORM_AT + 12),
+        br: float_at(d, TRANSFORM_AT + 16),
+        bg: float_at(d, TRANSFORM_AT + 20),
+        bb: float_at(d, TRANSFORM_AT + 24),
+        ba: float_at(d, TRANSFORM_AT + 28),
+    }
+}
+
 // The float at a place, NaN for each of the patterns that are.
 fn float_at(d: &[u8], at: usize) -> f32
     requires { ⌜ at + 4 ≤ length (now d) ⌝ }
@@ -280,13 +310,25 @@ pub fn segments(d: &[u8]) -> &[u8]
     requires { ⌜ length (now d) ≡ drawBytes ⌝ }
     ensures { λ r. ⌜ now r ≡ segmentsOf (now (d .entry)) ⌝ }
 {
-    &d[SEGMENTS_AT..COORDINATES_AT]
+    &d[SEGMENTS_AT..SEGMENTS_END]
+}
+
+// Where the coordinates begin: in edition 1 behind the colour transformation.
+pub fn coordinates_at(edition: u32) -> usize
+    ensures { λ r. ⌜ (r ≡ coordinatesAt edition) × (r ≤ 932) ⌝ }
+{
+    if edition == NEW_EDITION {
+        NEW_COORDINATES_AT
+    } else {
+        OLD_COORDINATES_AT
+    }
 }
 
 // The bytes of the coordinates.
-pub fn coordinates(d: &[u8]) -> &[u8]
+pub fn coordinates(d: &[u8], edition: u32) -> &[u8]
     requires { ⌜ length (now d) ≡ drawBytes ⌝ }
-    ensures { λ r. ⌜ now r ≡ coordinatesOf (now (d .entry)) ⌝ }
+    ensures { λ r. ⌜ now r ≡ coordinatesOf edition (now (d .entry)) ⌝ }
 {
-    &d[COORDINATES_AT..DRAW_BYTES]
+    let first = coordinates_at(edition);
+    &d[first..DRAW_BYTES]
 }

@@ -6,10 +6,11 @@ use crate::faults::unused;
 use crate::layout::BACKGROUND_AT;
 use crate::layout::COUNT_AT;
 use crate::layout::DRAW_LIMIT;
+use crate::layout::EDITION_AT;
 use crate::layout::HEADER_END;
 use crate::layout::HEIGHT_AT;
+use crate::layout::NEW_EDITION;
 use crate::layout::PAYLOAD_BYTES;
-use crate::layout::RESERVED_AT;
 use crate::layout::SIDE_LIMIT;
 use crate::layout::WIDTH_AT;
 use color::Pixel;
@@ -19,7 +20,7 @@ ghost use Prim.Native.Nat.{_≤_, _<_};
 ghost use lib.ListN.{length};
 ghost use Rattle.fixed.specs.Little.{u16At};
 ghost use Rattle.scene.specs.Layout.{blockBytes, headerEnd};
-ghost use Rattle.scene.specs.Header.{widthOf, heightOf, countOf, backgroundOf};
+ghost use Rattle.scene.specs.Header.{widthOf, heightOf, countOf, editionOf, backgroundOf};
 ghost use Rattle.scene.specs.Faults as Faults;
 ghost use Rattle.scene.specs.Rules.{isSide, headerRules};
 
@@ -47,6 +48,14 @@ pub fn count(s: &[u8]) -> usize
     u16_at(s, COUNT_AT) as usize
 }
 
+// The edition of its draws.
+pub fn edition(s: &[u8]) -> u32
+    requires { ⌜ blockBytes ≤ length (now s) ⌝ }
+    ensures { λ r. ⌜ r ≡ editionOf (now (s .entry)) ⌝ }
+{
+    u16_at(s, EDITION_AT)
+}
+
 // The background as given, not premultiplied.
 pub fn background(s: &[u8]) -> Pixel
     requires { ⌜ blockBytes ≤ length (now s) ⌝ }
@@ -66,10 +75,10 @@ pub fn header_rules(s: &[u8]) -> FieldFault
     ensures { λ r. ⌜ r ≡ headerRules (now (s .entry)) ⌝ }
 {
     let zeros = unused(s, HEADER_END, PAYLOAD_BYTES);
-    let from_reserved = or_else(must(u16_at(s, RESERVED_AT) == 0, RESERVED_AT), zeros);
+    let from_edition = or_else(must(edition(s) <= NEW_EDITION, EDITION_AT), zeros);
     let from_count = or_else(
         must(u16_at(s, COUNT_AT) <= DRAW_LIMIT, COUNT_AT),
-        from_reserved,
+        from_edition,
     );
     or_else(
         side_rule(s, WIDTH_AT),

@@ -21,7 +21,7 @@ pub const HEIGHT_AT: usize = 2;
 
 pub const COUNT_AT: usize = 4;
 
-pub const RESERVED_AT: usize = 6;
+pub const EDITION_AT: usize = 6;
 
 pub const BACKGROUND_AT: usize = 8;
 
@@ -30,6 +30,9 @@ pub const HEADER_END: usize = 12;
 pub const SIDE_LIMIT: u32 = 1024;
 
 pub const DRAW_LIMIT: u32 = 64;
+
+// A scene's edition: 0, or 1, whose draws have a colour transformation.
+pub const NEW_EDITION: u32 = 1;
 
 // The draw number of what is not in a draw.
 pub const NO_DRAW: usize = 64;
@@ -68,9 +71,20 @@ pub const RADIAL_AT: usize = STOPS_AT;
 
 pub const SEGMENTS_AT: usize = 772;
 
-pub const COORDINATES_AT: usize = 900;
+pub const SEGMENTS_END: usize = 900;
 
-pub const FLAGS_LIMIT: u32 = 16;
+// The colour transformation's eight floats, in edition 1.
+pub const TRANSFORM_AT: usize = SEGMENTS_END;
+
+// Where the coordinates begin, in edition 0 and in edition 1.
+pub const OLD_COORDINATES_AT: usize = 900;
+
+pub const NEW_COORDINATES_AT: usize = 932;
+
+// The flags of edition 0 are below this, and those of edition 1, which has one more.
+pub const OLD_FLAGS_LIMIT: u32 = 16;
+
+pub const NEW_FLAGS_LIMIT: u32 = 32;
 
 pub const SEGMENT_LIMIT: u8 = 128;
 
@@ -87,6 +101,8 @@ pub const STOP_BYTES: usize = 20;
 pub const STOP_FLOATS: usize = 5;
 
 pub const RADIAL_FLOATS: usize = 5;
+
+pub const TRANSFORM_FLOATS: usize = 8;
 
 // The limit of the linear points' floats, 4,096, as a power of 2.
 pub const POINT_LIMIT_LOG: u32 = 12;

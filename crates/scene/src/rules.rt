@@ -1,4 +1,4 @@
-// The rules of a draw, judged by its own bytes: fields in layout order, then the path, then what is left unused.
+// The rules of a draw, judged by its own bytes and the scene's edition: fields in layout order, then the path, then what is left unused.
 use crate::FieldFault;
 use crate::faults::limited;
 use crate::faults::must;
@@ -7,6 +7,7 @@ use crate::faults::or_else;
 use crate::faults::unused;
 use crate::fields::blend_mode;
 use crate::fields::coordinates;
+use crate::fields::coordinates_at;
 use crate::fields::first_stop;
 use crate::fields::fixed_matrix;
 use crate::fields::is_radial;
@@ -20,12 +21,13 @@ use crate::fields::stop_count;
 use crate::fields::uses_mask;
 use crate::layout::BLEND_AT;
 use crate::layout::COLOR_AT;
-use crate::layout::COORDINATES_AT;
 use crate::layout::DRAW_BYTES;
 use crate::layout::FLAGS_AT;
-use crate::layout::FLAGS_LIMIT;
 use crate::layout::LINEAR_POINTS_AT;
 use crate::layout::MATRIX_AT;
+use crate::layout::NEW_EDITION;
+use crate::layout::NEW_FLAGS_LIMIT;
+use crate::layout::OLD_FLAGS_LIMIT;
 use crate::layout::PADDING_AT;
 use crate::layout::PAINT_COLOR;
 use crate::layout::PAINT_LINEAR;
@@ -43,6 +45,7 @@ use crate::layout::SCISSORS_AT;
 use crate::layout::SEGMENT_COUNT_AT;
 use crate::layout::SEGMENT_LIMIT;
 use crate::layout::SEGMENTS_AT;
+use crate::layout::SEGMENTS_END;
 use crate::layout::SPREAD_AT;
 use crate::layout::SPREAD_PAD;
 use crate::layout::SPREAD_REFLECT;
@@ -51,6 +54,8 @@ use crate::layout::STOP_COUNT_AT;
 use crate::layout::STOP_FLOATS;
 use crate::layout::STOP_LIMIT;
 use crate::layout::STOPS_AT;
+use crate::layout::TRANSFORM_AT;
+use crate::layout::TRANSFORM_FLOATS;
 use crate::layout::TRANSLATION_AT;
 use blend::factor::is_mode;
 use codes::ACCEPTED;
@@ -66,20 +71,19 @@ ghost use lib.ListN.{getD, length};
 ghost use lib.Dec.{leb};
 ghost use Rattle.blend.specs.PorterDuff.{isMode};
 ghost use Rattle.path.specs.Matrices.{matrixInLimits};
-ghost use Rattle.scene.specs.Layout.{drawBytes, segmentLimit, radialAt, radialFloats, flagsAt, blendAt, paintTypeAt, spreadAt};
+ghost use Rattle.scene.specs.Layout.{drawBytes, segmentLimit, radialAt, radialFloats, flagsLimit, flagsAt, blendAt, paintTypeAt, spreadAt};
 ghost use Rattle.scene.specs.Fields.{blendOf, paintTypeOf, spreadOf, segmentCount, stopCount, matrixOf};
 ghost use Rattle.scene.specs.Faults as Faults;
 ghost use Rattle.scene.specs.Faults.{orElse};
-ghost use Rattle.scene.specs.Rules.{isGradient, isPaint, isSpread, flagsAllowed, headRules, stopLimitOf, countRules};
-ghost use Rattle.scene.specs.Rules.{floatRules, radialLimit, focalRule, circleRules};
-ghost use Rattle.scene.specs.Rules.{stopRules, listRules, flatRule, pathRules, restRules, drawRules};
+ghost use Rattle.scene.specs.Rules.{isGradient, isPaint, isSpread, flagsAllowed, headRules, stopLimitOf, countRules, floatRules};
+ghost use Rattle.scene.specs.Rules.{radialLimit, focalRule, circleRules, stopRules, listRules, transformRules, flatRule, pathRules, restRules, drawRules};
 
-// A draw judged by itself, where a mask is lent or is not.
-pub fn draw_rules(d: &[u8], lent: bool) -> FieldFault
+// A draw of a scene of that edition, judged by itself, where a mask is lent or is not.
+pub fn draw_rules(d: &[u8], lent: bool, edition: u32) -> FieldFault
     requires { ⌜ length (now d) ≡ drawBytes ⌝ }
-    ensures { λ r. ⌜ r ≡ drawRules lent (now (d .entry)) ⌝ }
+    ensures { λ r. ⌜ r ≡ drawRules lent edition (now (d .entry)) ⌝ }
 {
-    let head = head_rules(d, lent);
+    let head = head_rules(d, lent, edition);
     if head.code != ACCEPTED {
         return head;
     }
@@ -91,40 +95,55 @@ pub fn draw_rules(d: &[u8], lent: bool) -> FieldFault
     if lists.code != ACCEPTED {
         return lists;
     }
+    let transform = transform_rules(d, edition);
+    if transform.code != ACCEPTED {
+        return transform;
+    }
     let flat = flat_rule(d);
     if flat.code != ACCEPTED {
         return flat;
     }
-    path_rules(d)
+    path_rules(d, edition)
 }
 
 // Flags, blend mode, paint type, spread, then the counts.
-fn head_rules(d: &[u8], lent: bool) -> FieldFault
+fn head_rules(d: &[u8], lent: bool, edition: u32) -> FieldFault
     requires { ⌜ length (now d) ≡ drawBytes ⌝ }
-    ensures { λ r. ⌜ r ≡ headRules lent (now (d .entry)) ⌝ }
+    ensures { λ r. ⌜ r ≡ headRules lent edition (now (d .entry)) ⌝ }
 {
     let from_spread = or_else(spread_rule(d), count_rules(d));
     let from_paint = or_else(paint_rule(d), from_spread);
     let from_blend = or_else(blend_rule(d), from_paint);
-    or_else(flags_rule(d, lent), from_blend)
+    or_else(flags_rule(d, lent, edition), from_blend)
 }
 
-fn flags_rule(d: &[u8], lent: bool) -> FieldFault
+fn flags_rule(d: &[u8], lent: bool, edition: u32) -> FieldFault
     requires { ⌜ length (now d) ≡ drawBytes ⌝ }
-    ensures { λ r. ⌜ r ≡ Faults.must (flagsAllowed lent (now (d .entry))) flagsAt ⌝ }
+    ensures { λ r. ⌜ r ≡ Faults.must (flagsAllowed lent edition (now (d .entry))) flagsAt ⌝ }
 {
-    must(flags_allowed(d, lent), FLAGS_AT)
+    must(flags_allowed(d, lent, edition), FLAGS_AT)
 }
 
 // No bit without a meaning is set, and the mask's only where one is lent.
-fn flags_allowed(d: &[u8], lent: bool) -> bool
+fn flags_allowed(d: &[u8], lent: bool, edition: u32) -> bool
     requires { ⌜ length (now d) ≡ drawBytes ⌝ }
-    ensures { λ r. ⌜ r ≡ flagsAllowed lent (now (d .entry)) ⌝ }
+    ensures { λ r. ⌜ r ≡ flagsAllowed lent edition (now (d .entry)) ⌝ }
 {
-    if u16_at(d, FLAGS_AT) >= FLAGS_LIMIT {
+    if u16_at(d, FLAGS_AT) >= flags_limit(edition) {
         return false;
     }
     lent || !uses_mask(d)
+}
+
+// What the flags stay below.
+fn flags_limit(edition: u32) -> u32
+    ensures { λ r. ⌜ r ≡ flagsLimit edition ⌝ }
+{
+    if edition == NEW_EDITION {
+        NEW_FLAGS_LIMIT
+    } else {
+        OLD_FLAGS_LIMIT
+    }
 }
 
 fn blend_rule(d: &[u8]) -> FieldFault
@@ -264,6 +283,17 @@ fn stop_rules(d: &[u8]) -> FieldFault
     or_else(numbers(d, first, STOP_FLOATS * stops), past_stops)
 }
 
+// Edition 1's colour transformation, on or off.
+fn transform_rules(d: &[u8], edition: u32) -> FieldFault
+    requires { ⌜ length (now d) ≡ drawBytes ⌝ }
+    ensures { λ r. ⌜ r ≡ transformRules edition (now (d .entry)) ⌝ }
+{
+    if edition != NEW_EDITION {
+        return must(true, TRANSFORM_AT);
+    }
+    numbers(d, TRANSFORM_AT, TRANSFORM_FLOATS)
+}
+
 // A matrix that is not flat, where there are segments.
 fn flat_rule(d: &[u8]) -> FieldFault
     requires { ⌜ (length (now d) ≡ drawBytes) × (matrixInLimits (matrixOf (now d)) ≡ true) ⌝ }
@@ -276,13 +306,13 @@ fn flat_rule(d: &[u8]) -> FieldFault
 }
 
 // The path, segment by segment, then unused segments and coordinates.
-fn path_rules(d: &[u8]) -> FieldFault
+fn path_rules(d: &[u8], edition: u32) -> FieldFault
     requires { ⌜ (length (now d) ≡ drawBytes) × (segmentCount (now d) ≤ segmentLimit) ⌝ }
     requires { ⌜ matrixInLimits (matrixOf (now d)) ≡ true ⌝ }
-    ensures { λ r. ⌜ r ≡ orElse (pathRules (now (d .entry))) (restRules (now (d .entry))) ⌝ }
+    ensures { λ r. ⌜ r ≡ orElse (pathRules edition (now (d .entry))) (restRules edition (now (d .entry))) ⌝ }
 {
     let n = segment_count(d);
-    let checked = check(fixed_matrix(d), segments(d), coordinates(d), n);
+    let checked = check(fixed_matrix(d), segments(d), coordinates(d, edition), n);
     let fault = checked.fault;
     if fault.code != ACCEPTED {
         return FieldFault {
@@ -290,6 +320,7 @@ fn path_rules(d: &[u8]) -> FieldFault
             place: (SEGMENTS_AT + fault.segment) as u16,
         };
     }
-    let past_coordinates = unused(d, COORDINATES_AT + 2 * checked.used, DRAW_BYTES);
-    or_else(unused(d, SEGMENTS_AT + n, COORDINATES_AT), past_coordinates)
+    let past_used = coordinates_at(edition) + 2 * checked.used;
+    let past_coordinates = unused(d, past_used, DRAW_BYTES);
+    or_else(unused(d, SEGMENTS_AT + n, SEGMENTS_END), past_coordinates)
 }

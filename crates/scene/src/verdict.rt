@@ -4,6 +4,7 @@ use crate::FieldFault;
 use crate::blocks::block_right;
 use crate::blocks::read_draw;
 use crate::header::count;
+use crate::header::edition;
 use crate::header::header_rules;
 use crate::layout::BLOCK_BYTES;
 use crate::layout::DRAW_BLOCKS;
@@ -70,7 +71,7 @@ fn draw_faults(s: &[u8], n: usize, lent: bool) -> Fault
     fault(ACCEPTED, NO_DRAW, 0)
 }
 
-// Draw i: its four checks, then its own rules.
+// Draw i: its four checks, then its own rules, in the scene's edition.
 fn draw_fault(s: &[u8], i: usize, lent: bool) -> Fault
     requires { ⌜ (blockBytes * blockOf (i + 1) ≤ length (now s)) × (i < drawLimit) ⌝ }
     ensures { λ r. ⌜ r ≡ drawFault lent (now (s .entry)) i ⌝ }
@@ -81,7 +82,7 @@ fn draw_fault(s: &[u8], i: usize, lent: bool) -> Fault
     }
     let mut d = [0u8; DRAW_BYTES];
     read_draw(s, i, &mut d);
-    in_draw(i, draw_rules(&d, lent))
+    in_draw(i, draw_rules(&d, lent, edition(s)))
 }
 
 // The checks of draw i's four blocks.

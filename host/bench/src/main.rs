@@ -3,7 +3,7 @@
 //!     cargo run --offline --release -p bench [SECONDS [PART]]
 //!
 //! Each part takes about SECONDS (2); all are timed, or the named one. A workload is a scene and its next frame: `panel`,
-//! `panel small`, `largest`. Full drawings and redraws take turns in one run: a frame is drawn, then redrawn to the other.
+//! `panel small`, `panel night`, `largest`. Full drawings and redraws take turns in one run: a frame is drawn, then redrawn to the other.
 //! The buffers are not cleared between calls. A redraw's time includes the rules on both scenes, a full drawing's those on
 //! one. Then come the stages of the full drawing of the first frame. The other parts are `paints`, a full drawing in each
 //! kind of paint, `blending`, blended pixels alone, `masks`, a lamp under masks, and `compare`.
@@ -62,23 +62,31 @@ fn print_workloads(workloads: Vec<Workload>, budget: Duration) {
     );
 }
 
-/// A dial in each kind of paint, in turn: the best time of a full drawing for each pixel.
+/// A dial in each kind of paint, by day and transformed, in turn: the best time of a full drawing for each pixel.
 fn print_paints(budget: Duration) {
+    const SIDE: u16 = 512;
     let kinds = [("colour", PaintType::Color), ("linear", PaintType::Linear), ("radial", PaintType::Radial)];
-    let scenes = kinds.map(|(_, paint)| workloads::dial(paint, 512).bytes());
-    let mut surface = vec![0; 4 * 512 * 512];
+    let times = [("", false), (", transformed", true)];
+    let dials: Vec<(String, Vec<u8>)> = times
+        .iter()
+        .flat_map(|(time, on)| {
+            kinds.map(|(name, paint)| (format!("{name}{time}"), workloads::dial(paint, SIDE, *on).bytes()))
+        })
+        .collect();
+    let pixels = usize::from(SIDE) * usize::from(SIDE);
+    let mut surface = vec![0; 4 * pixels];
     let mut scratch = vec![0; library::SCRATCH_NUMBERS];
-    let mut best = [Duration::MAX; 3];
+    let mut best = vec![Duration::MAX; dials.len()];
     let begin = Instant::now();
     while begin.elapsed() < budget {
-        for (scene, best) in scenes.iter().zip(&mut best) {
+        for ((_, scene), best) in dials.iter().zip(&mut best) {
             let (answer, time) = timed(|| library::draw(scene, Mask::NONE, &mut surface, &mut scratch));
             assert_eq!(answer.code, 0);
             *best = time.min(*best);
         }
     }
-    for ((name, _), time) in kinds.iter().zip(best) {
-        println!("dial, {name}: {:.1} ns a pixel", time.as_secs_f64() * 1e9 / (512.0 * 512.0));
+    for ((name, _), time) in dials.iter().zip(best) {
+        println!("dial, {name}: {:.1} ns a pixel", time.as_secs_f64() * 1e9 / pixels as f64);
     }
 }
 

@@ -24,13 +24,19 @@ impl Workload {
 }
 
 pub fn all() -> Vec<Workload> {
-    vec![panel_at("panel", 1.0), panel_at("panel small", 0.25), largest()]
+    let day = Readings::default();
+    let night = day.at_night();
+    vec![
+        panel_at("panel", 1.0, &day),
+        panel_at("panel small", 0.25, &day),
+        panel_at("panel night", 1.0, &night),
+        largest(),
+    ]
 }
 
 /// The panel and its next frame: the speed needle and a door have moved.
-fn panel_at(name: &'static str, scale: f64) -> Workload {
-    let now = Readings::default();
-    Workload::new(name, [&now, &now.next()].map(|readings| panel::panel(readings, scale, Light::Near)))
+fn panel_at(name: &'static str, scale: f64, now: &Readings) -> Workload {
+    Workload::new(name, [now, &now.next()].map(|readings| panel::panel(readings, scale, Light::Near)))
 }
 
 /// 64 draws of 128 curves on 1,024 by 1,024 pixels. All but the last cover the surface; the last, an eighth of it
@@ -49,13 +55,16 @@ fn largest() -> Workload {
     Workload::new("largest", [scene, next])
 }
 
-/// A surface of a side, all of it in one draw of a paint: a dial's colours from its middle out, or from the left to the right.
-pub fn dial(paint: PaintType, side: u16) -> Scene {
+/// A surface of a side, all of it in one draw of a paint: a dial's colours from its middle out, or from the left to the
+/// right, by day or transformed as at night.
+pub fn dial(paint: PaintType, side: u16, transformed: bool) -> Scene {
     let (end, middle) = (f32::from(side), f32::from(side) / 2.0);
     let stop = |offset, grey| Stop { offset, color: [grey, grey, grey, 1.0] };
-    let mut scene = Scene::new(side, side, [0; 4]);
+    let mut scene = Scene { edition: 1, ..Scene::new(side, side, [0; 4]) };
     scene.draws.push(Draw {
         paint,
+        transformed,
+        transformation: [0.8, 0.4, 0.25, 1.0, 0.0, 0.0, 0.0, 0.0],
         linear: [0.0, 0.0, end, middle],
         radial: [middle, middle, middle - 16.0, middle - 24.0, middle],
         stops: vec![stop(0.0, 0.2), stop(0.6, 0.9), stop(1.0, 0.1)],

@@ -42,6 +42,12 @@ fn small_panel() {
     draw_and_redraw("panel-small.scene", "panel-small-next.scene", &rubbish(256 * 150));
 }
 
+/// From day to night, between editions.
+#[test]
+fn panel_at_night() {
+    draw_and_redraw("panel.scene", "panel-night.scene", &rubbish(1_024 * 600));
+}
+
 /// Its lamps fade under the mask; without it the scene is refused at the first lamp.
 #[test]
 fn soft_panel() {

@@ -1,8 +1,11 @@
-//! Both sides of every scene rule, drawn, and as either scene of a redraw, with a mask lent and with none.
+//! Both sides of every scene rule, drawn, and as either scene of a redraw, in both editions, with a mask lent and with none.
 
 use differential::{compare, Buffers, Call};
 use generate::{rules, Random};
 use reference::picture::SCRATCH_NUMBERS;
+
+/// Whether a mask is lent, and the edition.
+const WAYS: [(bool, u16); 4] = [(false, 0), (true, 0), (false, 1), (true, 1)];
 
 /// Buffers as a scene asks for them, if its block 0 is long enough to say, with a mask or none.
 fn buffers_for(random: &mut Random, scene: &[u8], mask_lent: bool) -> Buffers {
@@ -24,8 +27,8 @@ fn buffers_for(random: &mut Random, scene: &[u8], mask_lent: bool) -> Buffers {
 #[test]
 fn draws() {
     let mut random = Random::new(1);
-    for mask_lent in [false, true] {
-        for case in rules::cases(mask_lent) {
+    for (mask_lent, edition) in WAYS {
+        for case in rules::cases(mask_lent, edition) {
             let buffers = buffers_for(&mut random, &case.bytes, mask_lent);
             let (answer, _) = compare(&case.name, Call::Draw(&case.bytes), &buffers);
             let expected = case.fault.map_or((0, 64), |fault| (fault.code, fault.draw));
@@ -38,8 +41,8 @@ fn draws() {
 #[test]
 fn redraws() {
     let mut random = Random::new(2);
-    for mask_lent in [false, true] {
-        for two in rules::cases(mask_lent).windows(2) {
+    for (mask_lent, edition) in WAYS {
+        for two in rules::cases(mask_lent, edition).windows(2) {
             let name = format!("from {} to {}", two[0].name, two[1].name);
             let buffers = buffers_for(&mut random, &two[0].bytes, mask_lent);
             let (answer, _) = compare(&name, Call::Redraw(&two[0].bytes, &two[1].bytes), &buffers);

@@ -1,7 +1,8 @@
-//! Generated scenes, sound and damaged, drawn and redrawn, with a mask or none. WAYRAMESH_ROUNDS multiplies their number.
+//! Generated scenes of both editions, sound and damaged, drawn and redrawn, with a mask or none. WAYRAMESH_ROUNDS
+//! multiplies their number.
 
 use differential::{compare, rounds, Buffers, Call};
-use generate::{damage, scenes, Random};
+use generate::{damage, scenes, transforms, Random};
 use reference::picture::SCRATCH_NUMBERS;
 
 /// Draws one scene after the other; returns how many were accepted.
@@ -42,9 +43,7 @@ fn long_and_narrow_scenes() {
     for seed in 30_000_000..30_000_000 + 60 * rounds() {
         let mut random = Random::new(seed);
         let (width, height) = random.pick(&[(1_024, 3), (3, 1_024), (1_023, 1), (1, 1_023), (1_024, 16)]);
-        let mut scene = scene::Scene::new(width, height, [9, 8, 7, 255]);
-        scene.draws = (0..4).map(|_| scenes::draw(&mut random, width, height)).collect();
-        scenes::ask_for_mask(&mut random, &mut scene);
+        let scene = scenes::sized_scene(&mut random, width, height, 4);
         let buffers = Buffers::masked(&mut random, width, height);
         compare(&format!("seed {seed}"), Call::Draw(&scene.bytes()), &buffers);
     }
@@ -68,8 +67,7 @@ fn largest_scene() {
 #[test]
 fn largest_surface() {
     let mut random = Random::new(50_000_000);
-    let mut scene = scene::Scene::new(1_024, 1_024, [0, 40, 80, 200]);
-    scene.draws = (0..3).map(|_| scenes::draw(&mut random, 1_024, 1_024)).collect();
+    let mut scene = scenes::sized_scene(&mut random, 1_024, 1_024, 3);
     scene.draws[1].masked = true;
     let buffers = Buffers::masked(&mut random, 1_024, 1_024);
     compare("largest surface", Call::Draw(&scene.bytes()), &buffers);
@@ -136,9 +134,7 @@ fn redraws_of_wide_and_high_surfaces() {
         let short = random.range(1, 20) as u16;
         let long = random.pick(&[1_024, 1_023, 1_000, 769, 513, 257]);
         let (width, height) = if random.once_in(2) { (long, short) } else { (short, long) };
-        let mut old = scene::Scene::new(width, height, [7, 8, 9, 255]);
-        old.draws = (0..4).map(|_| scenes::draw(&mut random, width, height)).collect();
-        scenes::ask_for_mask(&mut random, &mut old);
+        let old = scenes::sized_scene(&mut random, width, height, 4);
         let new = scenes::next_scene(&mut random, &old);
         let rubbish = lent(&mut random, &new);
         let (old, new) = (old.bytes(), new.bytes());
@@ -155,6 +151,61 @@ fn redraws_of_wide_and_high_surfaces() {
         }
     }
     assert!(finished > count / 2, "{finished} of {count} redrawn");
+}
+
+/// Every channel of a paint that a transformation meets, and alphas too: a ramp from nothing to one colour, under scales
+/// and biases of every kind.
+#[test]
+fn transformations() {
+    for seed in 85_000_000..85_000_000 + 400 * rounds() {
+        let mut random = Random::new(seed);
+        let mut scene = scene::Scene::new(256, 1, [9, 8, 7, 255]);
+        scene.edition = 1;
+        let stop = |offset, color| scene::Stop { offset, color };
+        let end = [0, 1, 2, 3].map(|_| random.unit());
+        scene.draws.push(scene::Draw {
+            transformed: true,
+            transformation: transforms::transformation(&mut random),
+            blend: scene::Blend::Src,
+            paint: random.pick(&[scene::PaintType::Linear, scene::PaintType::Radial, scene::PaintType::Color]),
+            premultiplied_ramp: random.once_in(2),
+            linear: [0.0, 0.0, 256.0, 0.0],
+            radial: [0.0, 0.0, 0.0, 0.0, 256.0],
+            color: end,
+            stops: vec![stop(0.0, [end[2], end[0], end[1], 0.0]), stop(1.0, end)],
+            path: scene::Path::new().rectangle(0, 0, 256, 1),
+            ..scene::Draw::default()
+        });
+        let buffers = Buffers::rubbish(&mut random, scene.surface_bytes(), SCRATCH_NUMBERS);
+        let (answer, _) = compare(&format!("seed {seed}"), Call::Draw(&scene.bytes()), &buffers);
+        assert_eq!(answer.code, 0);
+    }
+}
+
+/// From day to night and back: the editions differ, so every draw is changed. The same paths are drawn in both.
+#[test]
+fn redraws_between_editions() {
+    for seed in 87_000_000..87_000_000 + 1_500 * rounds() {
+        let mut random = Random::new(seed);
+        let mut day = scene::Scene { edition: 0, ..scenes::scene(&mut random, 24, 6) };
+        day.draws.iter_mut().for_each(|draw| draw.transformed = false);
+        let mut night = scene::Scene { edition: 1, ..day.clone() };
+        for draw in &mut night.draws {
+            draw.transformed = !random.once_in(3);
+            draw.transformation = transforms::transformation(&mut random);
+        }
+        let name = format!("seed {seed}");
+        let rubbish = Buffers::masked(&mut random, day.width, day.height);
+        for (old, new) in [(&day, &night), (&night, &day)] {
+            let (old, new) = (old.bytes(), new.bytes());
+            let (answer, drawn) = compare(&name, Call::Draw(&old), &rubbish);
+            if answer.code == 0 {
+                let (_, redrawn) = compare(&name, Call::Redraw(&old, &new), &drawn);
+                let (_, full) = compare(&name, Call::Draw(&new), &rubbish);
+                assert!(redrawn.surface == full.surface, "{name}: the redraw is not the full drawing");
+            }
+        }
+    }
 }
 
 /// Redraws over rubbish, with buffers of any length: outside the area nothing is written.

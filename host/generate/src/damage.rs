@@ -43,7 +43,7 @@ fn spoil_header(random: &mut Random, bytes: &mut [u8]) {
     match random.range(0, 3) {
         0 => put(bytes, random.pick(&[0, 2]), &random.pick(&[0_u16, 1, 1_024, 1_025, 65_535]).to_le_bytes()),
         1 => put(bytes, 4, &random.pick(&[0_u16, 1, 2, 64, 65, 256]).to_le_bytes()),
-        2 => put(bytes, 6, &[random.byte()]),
+        2 => put(bytes, 6, &random.pick(&[0_u16, 1, 1, 2, 256, 65_535]).to_le_bytes()),
         _ => put(bytes, random.range(8, 507) as usize, &[random.byte()]),
     }
 }
@@ -56,10 +56,10 @@ fn spoil_draw(random: &mut Random, bytes: &mut [u8]) {
     let draw = random.index(draws);
     let count = |bytes: &[u8], place| usize::from(bytes[file_offset(draw, place)]);
     let mut put_in_draw = |place: usize, value: &[u8]| put(bytes, file_offset(draw, place), value);
-    match random.range(0, 12) {
+    match random.range(0, 13) {
         0 => {
             let place = random.pick(&[0, 2, 4, 6]);
-            put_in_draw(place, &[random.byte() & 15]);
+            put_in_draw(place, &[random.byte() & 31]);
         }
         1 => {
             let place = random.range(0, 7) as usize;
@@ -92,6 +92,8 @@ fn spoil_draw(random: &mut Random, bytes: &mut [u8]) {
             let value = random.pick(&[0, 1, -1, i16::MAX, i16::MIN, any]);
             put_in_draw(place, &value.to_le_bytes());
         }
+        // The transformation of edition 1, which in edition 0 is sixteen coordinates.
+        12 => put_in_draw(900 + 4 * random.index(8), &special_float(random).to_le_bytes()),
         // A matrix that is flat, or that becomes so with another such change.
         11 => {
             let (place, length) = random.pick(&[(12, 4), (24, 4), (12, 16)]);

@@ -5,6 +5,7 @@
 //! - [`masks`]: random masks for them.
 //! - [`places`]: blocks of a sound file out of place.
 //! - [`rules`]: both sides of every rule, with the answer that the paper gives.
+//! - [`transforms`]: random colour transformations for scenes of edition 1.
 //! - [`steps`]: calls of the blending step alone, on any bytes.
 #![forbid(unsafe_code)]
 
@@ -17,5 +18,6 @@ pub mod random;
 pub mod rules;
 pub mod scenes;
 pub mod steps;
+pub mod transforms;
 
 pub use random::Random;

@@ -95,10 +95,10 @@ fn tiny(random: &mut Random) -> f32 {
     random.float(-1.0, 1.0) * random.pick(&[2e-2, 1e-3, 1e-4, 1.6e-5, 7.6e-6, 1e-9, 1e-40])
 }
 
-/// A path of about this many segments with coordinates within `reach`, from all segment types.
+/// A path of about this many segments with coordinates within `reach`, from all segment types, for either edition.
 pub fn path(random: &mut Random, segments: usize, reach: i32) -> Path {
     let mut pen = Pen { path: Path::new(), reach, start: (0, 0), current: (0, 0), control: (0, 0) };
-    while pen.path.segments.len() < segments && pen.path.coordinates.len() + 6 <= 566 {
+    while pen.path.segments.len() < segments && pen.path.coordinates.len() + 6 <= 550 {
         pen.segment(random);
     }
     pen.path

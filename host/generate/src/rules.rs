@@ -1,9 +1,13 @@
 //! Both sides of every scene rule, and every two faults together, with what the paper's order makes of them.
 
+mod edition;
 mod radial;
 
 use scene::path::{CUBIC, HORIZONTAL, LINE, MOVE, QUAD, RELATIVE, SMOOTH_CUBIC, SMOOTH_QUAD, VERTICAL};
-use scene::{file_offset, seal, seal_block_from, Draw, PaintType, Path, Scene, Scissor, Stop, BLOCK};
+use scene::{
+    file_offset, first_coordinate, seal, seal_block_from, Draw, PaintType, Path, Scene, Scissor, Stop, BLOCK,
+    DRAW_BYTES,
+};
 
 use crate::places;
 
@@ -29,8 +33,9 @@ const ILLEGAL: u32 = 0x1001;
 const ARC: u32 = 0x1005;
 const NO_DRAW: u32 = 64;
 
-/// The flag that asks for a mask.
+/// The flags that ask for a mask, and for the transformation.
 const MASK_BIT: u16 = 3;
+const TRANSFORM_BIT: u16 = 4;
 
 /// The draw that the cases of draw rules are about: not the first, so that its number counts.
 const DRAW: usize = 1;
@@ -90,9 +95,9 @@ const MATRICES: [([f32; 4], bool); 25] = {
     ]
 };
 
-/// All cases, judged where a mask is lent, or none.
-pub fn cases(mask_lent: bool) -> Vec<Case> {
-    let mut cases = Cases { mask_lent, list: Vec::new() };
+/// All cases in an edition, 0 or 1, judged where a mask is lent, or none.
+pub fn cases(mask_lent: bool, edition: u16) -> Vec<Case> {
+    let mut cases = Cases { mask_lent, edition, list: Vec::new() };
     cases.lengths();
     cases.checks();
     cases.places();
@@ -103,6 +108,7 @@ pub fn cases(mask_lent: bool) -> Vec<Case> {
     cases.scissors();
     cases.stops();
     cases.radial();
+    cases.editions();
     cases.flat_matrices();
     cases.segment_bytes();
     cases.coordinate_counts();
@@ -114,23 +120,28 @@ pub fn cases(mask_lent: bool) -> Vec<Case> {
 }
 
 /// A scene of two draws that is accepted.
-fn common() -> Scene {
+fn common(edition: u16) -> Scene {
     let square = Path::new().rectangle(1, 1, 3, 3);
     let draw = Draw { color: [1.0, 0.5, 0.25, 0.75], path: square, ..Draw::default() };
-    let mut scene = Scene::new(5, 4, [10, 20, 30, 255]);
+    let mut scene = Scene { edition, ..Scene::new(5, 4, [10, 20, 30, 255]) };
     scene.draws = vec![draw; DRAWS];
     scene
 }
 
 /// The common scene with another draw in the place of the one that is tried.
-fn with_draw(draw: Draw) -> Scene {
-    let mut scene = common();
+fn with_draw(edition: u16, draw: Draw) -> Scene {
+    let mut scene = common(edition);
     scene.draws[DRAW] = draw;
     scene
 }
 
-fn with_path(path: Path) -> Scene {
-    with_draw(Draw { path, ..Draw::default() })
+fn with_path(edition: u16, path: Path) -> Scene {
+    with_draw(edition, Draw { path, ..Draw::default() })
+}
+
+/// How many coordinates a draw has places for.
+fn most_coordinates(edition: u16) -> usize {
+    (DRAW_BYTES - first_coordinate(edition)) / 2
 }
 
 /// The fault of a block whose check is wrong.
@@ -167,6 +178,7 @@ fn put_in_draw(bytes: &mut [u8], place: usize, value: &[u8]) {
 
 struct Cases {
     mask_lent: bool,
+    edition: u16,
     list: Vec<Case>,
 }
 
@@ -184,7 +196,7 @@ impl Cases {
     }
 
     fn lengths(&mut self) {
-        let bytes = common().bytes();
+        let bytes = common(self.edition).bytes();
         let right = bytes.len();
         for length in [0, 1, 2, 511, 512, 513, 1_024, right - 2_048, right - 512, right - 1] {
             self.add(format!("first {length} bytes"), bytes[..length].to_vec(), in_no_draw(BAD_LENGTH, 0));
@@ -197,7 +209,7 @@ impl Cases {
     }
 
     fn checks(&mut self) {
-        let bytes = common().bytes();
+        let bytes = common(self.edition).bytes();
         for block in 0..1 + 4 * DRAWS {
             let fault = Some(wrong_check(block));
             for at in [0, 1, 100, 506, 507, 508, 509, 510, 511] {
@@ -227,8 +239,8 @@ impl Cases {
 
     /// Blocks out of their places, and checks whose sums begin at 0: only block 0's does.
     fn places(&mut self) {
-        self.list.extend(places::cases(&common().bytes()));
-        let mut bare = Scene::new(5, 4, [10, 20, 30, 255]).bytes();
+        self.list.extend(places::cases(&common(self.edition).bytes()));
+        let mut bare = Scene { draws: Vec::new(), ..common(self.edition) }.bytes();
         seal_block_from(&mut bare, 0, 0);
         self.add("no draws, the sums of block 0 from 0", bare, None);
     }
@@ -236,35 +248,33 @@ impl Cases {
     fn header(&mut self) {
         for at in [0, 2] {
             for side in [0_u16, 1, 2, 1_023, 1_024, 1_025, 2_048, 32_768, 65_535] {
-                let mut scene = common();
+                let mut scene = common(self.edition);
                 (scene.width, scene.height) = if at == 0 { (side, 4) } else { (5, side) };
                 let fault = unless((1..=1_024).contains(&side), in_no_draw(ILLEGAL, at));
                 self.add(format!("side {side} at {at}"), scene.bytes(), fault);
             }
         }
         for draws in [0_usize, 1, 63, 64, 65, 66] {
-            let mut scene = common();
+            let mut scene = common(self.edition);
             scene.draws = vec![Draw::default(); draws];
             self.add(format!("{draws} draws"), scene.bytes(), unless(draws <= 64, in_no_draw(ILLEGAL, 4)));
         }
         for (count, code) in [(1_u16, BAD_LENGTH), (3, BAD_LENGTH), (64, BAD_LENGTH), (65, ILLEGAL), (65_535, ILLEGAL)]
         {
-            let mut bytes = common().bytes();
+            let mut bytes = common(self.edition).bytes();
             bytes[4..6].copy_from_slice(&count.to_le_bytes());
             seal(&mut bytes);
             let offset = if code == ILLEGAL { 4 } else { 0 };
             self.add(format!("a count of {count} with {DRAWS} draws"), bytes, in_no_draw(code, offset));
         }
-        for at in (6..8).chain(12..508) {
-            let mut bytes = common().bytes();
+        for at in 12..508 {
+            let mut bytes = common(self.edition).bytes();
             bytes[at] = 0x80;
             seal(&mut bytes);
-            // The fourth number is one field, whichever of its bytes is set.
-            let offset = if at < 8 { 6 } else { at };
-            self.add(format!("byte {at} of block 0"), bytes, in_no_draw(ILLEGAL, offset));
+            self.add(format!("byte {at} of block 0"), bytes, in_no_draw(ILLEGAL, at));
         }
         for background in [[0, 0, 0, 0], [255, 255, 255, 255], [255, 0, 255, 1]] {
-            let scene = Scene { background, ..common() };
+            let scene = Scene { background, ..common(self.edition) };
             self.add(format!("background {background:?}"), scene.bytes(), None);
         }
     }
@@ -272,22 +282,34 @@ impl Cases {
     /// Flags, blend mode, paint type and spread.
     fn numbers(&mut self) {
         for bit in 0..16 {
-            let allowed = bit <= 2 || bit == MASK_BIT && self.mask_lent;
+            let allowed = bit <= 2 || bit == MASK_BIT && self.mask_lent || bit == TRANSFORM_BIT && self.edition == 1;
             let flags = 1_u16 << bit;
-            self.with_bytes(format!("flag bit {bit}"), &common(), 0, &flags.to_le_bytes(), unless(allowed, illegal(0)));
+            self.with_bytes(
+                format!("flag bit {bit}"),
+                &common(self.edition),
+                0,
+                &flags.to_le_bytes(),
+                unless(allowed, illegal(0)),
+            );
         }
         let ranges = [(2, 0x2000_u16, 0x2004_u16), (4, 0x1B00, 0x1B02), (6, 0x1C00, 0x1C02)];
         for (place, first, last) in ranges {
             let near = (first - 3..=last + 3).chain([0, 1, 0xFF, first + 0x100, first - 0x100, 0xFFFF]);
             for number in near {
                 let fault = unless((first..=last).contains(&number), illegal(place));
-                self.with_bytes(format!("{number:04x} at {place}"), &common(), place, &number.to_le_bytes(), fault);
+                self.with_bytes(
+                    format!("{number:04x} at {place}"),
+                    &common(self.edition),
+                    place,
+                    &number.to_le_bytes(),
+                    fault,
+                );
             }
         }
     }
 
     fn counts(&mut self) {
-        let empty = with_draw(Draw::default());
+        let empty = with_draw(self.edition, Draw::default());
         for (place, most) in [(8, 128_u8), (9, 4), (10, 32), (11, 0)] {
             for count in [0, 1, most.saturating_sub(1), most, most + 1, most + 2, 255] {
                 let fault = unless(count <= most, illegal(place));
@@ -299,7 +321,7 @@ impl Cases {
     /// Matrix, colour and linear points, under every paint type.
     fn floats(&mut self) {
         for paint in PaintType::ALL {
-            let empty = with_draw(Draw { paint, ..Draw::default() });
+            let empty = with_draw(self.edition, Draw { paint, ..Draw::default() });
             for entry in 0..6 {
                 let limit = if entry < 4 { 256.0 } else { 32_768.0 };
                 self.finite(&empty, 12 + 4 * entry, limit);
@@ -343,7 +365,7 @@ impl Cases {
         let any = Scissor { x: i32::MIN, y: i32::MAX, width: -1, height: 7 };
         for count in 0..=4 {
             for scissoring in [false, true] {
-                let scene = with_draw(Draw { scissors: vec![any; count], scissoring, ..Draw::default() });
+                let scene = with_draw(self.edition, Draw { scissors: vec![any; count], scissoring, ..Draw::default() });
                 self.add(format!("{count} scissors, {scissoring}"), scene.bytes(), None);
                 for place in 68 + 16 * count..132 {
                     self.with_bytes(format!("{count} scissors, byte {place}"), &scene, place, &[0x80], illegal(place));
@@ -355,7 +377,7 @@ impl Cases {
     fn stops(&mut self) {
         let any = Stop { offset: f32::INFINITY, color: [-1.0, 2.0, f32::NEG_INFINITY, 0.5] };
         for count in [0, 1, 31, 32] {
-            let scene = with_draw(Draw { stops: vec![any; count], ..Draw::default() });
+            let scene = with_draw(self.edition, Draw { stops: vec![any; count], ..Draw::default() });
             self.add(format!("{count} stops"), scene.bytes(), None);
             for place in 132 + 20 * count..772 {
                 self.with_bytes(format!("{count} stops, byte {place}"), &scene, place, &[0x80], illegal(place));
@@ -371,7 +393,8 @@ impl Cases {
         for (linear, flat) in MATRICES {
             let [sx, shy, shx, sy] = linear;
             let matrix = [sx, shy, shx, sy, 1.0, 2.0];
-            let with = |path| with_draw(Draw { matrix, path, ..Draw::default() });
+            let edition = self.edition;
+            let with = |path| with_draw(edition, Draw { matrix, path, ..Draw::default() });
             let fault = unless(!flat, illegal(12));
             self.add(format!("{linear:?}, no segments"), with(Path::new()).bytes(), None);
             self.add(format!("{linear:?}, a lone close"), with(Path::new().close()).bytes(), fault);
@@ -396,7 +419,7 @@ impl Cases {
                 18..=25 => in_draw(ARC, 772 + 1),
                 _ => illegal(772 + 1),
             };
-            let scene = with_path(Path::new().move_to(0, 0).segment(byte, &[]));
+            let scene = with_path(self.edition, Path::new().move_to(0, 0).segment(byte, &[]));
             self.add(format!("segment byte {byte}"), scene.bytes(), fault);
         }
     }
@@ -406,7 +429,7 @@ impl Cases {
         for (byte, count) in TYPES {
             for left in 0..=count {
                 // Cubics and horizontal lines leave this many.
-                let taken = 566 - left;
+                let taken = most_coordinates(self.edition) - left;
                 let mut path = Path::new();
                 for _ in 0..taken / 6 {
                     path = path.segment(CUBIC, &[]);
@@ -415,10 +438,10 @@ impl Cases {
                     path = path.segment(HORIZONTAL, &[]);
                 }
                 let number = path.segments.len();
-                let scene = with_path(path.clone().segment(byte, &[]));
+                let scene = with_path(self.edition, path.clone().segment(byte, &[]));
                 let fault = unless(left == count, illegal(772 + number));
                 self.add(format!("segment {byte} with {left} coordinates left"), scene.bytes(), fault);
-                let scene = with_path(path.segment(18, &[]));
+                let scene = with_path(self.edition, path.segment(18, &[]));
                 self.add(format!("arc with {left} coordinates left"), scene.bytes(), in_draw(ARC, 772 + number));
             }
         }
@@ -434,7 +457,7 @@ impl Cases {
                         let mut coordinates = vec![-step; count];
                         coordinates[at] = if out { step } else { 0 };
                         let path = Path::new().move_to(start, start).segment(byte | RELATIVE, &coordinates);
-                        let scene = with_path(path);
+                        let scene = with_path(self.edition, path);
                         let name = format!("segment {byte} from {start}, coordinate {at}, out {out}");
                         self.add(name, scene.bytes(), unless(!out, illegal(772 + 1)));
                     }
@@ -449,7 +472,7 @@ impl Cases {
                         let (to, control) = if vertical { ((0, end), (0, inner)) } else { ((end, 0), (inner, 0)) };
                         let path = Path::new().quad_to(control, to).segment(byte, &vec![0; count]);
                         let name = format!("segment {byte} after {end}, vertical {vertical}");
-                        self.add(name, with_path(path).bytes(), unless(!out, illegal(772 + 1)));
+                        self.add(name, with_path(self.edition, path).bytes(), unless(!out, illegal(772 + 1)));
                     }
                 }
             }
@@ -469,7 +492,7 @@ impl Cases {
                         coordinates[at] = far;
                         let path = Path::new().line_to(0, 0).segment(byte, &coordinates);
                         let matrix = [256.0, 0.0, 0.0, 256.0, translation, translation];
-                        let scene = with_draw(Draw { matrix, path, ..Draw::default() });
+                        let scene = with_draw(self.edition, Draw { matrix, path, ..Draw::default() });
                         let name = format!("segment {byte}, coordinate {at} at {far} moved by {units} of 65,536");
                         self.add(name, scene.bytes(), unless(allowed, illegal(772 + 1)));
                     }
@@ -478,7 +501,7 @@ impl Cases {
                     // The quad ends at 0, so its control is reflected to the far point.
                     let path = Path::new().quad_to((-far, -far), (0, 0)).segment(byte, &vec![0; count]);
                     let matrix = [256.0, 0.0, 0.0, 256.0, translation, translation];
-                    let scene = with_draw(Draw { matrix, path, ..Draw::default() });
+                    let scene = with_draw(self.edition, Draw { matrix, path, ..Draw::default() });
                     let name = format!("segment {byte} reflected at {far} moved by {units} of 65,536");
                     self.add(name, scene.bytes(), unless(allowed, illegal(772 + 1)));
                 }
@@ -488,12 +511,12 @@ impl Cases {
 
     /// Every byte past the last segment and past the last coordinate.
     fn unused_path(&mut self) {
-        for (count, scene) in [(0, with_path(Path::new())), (5, common())] {
+        for (count, scene) in [(0, with_path(self.edition, Path::new())), (5, common(self.edition))] {
             for place in 772 + count..900 {
                 self.with_bytes(format!("{count} segments, byte {place}"), &scene, place, &[1], illegal(place));
             }
             // A rectangle of five segments takes five coordinates.
-            for place in 900 + 2 * count..2_032 {
+            for place in first_coordinate(self.edition) + 2 * count..DRAW_BYTES {
                 self.with_bytes(format!("{count} coordinates, byte {place}"), &scene, place, &[1], illegal(place));
             }
         }
@@ -501,10 +524,10 @@ impl Cases {
 
     /// Every two of a list of faults in the paper's order: the earlier one is met.
     fn order(&mut self) {
-        let faults = ordered_faults(self.mask_lent);
+        let faults = ordered_faults(self.mask_lent, self.edition);
         for (i, first) in faults.iter().enumerate() {
             for second in faults[i + 1..].iter().filter(|edit| edit.at != first.at) {
-                let mut bytes = scene_for_order().bytes();
+                let mut bytes = scene_for_order(self.edition).bytes();
                 for edit in [first, second] {
                     bytes[edit.at..edit.at + edit.value.len()].copy_from_slice(&edit.value);
                 }
@@ -521,8 +544,8 @@ impl Cases {
 }
 
 /// A scene with a scissor, a stop and a path in each of two draws, for the faults below.
-fn scene_for_order() -> Scene {
-    let mut scene = common();
+fn scene_for_order(edition: u16) -> Scene {
+    let mut scene = common(edition);
     for draw in &mut scene.draws {
         draw.scissors = vec![Scissor::default()];
         draw.stops = vec![Stop { offset: 0.5, color: [1.0; 4] }];
@@ -540,9 +563,14 @@ struct Edit {
     fault: Fault,
 }
 
-/// Faults in the order in which the rules meet them. Where no mask is lent, that of the flags is a draw that asks for it.
-fn ordered_faults(mask_lent: bool) -> Vec<Edit> {
-    let flags = if mask_lent { 1 << 7 } else { 1 << MASK_BIT };
+/// Faults in the order in which the rules meet them. That of the flags is a draw that asks for a mask where none is lent, or
+/// for a transformation where the edition has none.
+fn ordered_faults(mask_lent: bool, edition: u16) -> Vec<Edit> {
+    let flags = match (mask_lent, edition) {
+        (false, _) => 1 << MASK_BIT,
+        (true, 0) => 1 << TRANSFORM_BIT,
+        (true, _) => 1 << 7,
+    };
     let mut edits = Vec::new();
     let spoil_check = |edits: &mut Vec<Edit>, block: usize| {
         let fault = wrong_check(block);
@@ -558,7 +586,7 @@ fn ordered_faults(mask_lent: bool) -> Vec<Edit> {
     in_header(2, &[1, 4], ILLEGAL, 2);
     // A count that is too large comes with the fields, one that is only wrong after all of them.
     in_header(4, &[65, 0], ILLEGAL, 4);
-    in_header(6, &[1], ILLEGAL, 6);
+    in_header(6, &[2], ILLEGAL, 6);
     in_header(12, &[1], ILLEGAL, 12);
     in_header(507, &[1], ILLEGAL, 507);
     in_header(4, &[1, 0], BAD_LENGTH, 0);
@@ -567,7 +595,7 @@ fn ordered_faults(mask_lent: bool) -> Vec<Edit> {
             spoil_check(&mut edits, 1 + 4 * draw + block);
         }
         let nan = f32::NAN.to_le_bytes();
-        let places: [(usize, &[u8], u32, usize); 28] = [
+        let before_path: [(usize, &[u8], u32, usize); 21] = [
             (0, &[flags], ILLEGAL, 0),
             (2, &[5], ILLEGAL, 2),
             (4, &[3], ILLEGAL, 4),
@@ -589,6 +617,9 @@ fn ordered_faults(mask_lent: bool) -> Vec<Edit> {
             (148, &nan, ILLEGAL, 148),
             (152, &[1], ILLEGAL, 152),
             (771, &[1], ILLEGAL, 771),
+        ];
+        let transformation: [(usize, &[u8], u32, usize); 2] = [(900, &nan, ILLEGAL, 900), (928, &nan, ILLEGAL, 928)];
+        let path: [(usize, &[u8], u32, usize); 7] = [
             // sy is 0, so the matrix is flat.
             (24, &[0; 4], ILLEGAL, 12),
             (773, &[18], ARC, 773),
@@ -598,7 +629,8 @@ fn ordered_faults(mask_lent: bool) -> Vec<Edit> {
             (899, &[1], ILLEGAL, 899),
             (2_031, &[1], ILLEGAL, 2_031),
         ];
-        for (place, value, code, met) in places {
+        let transformation = if edition == 1 { &transformation[..] } else { &[] };
+        for (place, value, code, met) in before_path.iter().chain(transformation).chain(&path).copied() {
             let fault = Fault { code, draw: draw as u32, offset: file_offset(draw, met) };
             let name = format!("draw {draw} at {place}");
             let at = file_offset(draw, place);

@@ -1,30 +1,34 @@
 //! Random scenes, most of them accepted, and pairs of them for a redraw.
 
-use scene::{Blend, Draw, FillRule, PaintType, Scene, Scissor, Spread, Stop};
+use scene::{Blend, Draw, FillRule, PaintType, Scene, Scissor, Spread, Stop, IDENTITY};
 
 use crate::paths::{frame, path};
 use crate::radial::radial;
+use crate::transforms::transformation;
 use crate::Random;
 
 /// A scene of up to `side` pixels each way and up to `draws` draws.
 pub fn scene(random: &mut Random, side: i32, draws: i32) -> Scene {
     let width = side_of(random, side);
     let height = side_of(random, side);
-    let mut scene = Scene::new(width, height, background(random));
-    for _ in 0..random.range(0, draws) {
-        scene.draws.push(draw(random, width, height));
-    }
-    ask_for_mask(random, &mut scene);
-    scene
+    let draws = random.range(0, draws);
+    sized_scene(random, width, height, draws)
 }
 
-/// Lets some of the draws ask for a mask, in every second scene.
-pub fn ask_for_mask(random: &mut Random, scene: &mut Scene) {
-    if random.once_in(2) {
-        for draw in &mut scene.draws {
-            draw.masked = random.once_in(2);
+/// A scene of this size with so many draws: of either edition, and every second one with draws that ask for a mask.
+pub fn sized_scene(random: &mut Random, width: u16, height: u16, draws: i32) -> Scene {
+    let mut scene = Scene::new(width, height, background(random));
+    scene.draws = (0..draws).map(|_| draw(random, width, height)).collect();
+    scene.edition = random.range(0, 1) as u16;
+    let asking = random.once_in(2);
+    for draw in &mut scene.draws {
+        draw.masked = asking && random.once_in(2);
+        if scene.edition == 1 {
+            draw.transformed = random.once_in(2);
+            draw.transformation = transformation(random);
         }
     }
+    scene
 }
 
 fn side_of(random: &mut Random, side: i32) -> u16 {
@@ -38,7 +42,7 @@ fn background(random: &mut Random) -> [u8; 4] {
     [random.byte(), random.byte(), random.byte(), alpha]
 }
 
-/// A draw on a surface of this size, without a mask.
+/// A draw on a surface of this size, without a mask and with its transformation off.
 pub fn draw(random: &mut Random, width: u16, height: u16) -> Draw {
     let frame = frame(random, width, height);
     let segments = match random.range(0, 19) {
@@ -53,6 +57,7 @@ pub fn draw(random: &mut Random, width: u16, height: u16) -> Draw {
         scissoring: random.once_in(4),
         premultiplied_ramp: random.once_in(2),
         masked: false,
+        transformed: false,
         blend: random.pick(&Blend::ALL),
         paint,
         spread: random.pick(&Spread::ALL),
@@ -62,6 +67,7 @@ pub fn draw(random: &mut Random, width: u16, height: u16) -> Draw {
         radial: radial(random, width, height),
         scissors: (0..random.range(0, 4)).map(|_| scissor(random, width, height)).collect(),
         stops: stops(random, if paint == PaintType::Radial { 31 } else { 32 }),
+        transformation: IDENTITY,
         path: path(random, segments as usize, frame.reach),
     }
 }
@@ -167,6 +173,11 @@ pub fn next_scene(random: &mut Random, old: &Scene) -> Scene {
     if random.once_in(12) {
         new.background = background(random);
     }
+    // The other edition, with every transformation off.
+    if random.once_in(12) {
+        new.edition = 1 - new.edition;
+        new.draws.iter_mut().for_each(|draw| draw.transformed = false);
+    }
     new
 }
 
@@ -178,7 +189,7 @@ fn change(random: &mut Random, scene: &mut Scene) {
     }
     let at = random.index(scene.draws.len());
     let changed = &mut scene.draws[at];
-    match random.range(0, 9) {
+    match random.range(0, 11) {
         0 => *changed = draw(random, width, height),
         // A needle that moves.
         1 | 2 => {
@@ -194,10 +205,13 @@ fn change(random: &mut Random, scene: &mut Scene) {
         // Other bytes that draw the same.
         5 => changed.matrix = changed.matrix.map(|v| if v == 0.0 { -v } else { v }),
         6 => changed.masked = !changed.masked,
-        7 => {
+        // Day and night; in edition 0 there is neither.
+        7 => changed.transformed = scene.edition == 1 && !changed.transformed,
+        8 => changed.transformation = transformation(random),
+        9 => {
             scene.draws.remove(at);
         }
-        8 if scene.draws.len() < 64 => scene.draws.insert(at, draw(random, width, height)),
+        10 if scene.draws.len() < 64 => scene.draws.insert(at, draw(random, width, height)),
         _ => {
             scene.draws.pop();
         }

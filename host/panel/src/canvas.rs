@@ -1,6 +1,6 @@
-//! The panel's draws: shapes and paints in panel pixels, brought onto a surface of some scale.
+//! The panel's draws: shapes and paints in panel pixels, brought onto a surface of some scale, by day or at night.
 
-use scene::{Draw, PaintType, Scene, Stop};
+use scene::{Draw, PaintType, Scene, Stop, IDENTITY};
 
 use crate::font;
 use crate::shape::{self, Point, Shape};
@@ -60,18 +60,56 @@ pub fn light_angle() -> f64 {
     LIGHT.1.atan2(LIGHT.0).to_degrees()
 }
 
+/// What is dimmed alike at night.
+#[derive(Clone, Copy, Debug, PartialEq, Eq)]
+pub enum Part {
+    /// What only holds the instruments.
+    Housing,
+    /// Marks, figures, words and needles.
+    Print,
+    /// What tells by its colour: lamps and bars.
+    Lamp,
+    /// Doorways and leaves, large and bright by day.
+    Door,
+}
+
+impl Part {
+    /// What is left of red, green and blue at night, as a transformation.
+    fn at_night(self) -> [f32; 8] {
+        let [r, g, b] = match self {
+            Part::Housing => [0.34, 0.3, 0.3],
+            Part::Print => [0.88, 0.48, 0.3],
+            Part::Lamp => [0.8, 0.7, 0.7],
+            Part::Door => [0.66, 0.46, 0.34],
+        };
+        [r, g, b, 1.0, 0.0, 0.0, 0.0, 0.0]
+    }
+}
+
 /// A scene in the making.
 pub struct Canvas {
     scale: f64,
     scene: Scene,
+    part: Part,
     masked: bool,
 }
 
+/// The edition of scenes by day, and the one that has transformations.
+const DAY: u16 = 0;
+const NIGHT: u16 = 1;
+
 impl Canvas {
     /// A canvas of this size in panel pixels, at a scale.
-    pub fn new(width: f64, height: f64, scale: f64, background: Color) -> Canvas {
+    pub fn new((width, height): Point, scale: f64, background: Color, night: bool) -> Canvas {
         let side = |pixels: f64| (pixels * scale).round() as u16;
-        Canvas { scale, scene: Scene::new(side(width), side(height), background.to_be_bytes()), masked: false }
+        let mut scene = Scene::new(side(width), side(height), background.to_be_bytes());
+        scene.edition = if night { NIGHT } else { DAY };
+        Canvas { scale, scene, part: Part::Housing, masked: false }
+    }
+
+    /// What is filled from here on.
+    pub fn set_part(&mut self, part: Part) {
+        self.part = part;
     }
 
     /// Whether what is filled from here on asks for the mask.
@@ -97,6 +135,8 @@ impl Canvas {
             fill_rule: shape.fill_rule,
             premultiplied_ramp: true,
             masked: self.masked,
+            transformed: self.scene.edition == NIGHT,
+            transformation: if self.scene.edition == NIGHT { self.part.at_night() } else { IDENTITY },
             matrix: matrix.map(|v| v as f32),
             path: shape.path,
             ..self.painted(paint)

@@ -22,7 +22,7 @@ pub use bezel::mask;
 pub use doors::Door;
 pub use lamps::Light;
 
-use canvas::{Canvas, Color, Paint, Stops};
+use canvas::{Canvas, Color, Paint, Part, Stops};
 use scene::Scene;
 use shape::Shape;
 
@@ -52,6 +52,8 @@ pub struct Readings {
     /// 0 to 1.
     pub coolant: f64,
     pub trip: Trip,
+    /// Whether it is dark, so that the panel dims.
+    pub night: bool,
 }
 
 /// What the display says in words.
@@ -82,6 +84,7 @@ impl Default for Readings {
             fuel: 0.7,
             coolant: 0.5,
             trip: Trip { line: "42", next_stop: "CITY HALL", time: "14:30", outside: "21°C" },
+            night: false,
         }
     }
 }
@@ -92,11 +95,18 @@ impl Readings {
         let [front, _, rear] = self.doors;
         Readings { speed: self.speed / 2.0, doors: [front, Door::Moving, rear], ..self.clone() }
     }
+
+    /// The same at night.
+    pub fn at_night(&self) -> Readings {
+        let trip = Trip { time: "22:45", outside: "9°C", ..self.trip.clone() };
+        Readings { night: true, trip, ..self.clone() }
+    }
 }
 
-/// The panel at a scale of at most 1, which is 1,024 by 600 pixels. Wide light asks for the mask.
+/// The panel at a scale of at most 1, which is 1,024 by 600 pixels. Wide light asks for the mask. At night the scene has
+/// the edition with transformations.
 pub fn panel(readings: &Readings, scale: f64, light: Light) -> Scene {
-    let mut canvas = Canvas::new(WIDTH, HEIGHT, scale, BACKGROUND);
+    let mut canvas = Canvas::new((WIDTH, HEIGHT), scale, BACKGROUND, readings.night);
     board(&mut canvas);
     if light == Light::Wide {
         bezel::strip(&mut canvas);
@@ -116,8 +126,8 @@ pub fn panel(readings: &Readings, scale: f64, light: Light) -> Scene {
     canvas.scene()
 }
 
-/// The scene files of the folder scenes: the panel and its next frame, in full size and a quarter of it, and a pair with
-/// wide light, under the mask, of which the second has its turn signal dark.
+/// The scene files of the folder scenes: the panel and its next frame, in full size and a quarter of it; a pair with wide
+/// light, under the mask, of which the second has its turn signal dark; and the panel at night.
 pub fn files() -> Vec<(&'static str, Scene)> {
     let now = Readings::default();
     let next = now.next();
@@ -129,6 +139,7 @@ pub fn files() -> Vec<(&'static str, Scene)> {
         ("panel-small-next.scene", panel(&next, 0.25, Light::Near)),
         ("panel-soft.scene", panel(&now, 1.0, Light::Wide)),
         ("panel-soft-next.scene", panel(&dark, 1.0, Light::Wide)),
+        ("panel-night.scene", panel(&now.at_night(), 1.0, Light::Near)),
     ]
 }
 
@@ -144,6 +155,7 @@ const BOARD_STOPS: Stops = &[(0.0, 0x343A43FF), (0.5, 0x1B1F25FF), (1.0, 0x0D0F1
 
 /// The board that holds the instruments.
 fn board(canvas: &mut Canvas) {
+    canvas.set_part(Part::Housing);
     let (width, height) = (WIDTH - 2.0 * BOARD_MARGIN, HEIGHT - 2.0 * BOARD_MARGIN);
     let board = Shape::new().rounded_rectangle(BOARD_MARGIN, BOARD_MARGIN, width, height, BOARD_CORNER);
     canvas.fill(board, Paint::rows(HEIGHT, 0.0, BOARD_STOPS));

@@ -110,3 +110,15 @@ fn wide_light_asks_for_the_mask() {
         assert_eq!((fault.code, fault.draw as usize, fault.offset), (0x1001, first, scene::file_offset(first, 0)));
     }
 }
+
+/// From day to night every draw is changed: all but a margin round the board and the dials' shadows is redrawn.
+#[test]
+fn the_redraw_into_the_night() {
+    let day = Readings::default();
+    let night = Readings { night: true, ..day.clone() };
+    let [day, night] = [day, night].map(|readings| panel::panel(&readings, 0.25, Light::Near));
+    let mut surface = picture(&day, None);
+    let answer = reference::redraw(&day.bytes(), &night.bytes(), None, &mut surface, &mut vec![0; SCRATCH_NUMBERS]);
+    assert_eq!([answer.code, answer.x, answer.y, answer.width, answer.height], [0, 1, 2, 255, 147]);
+    assert!(surface == picture(&night, None));
+}

@@ -1,4 +1,4 @@
-//! The panel for other readings than the files': within the format's limits, and told apart without colours.
+//! The panel for other readings than the files': within the format's limits, told apart without colours, and read at night.
 
 use panel::{panel, Door, Light, Readings};
 use reference::{rules, Rectangle};
@@ -11,7 +11,7 @@ const MOST_STOPS: usize = 31;
 const SCALES: [f64; 2] = [1.0, 0.25];
 const LIGHTS: [Light; 2] = [Light::Near, Light::Wide];
 
-/// Readings from one end of every scale to the other, with all lamps off and on.
+/// Readings from one end of every scale to the other, with all lamps off and on, by day and at night.
 fn sweep() -> impl Iterator<Item = Readings> {
     (0..=25).map(|i| {
         let (share, on) = (f64::from(i) / 25.0, i % 2 == 1);
@@ -30,6 +30,7 @@ fn sweep() -> impl Iterator<Item = Readings> {
             engine: !on,
             fuel: share,
             coolant: 1.0 - share,
+            night: i % 4 > 1,
             ..Readings::default()
         }
     })
@@ -76,6 +77,8 @@ type Part = [f64; 4];
 const BRAKE_DIAL: Part = [616.0, 91.0, 388.0, 388.0];
 const SECOND_DOOR: Part = [482.0, 210.0, 60.0, 122.0];
 const GREAT_LAMPS: Part = [400.0, 362.0, 224.0, 98.0];
+const SPEED_FIGURES: Part = [158.0, 156.0, 112.0, 58.0];
+const WHOLE: Part = [0.0, 0.0, panel::WIDTH, panel::HEIGHT];
 
 /// The pixels of a part of a scene's picture.
 fn picture(scene: &Scene, part: Part, scale: f64) -> Vec<u8> {
@@ -88,7 +91,7 @@ fn picture(scene: &Scene, part: Part, scale: f64) -> Vec<u8> {
 
 /// A scene with nothing but the draws that differ from another's, white on black: shapes without their colours.
 fn silhouette(scene: &Scene, other: &Scene) -> Scene {
-    let pairs = scene.draws.iter().zip(&other.draws).filter(|(draw, other)| draw.bytes() != other.bytes());
+    let pairs = scene.draws.iter().zip(&other.draws).filter(|(draw, other)| draw.bytes(0) != other.bytes(0));
     let white = |draw: &Draw| Draw { paint: PaintType::Color, color: [1.0; 4], stops: Vec::new(), ..draw.clone() };
     Scene { draws: pairs.map(|(draw, _)| white(draw)).collect(), background: [0, 0, 0, 255], ..scene.clone() }
 }
@@ -144,12 +147,15 @@ fn the_circuits_are_told_by_shape() {
     assert!(count > 500, "{count}");
 }
 
-/// A stop that is requested, and a parking brake that is on.
+/// A stop that is requested, and a parking brake that is on, by day and at night.
 #[test]
 fn a_lit_lamp_is_told_from_a_dark_one() {
-    let off = Readings { stop_requested: false, parking_brake: false, ..Readings::default() };
-    let lit = [Readings { stop_requested: true, ..off.clone() }, Readings { parking_brake: true, ..off.clone() }];
-    for (scale, light) in forms() {
+    let day = Readings::default();
+    for (now, (scale, light)) in
+        [&day, &day.at_night()].into_iter().flat_map(|now| forms().map(move |form| (now, form)))
+    {
+        let off = Readings { stop_requested: false, parking_brake: false, ..now.clone() };
+        let lit = [Readings { stop_requested: true, ..off.clone() }, Readings { parking_brake: true, ..off.clone() }];
         let lamps = |readings: &Readings| picture(&panel(readings, scale, light), GREAT_LAMPS, scale);
         for readings in &lit {
             let count = told_apart(&lamps(&off), &lamps(readings));
@@ -158,14 +164,36 @@ fn a_lit_lamp_is_told_from_a_dark_one() {
     }
 }
 
+/// At night no pixel is brighter than by day, and the panel has less than half of its light.
+#[test]
+fn the_night_is_darker() {
+    let day = Readings::default();
+    let night = Readings { night: true, ..day.clone() };
+    let [day, night] = [day, night].map(|readings| picture(&panel(&readings, 0.25, Light::Near), WHOLE, 0.25));
+    // Rounding may make up for one step.
+    assert!(day.iter().zip(&night).all(|(&day, &night)| night <= day.saturating_add(1)));
+    let light = |picture: &[u8]| greys(picture).iter().sum::<u32>();
+    assert!(2 * light(&night) < light(&day), "{} of {}", light(&night), light(&day));
+}
+
+/// Speeds whose figures share no digit, in full size, where the figures have 40 rows: hundreds of pixels tell them apart.
+#[test]
+fn figures_are_read_at_night() {
+    let with = |speed| Readings { speed, ..Readings::default().at_night() };
+    let figures = |speed| picture(&panel(&with(speed), 1.0, Light::Near), SPEED_FIGURES, 1.0);
+    for (one, other) in [(4.0, 88.0), (17.0, 52.0), (60.0, 93.0)] {
+        let count = told_apart(&figures(one), &figures(other));
+        assert!(count > 300, "{one} and {other}: {count}");
+    }
+}
+
 /// Wide light changes no pixel on a bezel or outside, where the mask is 0, and fades towards it.
 #[test]
 fn wide_light_stays_within_the_bezels() {
     let scale = 0.25;
-    let whole = [0.0, 0.0, panel::WIDTH, panel::HEIGHT];
     let with = |on: bool| {
         let lamps = Readings { stop_requested: on, parking_brake: on, left_turn: on, ..Readings::default() };
-        picture(&panel(&lamps, scale, Light::Wide), whole, scale)
+        picture(&panel(&lamps, scale, Light::Wide), WHOLE, scale)
     };
     let (lit, dark, mask) = (with(true), with(false), panel::mask(scale));
     let differing = |least: u8, most: u8| {

@@ -1,4 +1,4 @@
-//! The scene file: blocks of 512 bytes with their checks, and where the fields lie.
+//! The scene file: blocks of 512 bytes with their checks, and where the fields lie in its two editions.
 
 use crate::number::u16_at;
 
@@ -15,7 +15,7 @@ pub mod header {
     pub const WIDTH: usize = 0;
     pub const HEIGHT: usize = 2;
     pub const DRAWS: usize = 4;
-    pub const ZERO: usize = 6;
+    pub const EDITION: usize = 6;
     pub const BACKGROUND: usize = 8;
     pub const ZEROS: usize = 12;
 }
@@ -44,8 +44,40 @@ pub mod draw {
     pub const MAX_RADIAL_STOPS: usize = MAX_STOPS - 1;
     pub const SEGMENTS: usize = 772;
     pub const MAX_SEGMENTS: usize = 128;
-    pub const COORDINATES: usize = 900;
-    pub const MAX_COORDINATES: usize = 566;
+    /// Behind the segments come the coordinates, in the new edition behind a colour transformation of eight floats.
+    pub const SEGMENTS_END: usize = SEGMENTS + MAX_SEGMENTS;
+    pub const TRANSFORM: usize = SEGMENTS_END;
+    pub const TRANSFORM_BYTES: usize = 32;
+}
+
+/// Which layout the draws of a file have.
+#[derive(Clone, Copy, Debug, PartialEq, Eq)]
+pub enum Edition {
+    Old,
+    New,
+}
+
+impl Edition {
+    pub fn from_number(number: u16) -> Option<Edition> {
+        match number {
+            0 => Some(Edition::Old),
+            1 => Some(Edition::New),
+            _ => None,
+        }
+    }
+
+    /// The place of the first coordinate.
+    pub fn coordinates(self) -> usize {
+        match self {
+            Edition::Old => draw::SEGMENTS_END,
+            Edition::New => draw::TRANSFORM + draw::TRANSFORM_BYTES,
+        }
+    }
+
+    /// How many coordinates there is room for.
+    pub fn max_coordinates(self) -> usize {
+        (DRAW_BYTES - self.coordinates()) / 2
+    }
 }
 
 /// The number of the first block of a draw.

@@ -91,7 +91,7 @@ impl<'a> Row<'a> {
         }
         match coverage(edges, draw.fill_rule, x, self.y) {
             0 => below,
-            k => composite(draw.blend, draw.paint.at(x, self.y), below, k, self.mask_byte(draw, x)),
+            k => composite(draw.blend, draw.source(x, self.y), below, k, self.mask_byte(draw, x)),
         }
     }
 

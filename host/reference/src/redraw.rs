@@ -30,7 +30,7 @@ pub fn redraw(old: &[u8], new: &[u8], mask: Option<&[u8]>, surface: &mut [u8], s
     Answer::accepted(damage)
 }
 
-/// The area to redraw between two scenes of one size; all zero where it is empty.
+/// The area to redraw between two scenes of one size; all zero where it is empty. Between editions every draw is changed.
 pub fn damage(old: &Scene, new: &Scene) -> Rectangle {
     if old.background != new.background {
         return whole(new);
@@ -38,7 +38,7 @@ pub fn damage(old: &Scene, new: &Scene) -> Rectangle {
     let count = old.draws.len().max(new.draws.len());
     let changed = (0..count)
         .map(|i| (old.draws.get(i), new.draws.get(i)))
-        .filter(|(o, n)| o.map(|draw| &draw.bytes) != n.map(|draw| &draw.bytes));
+        .filter(|(o, n)| old.edition != new.edition || o.map(|draw| &draw.bytes) != n.map(|draw| &draw.bytes));
     let boxes = changed.flat_map(|(o, n)| [o, n]).flatten().filter_map(|draw| bounds(draw, new.width, new.height));
     boxes.reduce(Bounds::join).map_or(Rectangle::default(), Bounds::rectangle)
 }

@@ -3,11 +3,12 @@
 use crate::answer::{Fault, BAD_CHECKSUM, BAD_LENGTH, ILLEGAL_ARGUMENT, NO_DRAW, UNSUPPORTED_PATH_FORMAT};
 use crate::blend::Blend;
 use crate::coverage::{FillRule, Scissor};
-use crate::file::{self, draw, header};
+use crate::file::{self, draw, header, Edition};
 use crate::number::{f32_at, i16_at, i32_at, u16_at};
-use crate::paint::{LinearGradient, Paint, Ramp, Spread, Stop};
+use crate::paint::{LinearGradient, Paint, Pixel, Ramp, Spread, Stop};
 use crate::path::{self, Edge, Matrix, SegmentFault};
 use crate::radial::RadialGradient;
+use crate::transform::ColorTransform;
 
 const MAX_SIDE: u16 = 1_024;
 const MAX_DRAWS: u16 = 64;
@@ -24,6 +25,7 @@ const FLAG_NON_ZERO: u16 = 1;
 const FLAG_SCISSORING: u16 = 2;
 const FLAG_PREMULTIPLIED: u16 = 4;
 const FLAG_MASKED: u16 = 8;
+const FLAG_TRANSFORMED: u16 = 16;
 
 /// An accepted scene.
 #[derive(Debug)]
@@ -32,6 +34,7 @@ pub struct Scene {
     pub height: u32,
     /// As given, not premultiplied.
     pub background: [u8; 4],
+    pub edition: Edition,
     pub draws: Vec<Draw>,
 }
 
@@ -58,7 +61,17 @@ pub struct Draw {
     pub masked: bool,
     pub blend: Blend,
     pub paint: Paint,
+    /// None with the transformation off.
+    pub transform: Option<ColorTransform>,
     pub edges: Vec<Edge>,
+}
+
+impl Draw {
+    /// The premultiplied bytes that are blended at a pixel.
+    pub fn source(&self, x: i64, y: i64) -> Pixel {
+        let paint = self.paint.at(x, y);
+        self.transform.map_or(paint, |transform| transform.at(paint))
+    }
 }
 
 /// A fault within a draw: its code, and its place in the joined payloads.
@@ -81,14 +94,17 @@ pub fn scene(bytes: &[u8], mask_lent: bool) -> Result<Scene, Fault> {
     if bytes.len() != file::length(header.draws) {
         return Err(fault(BAD_LENGTH, 0));
     }
-    let draws = (0..header.draws).map(|i| numbered_draw(bytes, i, mask_lent)).collect::<Result<_, _>>()?;
-    Ok(Scene { width: header.width, height: header.height, background: header.background, draws })
+    let rules = Rules { mask_lent, edition: header.edition };
+    let draws = (0..header.draws).map(|i| rules.numbered_draw(bytes, i)).collect::<Result<_, _>>()?;
+    let Header { width, height, background, edition, .. } = header;
+    Ok(Scene { width, height, background, edition, draws })
 }
 
 struct Header {
     width: u32,
     height: u32,
     draws: usize,
+    edition: Edition,
     background: [u8; 4],
 }
 
@@ -98,59 +114,126 @@ fn header(bytes: &[u8]) -> Result<Header, usize> {
     require((1..=MAX_SIDE).contains(&number(header::WIDTH)), header::WIDTH)?;
     require((1..=MAX_SIDE).contains(&number(header::HEIGHT)), header::HEIGHT)?;
     require(number(header::DRAWS) <= MAX_DRAWS, header::DRAWS)?;
-    require(number(header::ZERO) == 0, header::ZERO)?;
+    let edition = Edition::from_number(number(header::EDITION)).ok_or(header::EDITION)?;
     require_zeros(bytes, header::ZEROS, file::PAYLOAD)?;
     Ok(Header {
         width: number(header::WIDTH).into(),
         height: number(header::HEIGHT).into(),
         draws: number(header::DRAWS).into(),
+        edition,
         background: std::array::from_fn(|channel| bytes[header::BACKGROUND + channel]),
     })
 }
 
-/// The four checks of draw `index`, then the rules on its bytes.
-fn numbered_draw(bytes: &[u8], index: usize, mask_lent: bool) -> Result<Draw, Fault> {
-    let fault = |code, offset| Fault { code, draw: index as u32, offset };
-    for block in file::first_block(index)..file::first_block(index + 1) {
-        if !file::check_holds(bytes, block) {
-            return Err(fault(BAD_CHECKSUM, file::check_offset(block)));
-        }
-    }
-    draw(file::draw_bytes(bytes, index), mask_lent).map_err(|found| fault(found.code, file::offset(index, found.place)))
+/// What the rules of a draw depend on besides its bytes.
+#[derive(Clone, Copy, Debug)]
+pub struct Rules {
+    pub mask_lent: bool,
+    pub edition: Edition,
 }
 
-/// A draw from its joined payloads: fields to the end of the stops, a flat matrix, the path, unused segments and
-/// coordinates.
-pub fn draw(bytes: Vec<u8>, mask_lent: bool) -> Result<Draw, DrawFault> {
-    let illegal = |place| DrawFault { code: ILLEGAL_ARGUMENT, place };
-    let fields = fields(&bytes, mask_lent).map_err(illegal)?;
+impl Rules {
+    /// The four checks of draw `index`, then the rules on its bytes.
+    fn numbered_draw(&self, bytes: &[u8], index: usize) -> Result<Draw, Fault> {
+        let fault = |code, offset| Fault { code, draw: index as u32, offset };
+        for block in file::first_block(index)..file::first_block(index + 1) {
+            if !file::check_holds(bytes, block) {
+                return Err(fault(BAD_CHECKSUM, file::check_offset(block)));
+            }
+        }
+        self.draw(file::draw_bytes(bytes, index)).map_err(|found| fault(found.code, file::offset(index, found.place)))
+    }
 
-    require(fields.segments == 0 || !fields.matrix.is_flat(), draw::MATRIX).map_err(illegal)?;
+    /// A draw from its joined payloads: fields to the end of the stops and the transformation, a flat matrix, the path,
+    /// unused segments and coordinates.
+    pub fn draw(&self, bytes: Vec<u8>) -> Result<Draw, DrawFault> {
+        let illegal = |place| DrawFault { code: ILLEGAL_ARGUMENT, place };
+        let fields = self.fields(&bytes).map_err(illegal)?;
 
-    let segments = &bytes[draw::SEGMENTS..][..fields.segments];
-    let coordinates: Vec<i16> = (0..draw::MAX_COORDINATES).map(|i| i16_at(&bytes, draw::COORDINATES + 2 * i)).collect();
-    let path = path::walk(segments, &coordinates, &fields.matrix).map_err(|(fault, segment)| DrawFault {
-        code: match fault {
-            SegmentFault::Arc => UNSUPPORTED_PATH_FORMAT,
-            SegmentFault::Illegal => ILLEGAL_ARGUMENT,
-        },
-        place: draw::SEGMENTS + segment,
-    })?;
+        require(fields.segments == 0 || !fields.matrix.is_flat(), draw::MATRIX).map_err(illegal)?;
 
-    let segments_end = draw::SEGMENTS + fields.segments;
-    require_zeros(&bytes, segments_end, draw::COORDINATES).map_err(illegal)?;
-    let coordinates_end = draw::COORDINATES + 2 * path.coordinates_used;
-    require_zeros(&bytes, coordinates_end, file::DRAW_BYTES).map_err(illegal)?;
+        let segments = &bytes[draw::SEGMENTS..][..fields.segments];
+        let first = self.edition.coordinates();
+        let coordinates: Vec<i16> =
+            (0..self.edition.max_coordinates()).map(|i| i16_at(&bytes, first + 2 * i)).collect();
+        let path = path::walk(segments, &coordinates, &fields.matrix).map_err(|(fault, segment)| DrawFault {
+            code: match fault {
+                SegmentFault::Arc => UNSUPPORTED_PATH_FORMAT,
+                SegmentFault::Illegal => ILLEGAL_ARGUMENT,
+            },
+            place: draw::SEGMENTS + segment,
+        })?;
 
-    Ok(Draw {
-        fill_rule: fields.fill_rule,
-        scissors: fields.scissors,
-        masked: fields.masked,
-        blend: fields.blend,
-        paint: fields.paint,
-        edges: path.edges,
-        bytes,
-    })
+        require_zeros(&bytes, draw::SEGMENTS + fields.segments, draw::SEGMENTS_END).map_err(illegal)?;
+        require_zeros(&bytes, first + 2 * path.coordinates_used, file::DRAW_BYTES).map_err(illegal)?;
+
+        Ok(Draw {
+            fill_rule: fields.fill_rule,
+            scissors: fields.scissors,
+            masked: fields.masked,
+            blend: fields.blend,
+            paint: fields.paint,
+            transform: fields.transform,
+            edges: path.edges,
+            bytes,
+        })
+    }
+
+    /// The flags that a draw may have.
+    fn flags(&self) -> u16 {
+        let masking = if self.mask_lent { FLAG_MASKED } else { 0 };
+        let transforming = if self.edition == Edition::New { FLAG_TRANSFORMED } else { 0 };
+        FLAG_NON_ZERO | FLAG_SCISSORING | FLAG_PREMULTIPLIED | masking | transforming
+    }
+
+    /// The fields in layout order to the end of the stops, then the transformation, or the first place that breaks a rule.
+    fn fields(&self, bytes: &[u8]) -> Result<Fields, usize> {
+        let flags = u16_at(bytes, draw::FLAGS);
+        require(flags & !self.flags() == 0, draw::FLAGS)?;
+        let blend = Blend::from_number(u16_at(bytes, draw::BLEND)).ok_or(draw::BLEND)?;
+        let paint_type = u16_at(bytes, draw::PAINT);
+        require(matches!(paint_type, COLOR | LINEAR | RADIAL), draw::PAINT)?;
+        let spread = Spread::from_number(u16_at(bytes, draw::SPREAD)).ok_or(draw::SPREAD)?;
+
+        let segments = count(bytes, draw::SEGMENT_COUNT, draw::MAX_SEGMENTS)?;
+        let scissor_count = count(bytes, draw::SCISSOR_COUNT, draw::MAX_SCISSORS)?;
+        let most_stops = if paint_type == RADIAL { draw::MAX_RADIAL_STOPS } else { draw::MAX_STOPS };
+        let stop_count = count(bytes, draw::STOP_COUNT, most_stops)?;
+        require(bytes[draw::ZERO] == 0, draw::ZERO)?;
+
+        let matrix = matrix(bytes)?;
+        let color = floats(bytes, draw::COLOR, |v| !v.is_nan())?;
+        let linear = floats(bytes, draw::LINEAR, |v| v.abs() <= MAX_LINEAR)?;
+        let scissors = scissors(bytes, scissor_count)?;
+        let radial = if paint_type == RADIAL { Some(radial(bytes)?) } else { None };
+        let first_stop = if radial.is_some() { draw::STOPS + draw::STOP_BYTES } else { draw::STOPS };
+        let ramp = Ramp::new(&stops(bytes, first_stop, stop_count)?, flags & FLAG_PREMULTIPLIED != 0);
+        let transform = self.transform(bytes)?;
+
+        let paint = match (paint_type, radial) {
+            (_, Some(gradient)) => Paint::Radial { gradient, spread, ramp },
+            (LINEAR, None) => Paint::Linear { gradient: LinearGradient::new(linear), spread, ramp },
+            _ => Paint::color(color),
+        };
+        Ok(Fields {
+            fill_rule: if flags & FLAG_NON_ZERO != 0 { FillRule::NonZero } else { FillRule::EvenOdd },
+            scissors: (flags & FLAG_SCISSORING != 0).then_some(scissors),
+            masked: flags & FLAG_MASKED != 0,
+            blend,
+            paint,
+            transform: transform.filter(|_| flags & FLAG_TRANSFORMED != 0),
+            matrix,
+            segments,
+        })
+    }
+
+    /// The transformation of a draw of the new edition, on or off; none of its values is a NaN.
+    fn transform(&self, bytes: &[u8]) -> Result<Option<ColorTransform>, usize> {
+        match self.edition {
+            Edition::Old => Ok(None),
+            Edition::New => Ok(Some(ColorTransform::new(floats(bytes, draw::TRANSFORM, |v| !v.is_nan())?))),
+        }
+    }
 }
 
 /// All that a draw has besides its path.
@@ -160,49 +243,9 @@ struct Fields {
     masked: bool,
     blend: Blend,
     paint: Paint,
+    transform: Option<ColorTransform>,
     matrix: Matrix,
     segments: usize,
-}
-
-/// The fields in layout order to the end of the stops, or the first place that breaks a rule.
-fn fields(bytes: &[u8], mask_lent: bool) -> Result<Fields, usize> {
-    let flags = u16_at(bytes, draw::FLAGS);
-    let masking = if mask_lent { FLAG_MASKED } else { 0 };
-    let allowed = FLAG_NON_ZERO | FLAG_SCISSORING | FLAG_PREMULTIPLIED | masking;
-    require(flags & !allowed == 0, draw::FLAGS)?;
-    let blend = Blend::from_number(u16_at(bytes, draw::BLEND)).ok_or(draw::BLEND)?;
-    let paint_type = u16_at(bytes, draw::PAINT);
-    require(matches!(paint_type, COLOR | LINEAR | RADIAL), draw::PAINT)?;
-    let spread = Spread::from_number(u16_at(bytes, draw::SPREAD)).ok_or(draw::SPREAD)?;
-
-    let segments = count(bytes, draw::SEGMENT_COUNT, draw::MAX_SEGMENTS)?;
-    let scissor_count = count(bytes, draw::SCISSOR_COUNT, draw::MAX_SCISSORS)?;
-    let most_stops = if paint_type == RADIAL { draw::MAX_RADIAL_STOPS } else { draw::MAX_STOPS };
-    let stop_count = count(bytes, draw::STOP_COUNT, most_stops)?;
-    require(bytes[draw::ZERO] == 0, draw::ZERO)?;
-
-    let matrix = matrix(bytes)?;
-    let color = floats(bytes, draw::COLOR, |v| !v.is_nan())?;
-    let linear = floats(bytes, draw::LINEAR, |v| v.abs() <= MAX_LINEAR)?;
-    let scissors = scissors(bytes, scissor_count)?;
-    let radial = if paint_type == RADIAL { Some(radial(bytes)?) } else { None };
-    let first_stop = if radial.is_some() { draw::STOPS + draw::STOP_BYTES } else { draw::STOPS };
-    let ramp = Ramp::new(&stops(bytes, first_stop, stop_count)?, flags & FLAG_PREMULTIPLIED != 0);
-
-    let paint = match (paint_type, radial) {
-        (_, Some(gradient)) => Paint::Radial { gradient, spread, ramp },
-        (LINEAR, None) => Paint::Linear { gradient: LinearGradient::new(linear), spread, ramp },
-        _ => Paint::color(color),
-    };
-    Ok(Fields {
-        fill_rule: if flags & FLAG_NON_ZERO != 0 { FillRule::NonZero } else { FillRule::EvenOdd },
-        scissors: (flags & FLAG_SCISSORING != 0).then_some(scissors),
-        masked: flags & FLAG_MASKED != 0,
-        blend,
-        paint,
-        matrix,
-        segments,
-    })
 }
 
 /// A count byte that is at most `most`.

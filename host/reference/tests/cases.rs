@@ -160,6 +160,46 @@ fn coordinates_566_and_567() {
     assert_eq!(fault_of(&with_path(full.segment(6, &[]))), illegal(772 + 95));
 }
 
+/// Edition 1 has sixteen coordinates fewer.
+#[test]
+fn coordinates_550_and_551() {
+    let of = |path| Scene { edition: 1, ..with_path(path) };
+    // 91 cubics take 546 coordinates, and a quad the last four.
+    let cubics = (0..91).fold(Path::new(), |path, _| path.cubic_to((0, 0), (0, 0), (0, 0)));
+    let full = cubics.quad_to((0, 0), (0, 0));
+    assert_eq!(fault_of(&of(full.clone())), Ok(()));
+    assert_eq!(fault_of(&of(full.segment(6, &[]))), illegal(772 + 92));
+}
+
+#[test]
+fn editions_1_and_2() {
+    let of = |edition| Scene { edition, ..with_path(square(1)) };
+    assert_eq!(fault_of(&of(0)), Ok(()));
+    assert_eq!(fault_of(&of(1)), Ok(()));
+    assert_eq!(fault_of(&of(2)), Err(Fault { code: ILLEGAL_ARGUMENT, draw: NO_DRAW, offset: 6 }));
+}
+
+/// The same bytes in the other edition: every draw is changed. Without draws nothing is.
+#[test]
+fn a_redraw_between_editions() {
+    let mut old = Scene::new(9, 9, [0, 0, 0, 255]);
+    for x in [1, 5] {
+        old.draws.push(Draw { color: RED, path: Path::new().rectangle(x, 2, x + 2, 3), ..Draw::default() });
+    }
+    let new = Scene { edition: 1, ..old.clone() };
+    for (from, to, area) in [
+        (&old, &new, Rectangle { x: 1, y: 2, width: 7, height: 2 }),
+        (&new, &old, Rectangle { x: 1, y: 2, width: 7, height: 2 }),
+        (&new, &new, Rectangle::default()),
+        (&Scene { draws: vec![], ..old.clone() }, &Scene { draws: vec![], ..new.clone() }, Rectangle::default()),
+    ] {
+        let mut surface = drawn(from);
+        let answer = redraw(&from.bytes(), &to.bytes(), None, &mut surface, &mut vec![7; SCRATCH_NUMBERS]);
+        assert_eq!(answer, Answer::accepted(area));
+        assert_eq!(surface, drawn(to));
+    }
+}
+
 #[test]
 fn scratch_surface_and_mask_lengths() {
     let scene = Scene::new(3, 2, [1, 2, 3, 255]);

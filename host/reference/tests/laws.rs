@@ -61,6 +61,30 @@ fn masks_that_show_all_or_nothing() {
     assert!(tried > 250, "{tried} scenes accepted");
 }
 
+/// With every transformation off both editions draw the same, and so does one that is on and the identity.
+#[test]
+fn editions_without_a_transformation() {
+    let mut tried = 0;
+    for seed in 0..400 {
+        let mut random = Random::new(seed);
+        let mut scene = scenes::scene(&mut random, 24, 6);
+        let mask = masks::mask(&mut random, scene.width, scene.height);
+        let mut picture = |scene: &scene::Scene| drawn(&mut random, scene, Some(&mask));
+        scene.edition = 1;
+        scene.draws.iter_mut().for_each(|draw| draw.transformed = false);
+        let off = picture(&scene);
+        scene.edition = 0;
+        assert_eq!(picture(&scene), off, "seed {seed}");
+        scene.edition = 1;
+        for draw in &mut scene.draws {
+            (draw.transformed, draw.transformation) = (true, scene::IDENTITY);
+        }
+        assert_eq!(picture(&scene), off, "seed {seed}");
+        tried += usize::from(off.is_some());
+    }
+    assert!(tried > 250, "{tried} scenes accepted");
+}
+
 /// A pixel that no edge end reaches, on either side, has no sample inside.
 #[test]
 fn outside_the_bounds_nothing_is_covered() {

@@ -121,7 +121,8 @@ fn a_full_mask_is_the_old_formula() {
     }
 }
 
-/// No draw of a scene meets a stray pixel: after each number of draws the whole picture is sound.
+/// No draw of a scene meets a stray pixel: after each number of draws the whole picture is sound. Transformed paints are
+/// sound too.
 #[test]
 fn scenes_meet_no_stray_pixel() {
     let mut pictures = 0;

@@ -34,7 +34,7 @@ fn check(path: &Path, printed: &str) {
 #[test]
 fn draws() {
     let scenes = files("draw", "scene");
-    assert_eq!(scenes.len(), 226);
+    assert_eq!(scenes.len(), 316);
     for scene in scenes {
         check(&scene, &print::drawing(&read(&scene), None));
     }
@@ -43,7 +43,7 @@ fn draws() {
 #[test]
 fn redraws() {
     let pairs = files("redraw", "old");
-    assert_eq!(pairs.len(), 19);
+    assert_eq!(pairs.len(), 56);
     for old in pairs {
         let new = read(&old.with_extension("new"));
         check(&old, &print::redrawing(&read(&old), &new, None));
@@ -53,7 +53,7 @@ fn redraws() {
 #[test]
 fn draws_with_a_mask() {
     let scenes = files("mask", "scene");
-    assert_eq!(scenes.len(), 14);
+    assert_eq!(scenes.len(), 40);
     for scene in scenes {
         check(&scene, &print::drawing(&read(&scene), Some(&read(&scene.with_extension("mask")))));
     }
@@ -62,7 +62,7 @@ fn draws_with_a_mask() {
 #[test]
 fn redraws_with_a_mask() {
     let pairs = files("mask", "old");
-    assert_eq!(pairs.len(), 7);
+    assert_eq!(pairs.len(), 20);
     for old in pairs {
         let (new, mask) = (read(&old.with_extension("new")), read(&old.with_extension("mask")));
         check(&old, &print::redrawing(&read(&old), &new, Some(&mask)));

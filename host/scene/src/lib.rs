@@ -12,7 +12,8 @@ pub use path::Path;
 pub const BLOCK: usize = 512;
 const PAYLOAD: usize = 508;
 const DRAW_BLOCKS: usize = 4;
-const DRAW_BYTES: usize = PAYLOAD * DRAW_BLOCKS;
+/// The joined payloads of a draw.
+pub const DRAW_BYTES: usize = PAYLOAD * DRAW_BLOCKS;
 
 /// A scene; row 0 is the lowest.
 #[derive(Clone, Debug, Default)]
@@ -21,6 +22,8 @@ pub struct Scene {
     pub height: u16,
     /// R, G, B, A, not premultiplied.
     pub background: [u8; 4],
+    /// 0, or 1, in which draws have a colour transformation and 550 coordinates, not 566. Others have 0's layout.
+    pub edition: u16,
     pub draws: Vec<Draw>,
 }
 
@@ -84,6 +87,9 @@ pub struct Stop {
     pub color: [f32; 4],
 }
 
+/// The transformation that changes no premultiplied colour.
+pub const IDENTITY: [f32; 8] = [1.0, 1.0, 1.0, 1.0, 0.0, 0.0, 0.0, 0.0];
+
 /// A draw. The default is an empty path in transparent black, with the identity matrix, over what is there.
 #[derive(Clone, Debug)]
 pub struct Draw {
@@ -92,6 +98,8 @@ pub struct Draw {
     pub premultiplied_ramp: bool,
     /// Whether the draw asks for the mask that is lent with the scene.
     pub masked: bool,
+    /// Whether the transformation is on.
+    pub transformed: bool,
     pub blend: Blend,
     pub paint: PaintType,
     pub spread: Spread,
@@ -104,6 +112,8 @@ pub struct Draw {
     pub radial: [f32; 5],
     pub scissors: Vec<Scissor>,
     pub stops: Vec<Stop>,
+    /// Four scales, then four biases, each for R, G, B and A; only edition 1 has a place for them.
+    pub transformation: [f32; 8],
     pub path: Path,
 }
 
@@ -114,6 +124,7 @@ impl Default for Draw {
             scissoring: false,
             premultiplied_ramp: false,
             masked: false,
+            transformed: false,
             blend: Blend::default(),
             paint: PaintType::default(),
             spread: Spread::default(),
@@ -123,6 +134,7 @@ impl Default for Draw {
             radial: [0.0; 5],
             scissors: Vec::new(),
             stops: Vec::new(),
+            transformation: IDENTITY,
             path: Path::default(),
         }
     }
@@ -130,7 +142,7 @@ impl Default for Draw {
 
 impl Scene {
     pub fn new(width: u16, height: u16, background: [u8; 4]) -> Scene {
-        Scene { width, height, background, draws: Vec::new() }
+        Scene { width, height, background, edition: 0, draws: Vec::new() }
     }
 
     /// The bytes that a surface for this scene has.
@@ -150,9 +162,10 @@ impl Scene {
         put(&mut file, 2, &self.height.to_le_bytes());
         let count = u16::try_from(self.draws.len()).expect("a count of 16 bits");
         put(&mut file, 4, &count.to_le_bytes());
+        put(&mut file, 6, &self.edition.to_le_bytes());
         put(&mut file, 8, &self.background);
         for (i, draw) in self.draws.iter().enumerate() {
-            for (j, payload) in draw.bytes().chunks(PAYLOAD).enumerate() {
+            for (j, payload) in draw.bytes(self.edition).chunks(PAYLOAD).enumerate() {
                 put(&mut file, BLOCK * (1 + DRAW_BLOCKS * i + j), payload);
             }
         }
@@ -162,21 +175,26 @@ impl Scene {
 }
 
 impl Draw {
-    /// The joined payloads.
-    pub fn bytes(&self) -> [u8; DRAW_BYTES] {
+    /// The joined payloads in an edition.
+    pub fn bytes(&self, edition: u16) -> [u8; DRAW_BYTES] {
         assert!(self.scissors.len() <= 4, "the layout has four scissors");
         let radial = self.paint == PaintType::Radial;
         assert!(self.stops.len() + usize::from(radial) <= 32, "the layout has 32 stops, a radial draw 31");
         let segments = &self.path.segments;
         let coordinates = &self.path.coordinates;
         assert!(segments.len() <= 128, "the layout has 128 segments");
-        assert!(coordinates.len() <= 566, "the layout has 566 coordinates");
+        let first_coordinate = first_coordinate(edition);
+        assert!(
+            first_coordinate + 2 * coordinates.len() <= DRAW_BYTES,
+            "the layout has 566 coordinates, that of edition 1 550"
+        );
 
         let mut bytes = [0; DRAW_BYTES];
         let flags = u16::from(self.fill_rule == FillRule::NonZero)
             | u16::from(self.scissoring) << 1
             | u16::from(self.premultiplied_ramp) << 2
-            | u16::from(self.masked) << 3;
+            | u16::from(self.masked) << 3
+            | u16::from(self.transformed) << 4;
         let numbers = [flags, 0x2000 + self.blend as u16, 0x1B00 + self.paint as u16, 0x1C00 + self.spread as u16];
         for (i, number) in numbers.iter().enumerate() {
             put(&mut bytes, 2 * i, &number.to_le_bytes());
@@ -202,10 +220,22 @@ impl Draw {
             put_floats(&mut bytes, first_stop + 4 + 20 * i, &stop.color);
         }
         put(&mut bytes, 772, segments);
+        if edition == 1 {
+            put_floats(&mut bytes, 900, &self.transformation);
+        }
         for (i, coordinate) in coordinates.iter().enumerate() {
-            put(&mut bytes, 900 + 2 * i, &coordinate.to_le_bytes());
+            put(&mut bytes, first_coordinate + 2 * i, &coordinate.to_le_bytes());
         }
         bytes
+    }
+}
+
+/// The place of a draw's first coordinate in an edition.
+pub fn first_coordinate(edition: u16) -> usize {
+    if edition == 1 {
+        932
+    } else {
+        900
     }
 }
 

@@ -1,4 +1,6 @@
+use Prim.Native.Nat.{ℕ}
 use Rattle.scene.specs.Blocks.{drawOf}
+use Rattle.scene.specs.Header.{editionOf}
 use Rattle.scene.specs.Accepted.{AcceptedDraw}
 use native.Mathlib.Omega.{arith}
 use mathlib.Core.Path.{refl, sym, subst, _∙_}
@@ -30,15 +32,22 @@ read-draw-requires c κs = search needs
 slice-aggregate-draw-bounds : tie.Need-slice-aggregate-draw-bounds
 slice-aggregate-draw-bounds c = search needs
 
+edition-requires : tie.Need-edition-requires
+edition-requires c κs = search needs
+
 draw-bounds-requires : tie.Need-draw-bounds-requires
 draw-bounds-requires c κs =
-    let after-read-draw = c .before .before .before in
-    let branch = after-read-draw .before .before in
+    let read = c .before .before .before .before in
+    let branch = read .before .before in
     let after-count = branch .before in
     let entry = after-count .before .before in
     let a = entry .args in
     let e = entry .pre .0 .draws (a .i) (omega (arith, after-count .count .ensures .0, branch .if1 .left)) in (
-      (after-read-draw .read-draw .kept .1 .1 .0, subst AcceptedDraw (sym (after-read-draw .read-draw .ensures)) e),
+      (
+        read .read-draw .kept .1 .1 .0,
+        subst (λ (z : ℕ). AcceptedDraw z (read .read-draw .last .1 .1 .0)) (sym (c .edition .ensures))
+            (subst (AcceptedDraw (editionOf (a .s .now))) (sym (read .read-draw .ensures)) e),
+      ),
       entry .pre .1,
     )
 
@@ -47,13 +56,14 @@ same-length c = search needs
 
 returns-2 : tie.Need-returns-2
 returns-2 c =
-    let after-read-draw = c .before .before .before .before .before in
-    let branch = after-read-draw .before .before in
+    let after-edition = c .before .before in
+    let read = after-edition .before .before .before .before in
+    let branch = read .before .before in
     let after-count = branch .before in
     let a = after-count .before .before .args in
     let b = c .before .draw-bounds in (
-      box-answer (a .width) (a .height) (a .s .now) _ (a .i) (b .result) (omega (arith, after-count .count .ensures .0, branch .if1 .left))
-          (after-read-draw .read-draw .ensures) (b .ensures .0),
+      box-answer (a .width) (a .height) (a .s .now) _ _ (a .i) (b .result) (omega (arith, after-count .count .ensures .0, branch .if1 .left))
+          (after-edition .edition .ensures) (read .read-draw .ensures) (b .ensures .0),
       b .ensures .1,
     )
 
@@ -66,6 +76,7 @@ box-at-spec =
     slice-aggregate-read-draw
     read-draw-requires
     slice-aggregate-draw-bounds
+    edition-requires
     draw-bounds-requires
     same-length
     returns-2)

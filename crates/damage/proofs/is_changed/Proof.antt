@@ -2,7 +2,7 @@ use lib.Dec.{ltb}
 use native.Mathlib.Omega.{arith}
 use mathlib.Core.Path.{sym, ap, _∙_}
 use Rattle.damage.proofs.Boxes.{changed-answer}
-use Rattle.damage.proofs.Changes.{changed-past, changed-gone}
+use Rattle.damage.proofs.Changes.{changed-past, changed-gone, changed-edition}
 use borrow.Author.Needs.{needs}
 use Rattle.damage.proofs.is_changed.Statement.{statement}
 use Rattle.damage.proofs.is_changed.Tie as tie
@@ -30,6 +30,25 @@ returns-2 c =
     sym (changed-gone (a .old .now) (a .new .now) (a .i) (omega (arith, c .before .before .before .count .ensures .0, c .before .if1 .left))
     (omega (arith, c .before .before .count2 .ensures .0, c .if2 .taken)))
 
+edition-requires : tie.Need-edition-requires
+edition-requires c κs = search needs
+
+edition-requires-2 : tie.Need-edition-requires-2
+edition-requires-2 c κs = search needs
+
+returns-3 : tie.Need-returns-3
+returns-3 c =
+    let after-edition2 = c .before in
+    let after-edition = after-edition2 .before in
+    let branch2 = after-edition .before in
+    let branch = branch2 .before in
+    let after-count2 = branch .before in
+    let after-count = after-count2 .before in
+    let a = after-count .before .before .before .args in
+    sym (changed-edition (a .old .now) (a .new .now) (a .i) (omega (arith, after-count .count .ensures .0, branch .if1 .left))
+    (omega (arith, after-count2 .count2 .ensures .0, branch2 .if2 .left))
+    (λ e. c .if3 .taken (after-edition .edition .ensures ∙ e ∙ sym (after-edition2 .edition2 .ensures))))
+
 slice-aggregate-read-draw : tie.Need-slice-aggregate-read-draw
 slice-aggregate-read-draw c = search needs
 
@@ -51,18 +70,22 @@ slice-aggregate-same-draw-2 c = search needs
 same-draw-requires : tie.Need-same-draw-requires
 same-draw-requires c κs = search needs
 
-returns-3 : tie.Need-returns-3
-returns-3 c =
+returns-4 : tie.Need-returns-4
+returns-4 c =
     let after-read-draw2 = c .before .before .before .before in
     let after-read-draw = after-read-draw2 .before .before .before in
-    let branch2 = after-read-draw .before .before in
+    let branch3 = after-read-draw .before .before in
+    let after-edition2 = branch3 .before in
+    let after-edition = after-edition2 .before in
+    let branch2 = after-edition .before in
     let branch = branch2 .before in
     let after-count2 = branch .before in
     let after-count = after-count2 .before in
     let a = after-count .before .before .before .args in
     changed-answer (a .old .now) (a .new .now) _ _ (a .i) (c .same-draw .result) (omega (arith, after-count .count .ensures .0, branch .if1 .left))
-    (omega (arith, after-count2 .count2 .ensures .0, branch2 .if2 .left)) (after-read-draw .read-draw .ensures) (after-read-draw2 .read-draw2 .ensures)
-    (c .same-draw .ensures)
+    (omega (arith, after-count2 .count2 .ensures .0, branch2 .if2 .left))
+    (sym (after-edition .edition .ensures) ∙ branch3 .if3 .left ∙ after-edition2 .edition2 .ensures)
+    (after-read-draw .read-draw .ensures) (after-read-draw2 .read-draw2 .ensures) (c .same-draw .ensures)
 
 pub is-changed-spec : {M : Type 1} → statement M
 is-changed-spec =
@@ -72,6 +95,9 @@ is-changed-spec =
     count-requires-2
     returns
     returns-2
+    edition-requires
+    edition-requires-2
+    returns-3
     slice-aggregate-read-draw
     read-draw-requires
     slice-aggregate-read-draw-2
@@ -79,4 +105,4 @@ is-changed-spec =
     slice-aggregate-same-draw
     slice-aggregate-same-draw-2
     same-draw-requires
-    returns-3)
+    returns-4)

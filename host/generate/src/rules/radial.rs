@@ -9,8 +9,8 @@ fn radial(radial: [f32; 5], stops: Vec<Stop>) -> Draw {
     Draw { paint: PaintType::Radial, radial, stops, ..Draw::default() }
 }
 
-fn with_values(values: [f32; 5]) -> Scene {
-    with_draw(radial(values, Vec::new()))
+fn with_values(edition: u16, values: [f32; 5]) -> Scene {
+    with_draw(edition, radial(values, Vec::new()))
 }
 
 impl Cases {
@@ -26,7 +26,7 @@ impl Cases {
     fn radial_counts(&mut self) {
         for count in [0, 1, 30, 31, 32, 33, 255] {
             let fault = unless(count <= 31, illegal(10));
-            self.with_bytes(format!("radial count {count}"), &with_values([0.0; 5]), 10, &[count], fault);
+            self.with_bytes(format!("radial count {count}"), &with_values(self.edition, [0.0; 5]), 10, &[count], fault);
         }
     }
 
@@ -34,15 +34,15 @@ impl Cases {
     fn radial_values(&mut self) {
         // Without a circle the focal point may be anywhere, and at the centre any radius is allowed.
         for entry in 0..5 {
-            self.finite(&with_values([0.0; 5]), 132 + 4 * entry, 1_024.0);
+            self.finite(&with_values(self.edition, [0.0; 5]), 132 + 4 * entry, 1_024.0);
         }
         for [x, y] in [[1_024.0, 1_024.0], [-1_024.0, 1_024.0], [-1_024.0, -1_024.0]] {
-            self.add(format!("centre at {x} {y}"), with_values([x, y, x, y, 1_024.0]).bytes(), None);
+            self.add(format!("centre at {x} {y}"), with_values(self.edition, [x, y, x, y, 1_024.0]).bytes(), None);
         }
         // In a draw of another paint the same bytes are a stop.
         for paint in [PaintType::Color, PaintType::Linear] {
             let stop = Stop { offset: 2_000.0, color: [0.0, 2_000.0, 0.0, 1.0] };
-            let scene = with_draw(Draw { paint, stops: vec![stop], ..Draw::default() });
+            let scene = with_draw(self.edition, Draw { paint, stops: vec![stop], ..Draw::default() });
             self.add(format!("a stop under {paint:?} as a radial draw would not have it"), scene.bytes(), None);
         }
     }
@@ -79,8 +79,8 @@ impl Cases {
         ];
         for (values, allowed) in cases {
             let fault = unless(allowed, illegal(132));
-            self.add(format!("radial {values:?}"), with_values(values).bytes(), fault);
-            let colored = with_draw(Draw { paint: PaintType::Color, ..radial(values, Vec::new()) });
+            self.add(format!("radial {values:?}"), with_values(self.edition, values).bytes(), fault);
+            let colored = with_draw(self.edition, Draw { paint: PaintType::Color, ..radial(values, Vec::new()) });
             self.add(format!("colour {values:?}"), colored.bytes(), None);
         }
     }
@@ -89,7 +89,7 @@ impl Cases {
     fn radial_stops(&mut self) {
         let any = Stop { offset: f32::INFINITY, color: [-1.0, 2.0, f32::NEG_INFINITY, 0.5] };
         for count in [0, 1, 30, 31] {
-            let scene = with_draw(radial([2.0, 3.0, 2.5, 3.5, 4.0], vec![any; count]));
+            let scene = with_draw(self.edition, radial([2.0, 3.0, 2.5, 3.5, 4.0], vec![any; count]));
             self.add(format!("radial, {count} stops"), scene.bytes(), None);
             for place in 152 + 20 * count..772 {
                 self.with_bytes(format!("radial, {count} stops, byte {place}"), &scene, place, &[0x80], illegal(place));
@@ -102,7 +102,7 @@ impl Cases {
 
     /// Every two of the faults of a radial draw in their order: the earlier one is met.
     fn radial_order(&mut self) {
-        let mut scene = common();
+        let mut scene = common(self.edition);
         scene.draws[super::DRAW] = Draw {
             path: Path::new().line_to(1, 1),
             ..radial([0.0, 0.0, 1.0, 0.0, 2.0], vec![Stop { offset: 0.5, color: [1.0; 4] }])

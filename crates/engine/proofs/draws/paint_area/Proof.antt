@@ -64,8 +64,8 @@ returns c =
     let p = after-premultiplied .premultiplied in (
       draws .ensures .0,
       background-then (a .scene .now) (maskAt (a .width) (a .mask .now)) (filled .last .0) (draws .last .0) (a .surface .now) (a .width) (a .height) (a .n)
-          (p .result) (a .a) (entry .pre .0 .1)
-          (p .ensures ∙ ap premultiplied (after-background .background .ensures)) (under after-premultiplied) (filled .ensures) (draws .ensures .1),
+          (p .result) (a .a) (entry .pre .0 .1) (p .ensures ∙ ap premultiplied (after-background .background .ensures))
+          (under after-premultiplied) (filled .ensures) (draws .ensures .1),
     )
 
 pub paint-area-spec : {M : Type 1} → statement M

@@ -3,7 +3,8 @@ use mathlib.Core.Path.{_≡_, refl, sym, ap, _∙_}
 use native.Mathlib.Omega.{arith}
 use Rattle.rect.specs.Rects.{meetOf}
 use Rattle.path.specs.Boxes.{boxOf}
-use Rattle.engine.specs.Picture.{drawEdges, maskAt}
+use Rattle.path.specs.Stored.{edgesOf}
+use Rattle.engine.specs.Picture.{maskAt}
 use Rattle.engine.proofs.Steps.{box-enough, box-none, box-part}
 use borrow.Author.Needs.{needs}
 use Rattle.engine.proofs.draws.paint_box.Statement.{statement}
@@ -12,17 +13,16 @@ use Rattle.engine.proofs.draws.paint_box.Tie as tie
 -- the rectangle that is left
 met : (c : tie.After-meet)
     → let entry = c .before .before .before .before .before .before in
-    let a = entry .args in let t = a .target in c .meet .result ≡ meetOf (t .area) (boxOf (t .width) (t .height) (drawEdges (a .d .now)))
+    let a = entry .args in let t = a .target in c .meet .result ≡ meetOf (t .area) (boxOf (t .width) (t .height) (edgesOf (a .scratch .now) (a .n)))
 met c =
     let entry = c .before .before .before .before .before .before in
-    let t = entry .args .target in
-    c .meet .ensures ∙ ap (meetOf (t .area)) (c .before .bounds .ensures ∙ ap (boxOf (t .width) (t .height)) (entry .pre .1 .0 .edges))
+    c .meet .ensures ∙ ap (meetOf (entry .args .target .area)) (c .before .bounds .ensures)
 
 bounds-requires : tie.Need-bounds-requires
 bounds-requires c κs =
     let entry = c .before .before .before .before in
     let p = entry .pre in
-    let r = p .1 .0 .ready in
+    let r = p .1 .0 .0 in
     (omega (arith, r .few, r .room), (p .1 .1 .0 .placed .wide, p .1 .1 .0 .placed .high))
 
 meet-requires : tie.Need-meet-requires
@@ -38,11 +38,11 @@ returns : tie.Need-returns
 returns c =
     let after-meet = c .before .before in
     let entry = after-meet .before .before .before .before .before .before in
-    let a = entry .args in (
+    let a = entry .args in
+    let p = entry .pre in (
       refl,
-      box-none (a .target) (a .d .now) (maskAt (a .target .width) (a .mask .now)) (a .surface .now) (after-meet .meet .result) (entry .pre .1 .1 .0)
-          (met after-meet)
-          (sym (c .before .is-empty .ensures) ∙ c .if1 .taken),
+      box-none (a .target) (edgesOf (a .scratch .now) (a .n)) (a .surface .now) (a .d .now) (maskAt (a .target .width) (a .mask .now)) (p .1 .0 .1)
+          (after-meet .meet .result) (p .1 .1 .0) (met after-meet) (sym (c .before .is-empty .ensures) ∙ c .if1 .taken),
     )
 
 fill-requires : tie.Need-fill-requires
@@ -52,10 +52,9 @@ fill-requires c κs =
     let entry = after-meet .before .before .before .before .before .before in
     let a = entry .args in
     let p = entry .pre in
-    let part = box-part (a .target) (a .d .now) (maskAt (a .target .width) (a .mask .now)) (a .surface .now) (after-meet .meet .result) (p .1 .1 .0)
-    (met after-meet)
+    let part = box-part (a .target) (edgesOf (a .scratch .now) (a .n)) (a .surface .now) (after-meet .meet .result) (p .1 .1 .0) (met after-meet)
     (sym (after-is-empty .is-empty .ensures) ∙ c .before .before .if1 .left) in
-    (p .0, (p .1 .0, (part, p .1 .1 .1)))
+    (p .0, (p .1 .0 .0, (part, p .1 .1 .1)))
 
 same-length-2 : tie.Need-same-length-2
 same-length-2 c = search needs
@@ -71,7 +70,11 @@ returns-2 c =
     let a = entry .args in
     let r = after-fill .fill in
     let mask = maskAt (a .target .width) (a .mask .now) in
-    (r .ensures .0, box-enough (a .target) (a .d .now) mask (a .surface .now) (after-meet .meet .result) (r .last .0) (met after-meet) (r .ensures .1))
+    let edges = edgesOf (a .scratch .now) (a .n) in (
+      r .ensures .0,
+      box-enough (a .target) edges (a .surface .now) (a .d .now) mask (entry .pre .1 .0 .1) (after-meet .meet .result) (r .last .0) (met after-meet)
+          (r .ensures .1),
+    )
 
 pub paint-box-spec : {M : Type 1} → statement M
 paint-box-spec =

@@ -70,13 +70,12 @@ draw-rect-requires c κs =
     let long = subst (λ (z : List ℕ). 64 ≤ length z) (sym (c .before .before .scissors .ensures)) (omega (arith, scissors-length (a .d .now) (p .0 .0))) in
     let part = part-length (a .buffer .now) 0 (k * 5) (omega arith) (omega (arith, narrow entry .1, p .1 .1 .1 .1)) in
     let few = subst (λ (z : Style). z .scissors ≤ 4) e (p .0 .1 .scissors) in (
-      subst (λ (z : Style). Outlined (a .scratch .now) (z .edges)) e (p .1 .0 .ready),
+      subst (λ (z : Style). Outlined (a .scratch .now) (z .edges)) e (p .1 .0),
       (
         ((few, long), subst (λ (z : Style). Shaded (z .shade) (shade .last .1 .0)) e (shade .ensures .asked)),
         (
           (p .1 .1 .0 .0, part ∙ omega arith),
-          subst (λ (z : Style). MaskFor (z .masked) (a .target .height * a .target .width) (a .mask .now)) e
-              (p .1 .1 .0 .1),
+          subst (λ (z : Style). MaskFor (z .masked) (a .target .height * a .target .width) (a .mask .now)) e (p .1 .1 .0 .1),
         ),
       ),
     )
@@ -101,15 +100,14 @@ returns c =
     let after-shade = after-style .before .before .before in
     let entry = after-shade .before .before .before .before .before .before .before in
     let a = entry .args in
-    let p = entry .pre in
     let r = after-draw-rect .draw-rect in
     let style = after-style .style in
     let shade = after-shade .shade in
-    let edges = ap (λ (z : Style). edgesOf (a .scratch .now) (z .edges)) (style .ensures) ∙ p .1 .0 .edges in (
+    let edges = ap (λ (z : Style). edgesOf (a .scratch .now) (z .edges)) (style .ensures) in (
       r .ensures .0,
-      own-steps (a .target) (a .d .now) (maskAt (a .target .width) (a .mask .now)) (a .surface .now) (r .last .0) (style .result) (a .n) (shade .result) _ _
-          (shade .last .1 .0)
-          (style .ensures) edges (after-scissors .scissors .ensures) (shade .ensures .paint) (r .ensures .1),
+      own-steps (a .target) (edgesOf (a .scratch .now) (a .n)) _ (a .d .now) (maskAt (a .target .width) (a .mask .now)) (a .surface .now) (r .last .0)
+          (style .result) (a .n) (shade .result) _ (shade .last .1 .0) (style .ensures) edges (after-scissors .scissors .ensures)
+          (shade .ensures .paint) (r .ensures .1),
     )
 
 pub fill-with-spec : {M : Type 1} → statement M

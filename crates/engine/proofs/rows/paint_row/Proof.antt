@@ -1,6 +1,5 @@
 -- `rows::paint_row` meets its contract: pixels of one colour, or a gradient's.
 use mathlib.Core.Path.{subst}
-use native.Mathlib.Omega.{arith}
 use Rattle.engine.specs.declared.Shade.{Shade}
 use Rattle.engine.specs.Rows.{Shaded}
 use Rattle.engine.proofs.RowLaws.{solid-pixels, gradient-pixels}
@@ -13,9 +12,8 @@ gradient-row-requires c κs =
     let after-shade2 = c .before .before in
     let entry = after-shade2 .before .before .before .before in
     let p = entry .pre in
-    let on = p .1 .0 in
     let held = subst (λ (z : Shade). Shaded z (entry .args .ramp .now)) (after-shade2 .shade2 .given .1) (p .0) in
-    (held, (on .1, omega (arith, on .0), p .1 .1))
+    (held, p .1)
 
 returns : tie.Need-returns
 returns c =
@@ -35,7 +33,7 @@ returns-2 c =
     let s = a .strip in
     let arm = after-shade2 .shade2 .given in
     let call = after-gradient-row .gradient-row in
-    gradient-pixels (s .length) (s .x) (s .y) (a .ramp .now) (call .last .1 .1 .1 .1 .1 .0) (a .shade) (arm .0 .0) (arm .1) (call .ensures)
+    gradient-pixels (s .length) (s .x) (s .y) (a .ramp .now) (call .last .1 .0) (a .shade) (arm .0 .0) (arm .1) (call .ensures)
 
 pub paint-row-spec : {M : Type 1} → statement M
 paint-row-spec =

@@ -20,12 +20,12 @@ covered c = covered-length (c .args .buffer .now) (c .args .strip .length) (omeg
 -- the paint that is given back
 painted : (c : tie.After-gradient-row)
     → let entry = c .before .before .before .before .before .before .before .before in
-    let n = entry .args .strip .length in length (c .gradient-row .last .1 .1 .1 .1 .1 .0) ≡ n * 5 - n
+    let n = entry .args .strip .length in length (c .gradient-row .last .1 .0) ≡ n * 5 - n
 painted c =
     let entry = c .before .before .before .before .before .before .before .before in
     let a = entry .args in
     let n = a .strip .length in
-    c .gradient-row .kept .1 .1 .1 .1 .1 .0 ∙ part-length (a .buffer .now) n (n * 5) (omega arith) (omega (arith, entry .pre .1 .0 .2))
+    c .gradient-row .kept .1 .0 ∙ part-length (a .buffer .now) n (n * 5) (omega arith) (omega (arith, entry .pre .1 .0 .2))
 
 mul-m : tie.Need-mul-m
 mul-m c = search needs
@@ -70,7 +70,7 @@ gradient-row-requires c κs =
     let o = p .1 .0 in
     let n = a .strip .length in
     let long = part-length (a .buffer .now) n (n * 5) (omega arith) (omega (arith, o .2)) in
-    (subst (λ (z : Shade). Shaded z (a .ramp .now)) (c .before .before .shade2 .given .1) (p .0), (o .0 .1, omega (arith, o .0 .0), long ∙ omega arith))
+    (subst (λ (z : Shade). Shaded z (a .ramp .now)) (c .before .before .shade2 .given .1) (p .0), (o .0, long ∙ omega arith))
 
 sub-composite-row : tie.Need-sub-composite-row
 sub-composite-row c = search needs
@@ -98,7 +98,7 @@ composite-row-requires c κs =
     let p = entry .pre in
     let o = p .1 .0 in
     let n = a .strip .length in
-    let q = after-gradient-row .gradient-row .last .1 .1 .1 .1 .1 .0 in
+    let q = after-gradient-row .gradient-row .last .1 .0 in
     let cover = cover-part (a .buffer .now) q _ n (omega (arith, o .2)) in
     let paint = paint-part (a .buffer .now) q _ n (n * 5) (omega (arith, o .2)) (painted after-gradient-row) in
     let long = ap length cover ∙ covered entry in
@@ -138,7 +138,7 @@ returns-2 c =
     let paint = after-gradient-row .gradient-row in
     let call = c .before .before .composite-row in
     let arm = after-shade2 .shade2 .given in
-    let q = paint .last .1 .1 .1 .1 .1 .0 in
+    let q = paint .last .1 .0 in
     let pixels = gradient-pixels (s .length) (s .x) (s .y) (a .ramp .now) q (a .style .shade) (arm .0 .0) (arm .1) (paint .ensures) in
     painted-row (a .style .mode) (s .length) (s .x) (s .y) (λ i. 255) (a .buffer .now) (a .row .now) (a .ramp .now) (call .last .1 .1 .1 .0) (a .style .shade)
     q _ (s .length * 5) (omega (arith, entry .pre .1 .0 .2)) (painted after-gradient-row) pixels (call .ensures)

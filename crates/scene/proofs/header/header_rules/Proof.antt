@@ -12,8 +12,8 @@ returns c =
     let width = height .before in
     let from-count = width .before in
     let count = from-count .before in
-    let from-reserved = count .before .before in
-    let reserved = from-reserved .before in
+    let from-edition = count .before .before in
+    let edition = from-edition .before in
     rw (
       c .or-else4 .ensures,
       width .side-rule .ensures,
@@ -21,11 +21,11 @@ returns c =
       height .side-rule2 .ensures,
       from-count .or-else2 .ensures,
       count .must2 .ensures,
-      count .before .u16-at2 .ensures .0,
-      from-reserved .or-else .ensures,
-      reserved .must .ensures,
-      reserved .before .u16-at .ensures .0,
-      reserved .before .before .unused .ensures,
+      count .before .u16-at .ensures .0,
+      from-edition .or-else .ensures,
+      edition .must .ensures,
+      edition .before .edition .ensures,
+      edition .before .before .unused .ensures,
     )
 
 pub header-rules-spec : {M : Type 1} → statement M

@@ -1,13 +1,13 @@
 -- `scene::rules::path_rules` meets its contract.
 use mathlib.Core.Path.{_≡_, _∙_}
 use mathlib.Core.List.{List}
-use Prim.Native.Nat.{ℕ, _*_, _-_, _≤_}
+use Prim.Native.Nat.{ℕ, _+_, _*_, _≤_}
 use native.Mathlib.Omega.{arith}
 use Rattle.lists.proofs.Laws.{part-length}
 use Rattle.path.specs.Matrices.{fixedMatrix}
 use Rattle.path.specs.Answers.{checkedTo}
 use Rattle.path.proofs.Entries.{matrix-limited}
-use Rattle.scene.specs.Layout.{segmentLimit, segmentsAt, coordinatesAt, drawBytes}
+use Rattle.scene.specs.Layout.{segmentLimit, segmentsAt, segmentsEnd, coordinatesAt, drawBytes}
 use Rattle.scene.specs.Fields.{matrixOf, segmentsOf, coordinatesOf, segmentCount}
 use Rattle.scene.proofs.Paths.{checked-of, path-segment, path-refused, path-used, path-accepted}
 use borrow.Author.Needs.{needs}
@@ -22,26 +22,33 @@ module _ (walked : tie.After-check) where
   abbrev draw : List ℕ
   draw = entry .args .d .now
 
-  answer : walked .check .result ≡ checkedTo (fixedMatrix (matrixOf draw)) (segmentsOf draw) (coordinatesOf draw) (segmentCount draw)
+  abbrev edition : ℕ
+  edition = entry .args .edition
+
+  answer : walked .check .result ≡ checkedTo (fixedMatrix (matrixOf draw)) (segmentsOf draw) (coordinatesOf edition draw) (segmentCount draw)
   answer =
       let coordinates = walked .before in
       let segments = coordinates .before in
       let matrix = segments .before in
-      checked-of draw _ _ _ _ (walked .check .result)
+      checked-of edition draw _ _ _ _ (walked .check .result)
       (matrix .fixed-matrix .ensures) (segments .segments .ensures) (coordinates .coordinates .ensures) (matrix .before .segment-count .ensures .0)
       (walked .check .ensures)
 
   -- the segment of a fault
   segment : walked .check .result .fault .segment ≤ segmentLimit
-  segment = omega (arith, path-segment draw (walked .check .result) answer, entry .pre .0 .1)
+  segment = omega (arith, path-segment edition draw (walked .check .result) answer, entry .pre .0 .1)
 
 -- the coordinates used, where there is none
-used : (accepted : tie.Else1) → 2 * accepted .before .before .before .check .result .used ≤ drawBytes - coordinatesAt
-used accepted =
+used : (c : tie.After-struct-known3) → c .before .coordinates-at .result + 2 * c .before .before .before .before .before .check .result .used ≤ drawBytes
+used c =
+    let first = c .before in
+    let accepted = first .before in
     let walked = accepted .before .before .before in
-    let d = draw walked in
-    rw (part-length d coordinatesAt drawBytes (omega arith) (omega (arith, entry walked .pre .0 .0)))
-    at (path-used d (walked .check .result) (answer walked) (accepted .if1 .left))
+    omega (
+      arith,
+      first .coordinates-at .ensures .0,
+      path-used (edition walked) (draw walked) (walked .check .result) (answer walked) (accepted .if1 .left) (entry walked .pre .0 .0),
+    )
 
 check-requires : tie.Need-check-requires
 check-requires c κs =
@@ -50,25 +57,26 @@ check-requires c κs =
     let s = matrix .before .before .before in
     let d = s .args .d .now in (
       rw (matrix .fixed-matrix .ensures) (matrix-limited (matrixOf d) (s .pre .1)),
-      rw (segments .segments .ensures, part-length d segmentsAt coordinatesAt (omega arith) (omega arith))
+      rw (segments .segments .ensures, part-length d segmentsAt segmentsEnd (omega arith) (omega arith))
           (omega (arith, matrix .before .segment-count .ensures .0, s .pre .0 .1)),
     )
 
 returns : tie.Need-returns
 returns c =
     let walked = c .before .before .before .before in
-    path-refused (draw walked) (walked .check .result) (answer walked) (c .before .if1 .taken)
+    path-refused (edition walked) (draw walked) (walked .check .result) (answer walked) (c .before .if1 .taken)
 
 returns-2 : tie.Need-returns-2
 returns-2 c =
     let past-segments = c .before in
     let past-coordinates = past-segments .before in
-    let accepted = past-coordinates .before .before in
+    let first = past-coordinates .before .before in
+    let accepted = first .before in
     let walked = accepted .before .before .before in
     let count = walked .before .before .before .before .segment-count in
     c .or-else .ensures
-    ∙ rw (past-segments .unused2 .ensures, past-coordinates .unused .ensures, count .ensures .0)
-    (path-accepted (draw walked) (walked .check .result) (answer walked) (accepted .if1 .left))
+    ∙ rw (past-segments .unused2 .ensures, past-coordinates .unused .ensures, first .coordinates-at .ensures .0, count .ensures .0)
+    (path-accepted (edition walked) (draw walked) (walked .check .result) (answer walked) (accepted .if1 .left))
 
 pub path-rules-spec : {M : Type 1} → statement M
 path-rules-spec =
@@ -82,8 +90,9 @@ path-rules-spec =
     (λ c. omega (arith, segment (c .before .before .before .before)))
     (λ c. omega (arith, segment (c .before .before .before .before)))
     returns
-    (λ c. omega (arith, used (c .before)))
-    (λ c. omega (arith, used (c .before)))
+    (λ c κs. search needs)
+    (λ c. omega (arith, used c))
+    (λ c. omega (arith, used c))
     (λ c κs. search needs)
     (λ c. search needs)
     (λ c κs. search needs)
