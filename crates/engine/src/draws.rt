@@ -29,10 +29,10 @@ pub fn paint_area(
     mask: &[u8],
     width: usize,
     height: usize,
-    n: usize,
+    count: usize,
     a: Rect,
 )
-    requires { ⌜ AcceptedScene (now scene) × (n ≡ countOf (now scene)) ⌝ }
+    requires { ⌜ AcceptedScene (now scene) × (count ≡ countOf (now scene)) ⌝ }
     requires { ⌜ Blank (now scratch) ⌝ }
     requires { ⌜ Area width height a (now surface) × MaskForScene (now scene) (height * width) (now mask) ⌝ }
     ensures { λ _. ⌜ now (scratch .exit) ≡ now (scratch .entry) ⌝ }
@@ -49,32 +49,32 @@ pub fn paint_area(
         scene::header::background(scene).premultiplied(),
     );
     let mut d = [0u8; DRAW_BYTES];
-    paint_draws(surface, scratch, scene, mask, n, &mut d, target);
+    paint_draws(surface, scratch, scene, mask, count, &mut d, target);
 }
 
-// The first n draws of a scene, at every pixel of the target; d is a buffer for a draw. What it holds afterwards is free.
+// The first draws of a scene, so many, at every pixel of the target; d is a buffer for a draw. What it holds afterwards is free.
 fn paint_draws(
     surface: &mut [u8],
     scratch: &mut [i32],
     scene: &[u8],
     mask: &[u8],
-    n: usize,
+    count: usize,
     d: &mut [u8],
     target: Target,
 )
-    requires { ⌜ AcceptedScene (now scene) × ((n ≡ countOf (now scene)) × (length (now d) ≡ drawBytes)) ⌝ }
+    requires { ⌜ AcceptedScene (now scene) × ((count ≡ countOf (now scene)) × (length (now d) ≡ drawBytes)) ⌝ }
     requires { ⌜ Blank (now scratch) ⌝ }
     requires { ⌜ Part target (now surface) × MaskForScene (now scene) (target .height * target .width) (now mask) ⌝ }
     ensures { λ _. ⌜ now (scratch .exit) ≡ now (scratch .entry) ⌝ }
     ensures { λ _. ⌜
         now (surface .exit)
-        ≡ stepped target (unclampedAll (editionOf (now (scene .entry))) (firstDraws (now (scene .entry)) n) (maskAt (target .width) (now (mask .entry))))
+        ≡ stepped target (unclampedAll (editionOf (now (scene .entry))) (firstDraws (now (scene .entry)) count) (maskAt (target .width) (now (mask .entry))))
         (now (surface .entry))
         ⌝ }
 {
     let edition = scene::header::edition(scene);
     let mut i = 0;
-    while i < n {
+    while i < count {
         scene::blocks::read_draw(scene, i, d);
         paint_draw(surface, scratch, mask, d, edition, target);
         i += 1;

@@ -148,7 +148,8 @@ abbrev pub walkTo : List ℕ → List ℕ → ℕ → Walk
 walkTo segments coordinates zero = firstWalk
 walkTo segments coordinates (suc n) = walkOn coordinates (walkTo segments coordinates n) (getD segments n 0)
 
--- ---- the rules of a segment: 0, or the code of its refusal. A 567th coordinate is one past the 1,132 bytes that a scene has for them
+-- ---- the rules of a segment: 0, or the code of its refusal. A 567th coordinate, in edition 1 a 551st, is one past the
+-- bytes that a scene has for them
 abbrev pub curveInRange : Curve → Bool
 curveInRange c = inRange (c .p1) && (inRange (c .p2) && inRange (c .p3))
 

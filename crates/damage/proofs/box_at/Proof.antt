@@ -1,9 +1,8 @@
 use Prim.Native.Nat.{ℕ}
-use Rattle.scene.specs.Blocks.{drawOf}
 use Rattle.scene.specs.Header.{editionOf}
 use Rattle.scene.specs.Accepted.{AcceptedDraw}
 use native.Mathlib.Omega.{arith}
-use mathlib.Core.Path.{refl, sym, subst, _∙_}
+use mathlib.Core.Path.{refl, sym, subst}
 use Rattle.damage.proofs.Boxes.{box-answer}
 use Rattle.damage.proofs.Changes.{box-past}
 use borrow.Author.Needs.{needs}

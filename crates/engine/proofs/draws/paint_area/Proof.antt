@@ -63,7 +63,7 @@ returns c =
     let filled = after-fill-rect .fill-rect in
     let p = after-premultiplied .premultiplied in (
       draws .ensures .0,
-      background-then (a .scene .now) (maskAt (a .width) (a .mask .now)) (filled .last .0) (draws .last .0) (a .surface .now) (a .width) (a .height) (a .n)
+      background-then (a .scene .now) (maskAt (a .width) (a .mask .now)) (filled .last .0) (draws .last .0) (a .surface .now) (a .width) (a .height) (a .count)
           (p .result) (a .a) (entry .pre .0 .1) (p .ensures ∙ ap premultiplied (after-background .background .ensures))
           (under after-premultiplied) (filled .ensures) (draws .ensures .1),
     )

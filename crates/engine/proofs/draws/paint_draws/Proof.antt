@@ -109,7 +109,7 @@ returns c =
     let entry = after-edition .before .before .before .before .before in
     let a = entry .args in
     let l = c .before .loop in
-    let e : l .i ≡ a .n = omega arith in
+    let e : l .i ≡ a .count = omega arith in
     let drawn : ℕ → ℕ → List ℕ = λ edition k.
     stepped (a .target) (unclampedAll edition (firstDraws (a .scene .now) k) (maskAt (a .target .width) (a .mask .now))) (a .surface .now) in
     (l .inv .2, l .inv .4 ∙ ap₂ drawn (after-edition .edition .ensures) e)

@@ -1,5 +1,4 @@
 -- `rows::shade_plain` meets its contract: a plain colour is blended as it is, a gradient's row is made behind the coverage first.
-use mathlib.Core.List.{List}
 use mathlib.Core.Path.{_≡_, sym, ap, subst, _∙_}
 use Prim.Native.Nat.{ℕ, _-_, _*_}
 use native.Mathlib.Omega.{arith}

@@ -7,7 +7,7 @@ use Rattle.lists.proofs.Laws.{part-length}
 use Rattle.path.specs.Matrices.{fixedMatrix}
 use Rattle.path.specs.Answers.{checkedTo}
 use Rattle.path.proofs.Entries.{matrix-limited}
-use Rattle.scene.specs.Layout.{segmentLimit, segmentsAt, segmentsEnd, coordinatesAt, drawBytes}
+use Rattle.scene.specs.Layout.{segmentLimit, segmentsAt, segmentsEnd, drawBytes}
 use Rattle.scene.specs.Fields.{matrixOf, segmentsOf, coordinatesOf, segmentCount}
 use Rattle.scene.proofs.Paths.{checked-of, path-segment, path-refused, path-used, path-accepted}
 use borrow.Author.Needs.{needs}
