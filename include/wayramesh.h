@@ -279,7 +279,8 @@ typedef struct wayramesh_composited {
  *                its colours clamped to 0..alpha, alpha itself as it is.
  *
  * It is proved that the call returns and that the answer is the one of the rules, for all numbers and bytes; and that if
- * no colour of the source is above its alpha, none of a pixel that is answered with coverage above 0 is.
+ * no colour of the source is above its alpha, none of a pixel that is answered by an accepted call with coverage above 0
+ * is.
  */
 wayramesh_composited wayramesh_composite(uint32_t mode, uint32_t coverage, uint32_t mask,
                                          wayramesh_pixel source, wayramesh_pixel destination);

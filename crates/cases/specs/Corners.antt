@@ -1,5 +1,6 @@
--- Corners that no bench case reaches: where in the file a fault is, the step alone on stray bytes, a last stop just below the end. What the definitions
--- give, beside what is asked; nearly all faults and offsets are those of edge vectors with these names (tests/vectors/edges.txt).
+-- Corners that no bench case reaches: where in the file a fault is, the step alone on stray bytes and under a mask, what an edition moves, a last stop
+-- just below the end. What the definitions give, beside what is asked; nearly all faults and offsets are those of edge vectors with these names
+-- (tests/vectors/edges.txt).
 use Prim.Native.Nat.{ℕ, _+_}
 use mathlib.Core.List.{List, [], _∷_, _++_, map}
 use mathlib.Core.Bool.{true, false}
@@ -94,6 +95,12 @@ corners =
     -- a draw's fields where no mask is lent: flag bit 3, blend 2005, paint 0, spread 0, 129 segments, 5 scissors, 33 stops, the zero byte
     ∷ row (draw 0 8) (illegal 1 2560)
     ∷ row (draw 2 5) (illegal 1 2562)
+    ∷ row (draw 5 0) (illegal 1 2564)
+    ∷ row (draw 7 0) (illegal 1 2566)
+    ∷ row (draw 8 129) (illegal 1 2568)
+    ∷ row (draw 9 5) (illegal 1 2569)
+    ∷ row (draw 10 33) (illegal 1 2570)
+    ∷ row (draw 11 1) (illegal 1 2571)
     -- where one is lent, bit 3 passes the head's rules, and bit 4 does not
     ∷ row (headRules true 0 (set redDraw 0 8) .code ∷ headRules true 0 (set redDraw 0 16) .code ∷ []) (0 ∷ 0x1001 ∷ [])
     -- in edition 1 the coordinates begin later, bit 4 passes too, and bit 5 does not; a NaN among its eight values is met at its place, an infinite
@@ -103,12 +110,6 @@ corners =
     ∷ row (transform 902 192 127) (illegal 1 3464)
     ∷ row (transform 930 192 127) (illegal 1 3492)
     ∷ row (transform 930 128 127) (0 ∷ 64 ∷ 0 ∷ [])
-    ∷ row (draw 5 0) (illegal 1 2564)
-    ∷ row (draw 7 0) (illegal 1 2566)
-    ∷ row (draw 8 129) (illegal 1 2568)
-    ∷ row (draw 9 5) (illegal 1 2569)
-    ∷ row (draw 10 33) (illegal 1 2570)
-    ∷ row (draw 11 1) (illegal 1 2571)
     -- an infinite matrix entry 0, 3, 4 and 5, a NaN in colour 0 and 3, an infinite linear point 0 and 3
     ∷ row (draw2 14 128 127) (illegal 1 2572)
     ∷ row (draw2 26 128 127) (illegal 1 2584)
