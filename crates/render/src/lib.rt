@@ -135,13 +135,13 @@ pub fn redraw_unmasked(old: &[u8], new: &[u8], surface: &mut [u8], scratch: &mut
 }
 
 // How many bytes of a mask's run are looked at: none where it is not lent.
-fn taken(masked: bool, n: usize) -> usize
+pub fn taken(masked: bool, n: usize) -> usize
     ensures { λ r. ⌜ r ≡ cond masked n 0 ⌝ }
 {
     if masked { n } else { 0 }
 }
 
-fn refused(f: Refusal) -> Answer
+pub fn refused(f: Refusal) -> Answer
     ensures { λ r. ⌜ r ≡ refusedAnswer f ⌝ }
 {
     Answer {
@@ -155,7 +155,7 @@ fn refused(f: Refusal) -> Answer
     }
 }
 
-fn accepted(a: Rect) -> Answer
+pub fn accepted(a: Rect) -> Answer
     requires { ⌜ On 1024 1024 a ⌝ }
     ensures { λ r. ⌜ r ≡ acceptedAnswer a ⌝ }
 {
