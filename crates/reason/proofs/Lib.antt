@@ -1,0 +1,4 @@
+pub mod Single
+pub mod Refusals
+pub mod Drawn
+pub mod Chain
