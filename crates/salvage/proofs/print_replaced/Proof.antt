@@ -16,79 +16,60 @@ Inv-loop list n k₀ k = k ≤ 64
 abbrev μ-loop : tie.MeasureT-loop
 μ-loop list n k₀ k = 64 - k
 
--- src/main.rt:131:5
 new-requires : tie.Need-new-requires Inv-loop μ-loop
 new-requires c κs = search needs
 
--- src/main.rt:131:22
 slice-aggregate-word : tie.Need-slice-aggregate-word Inv-loop μ-loop
 slice-aggregate-word c = search needs
 
--- src/main.rt:131:5
 word-requires : tie.Need-word-requires Inv-loop μ-loop
 word-requires c κs = search needs
 
--- src/main.rt:131:5
 decimal-requires : tie.Need-decimal-requires Inv-loop μ-loop
 decimal-requires c κs = search needs
 
--- src/main.rt:131:5
 print-requires : tie.Need-print-requires Inv-loop μ-loop
 print-requires c κs = search needs
 
--- src/main.rt:133:5
 loop-holds : tie.Need-loop-holds Inv-loop μ-loop
 loop-holds c = search needs
 
--- src/main.rt:135:13
 returns : tie.Need-returns Inv-loop μ-loop
 returns c = search needs
 
--- src/main.rt:137:25
 mul-print-draw : tie.Need-mul-print-draw Inv-loop μ-loop
 mul-print-draw c = search needs
 
--- src/main.rt:137:20
 mul-print-draw-2 : tie.Need-mul-print-draw-2 Inv-loop μ-loop
 mul-print-draw-2 c = search needs
 
--- src/main.rt:137:20
 shared-slice-read-print-draw : tie.Need-shared-slice-read-print-draw Inv-loop μ-loop
 shared-slice-read-print-draw c = search needs
 
--- src/main.rt:137:38
 mul-print-draw-3 : tie.Need-mul-print-draw-3 Inv-loop μ-loop
 mul-print-draw-3 c = search needs
 
--- src/main.rt:137:38
 add-print-draw : tie.Need-add-print-draw Inv-loop μ-loop
 add-print-draw c = search needs
 
--- src/main.rt:137:33
 mul-print-draw-4 : tie.Need-mul-print-draw-4 Inv-loop μ-loop
 mul-print-draw-4 c = search needs
 
--- src/main.rt:137:33
 shared-slice-read-print-draw-2 : tie.Need-shared-slice-read-print-draw-2 Inv-loop μ-loop
 shared-slice-read-print-draw-2 c = search needs
 
--- src/main.rt:137:9
 print-draw-requires : tie.Need-print-draw-requires Inv-loop μ-loop
 print-draw-requires c κs = search needs
 
--- src/main.rt:138:9
 add-k : tie.Need-add-k Inv-loop μ-loop
 add-k c = search needs
 
--- src/main.rt:133:5
 loop-less : tie.Need-loop-less Inv-loop μ-loop
 loop-less c = search needs
 
--- src/main.rt:133:5
 loop-again : tie.Need-loop-again Inv-loop μ-loop
 loop-again c = search needs
 
--- src/main.rt:128:1
 returns-2 : tie.Need-returns-2 Inv-loop μ-loop
 returns-2 c = search needs
 

@@ -7,59 +7,45 @@ use Rattle.salvage.proofs.replace_file.Reads as reads
 use Rattle.salvage.proofs.replace_file.Lts as lts
 use Rattle.salvage.proofs.put_file.Reads as put-file-reads
 
--- src/main.rt:104:5
 slice-write-other : tie.Need-slice-write-other
 slice-write-other c = search needs
 
--- src/main.rt:105:11
 add-other : tie.Need-add-other
 add-other c = search needs
 
--- src/main.rt:105:5
 slice-write-other-2 : tie.Need-slice-write-other-2
 slice-write-other-2 c = simp length-set (omega arith)
 
--- src/main.rt:106:11
 add-other-2 : tie.Need-add-other-2
 add-other-2 c = search needs
 
--- src/main.rt:106:5
 slice-write-other-3 : tie.Need-slice-write-other-3
 slice-write-other-3 c = simp length-set (omega arith)
 
--- src/main.rt:107:11
 add-other-3 : tie.Need-add-other-3
 add-other-3 c = search needs
 
--- src/main.rt:107:5
 slice-write-other-4 : tie.Need-slice-write-other-4
 slice-write-other-4 c = simp length-set (omega arith)
 
--- src/main.rt:108:30
 add-put-file : tie.Need-add-put-file
 add-put-file c = search needs
 
--- src/main.rt:108:20
 sub-put-file : tie.Need-sub-put-file
 sub-put-file c = search needs
 
--- src/main.rt:108:20
 part-put-file-start : tie.Need-part-put-file-start
 part-put-file-start c = search needs
 
--- src/main.rt:108:20
 part-put-file-end : tie.Need-part-put-file-end
 part-put-file-end c = search needs
 
--- src/main.rt:108:5
 put-file-requires : tie.Need-put-file-requires
 put-file-requires c κs = search needs
 
--- src/main.rt:101:1
 same-length : tie.Need-same-length
 same-length c = search needs
 
--- src/main.rt:101:1
 returns : tie.Need-returns
 returns c = search needs
 

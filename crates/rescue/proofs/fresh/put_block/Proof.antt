@@ -8,19 +8,15 @@ use Rattle.rescue.proofs.fresh.put_block.Lts as lts
 use Rattle.rescue.proofs.fresh.put_payload.Reads as put-payload-reads
 use Rattle.rescue.proofs.fresh.seal.Reads as seal-reads
 
--- src/fresh.rt:45:5
 put-payload-requires : tie.Need-put-payload-requires
 put-payload-requires c κs = search needs
 
--- src/fresh.rt:46:5
 seal-requires : tie.Need-seal-requires
 seal-requires c κs = search needs
 
--- src/fresh.rt:41:1
 same-length : tie.Need-same-length
 same-length c = search needs
 
--- src/fresh.rt:41:1
 returns : tie.Need-returns
 returns c =
     let after-seal = c .before .before in

@@ -31,66 +31,51 @@ Inv-loop d i out₀ first j₀ out j = (j ≤ drawBlocks) × (length out ≡ len
 abbrev μ-loop : tie.MeasureT-loop
 μ-loop d i out₀ first j₀ out j = drawBlocks - j
 
--- src/fresh.rt:54:21
 mul-first : tie.Need-mul-first Inv-loop μ-loop
 mul-first c = search needs
 
--- src/fresh.rt:54:17
 add-first : tie.Need-add-first Inv-loop μ-loop
 add-first c = search needs
 
--- src/fresh.rt:56:5
 loop-holds : tie.Need-loop-holds Inv-loop μ-loop
 loop-holds c = search needs
 
--- src/fresh.rt:57:18
 mul-at : tie.Need-mul-at Inv-loop μ-loop
 mul-at c = search needs
 
--- src/fresh.rt:60:13
 mul-put-block : tie.Need-mul-put-block Inv-loop μ-loop
 mul-put-block c = search needs
 
--- src/fresh.rt:61:14
 add-put-block : tie.Need-add-put-block Inv-loop μ-loop
 add-put-block c = search needs
 
--- src/fresh.rt:61:13
 cast-put-block : tie.Need-cast-put-block Inv-loop μ-loop
 cast-put-block c = search needs
 
--- src/fresh.rt:62:26
 add-put-block-2 : tie.Need-add-put-block-2 Inv-loop μ-loop
 add-put-block-2 c = search needs
 
--- src/fresh.rt:62:13
 sub-put-block : tie.Need-sub-put-block Inv-loop μ-loop
 sub-put-block c = search needs
 
--- src/fresh.rt:62:13
 part-put-block-start : tie.Need-part-put-block-start Inv-loop μ-loop
 part-put-block-start c = search needs
 
--- src/fresh.rt:62:13
 part-put-block-end : tie.Need-part-put-block-end Inv-loop μ-loop
 part-put-block-end c = search needs
 
--- src/fresh.rt:58:9
 put-block-requires : tie.Need-put-block-requires Inv-loop μ-loop
 put-block-requires c κs =
     let l = c .before .before .loop in
     let a = c .before .before .before .before .before .args in
     (omega arith, omega arith, lent (l .out) (l .j) (omega arith))
 
--- src/fresh.rt:64:9
 add-j : tie.Need-add-j Inv-loop μ-loop
 add-j c = search needs
 
--- src/fresh.rt:56:5
 loop-less : tie.Need-loop-less Inv-loop μ-loop
 loop-less c = search needs
 
--- src/fresh.rt:56:5
 loop-again : tie.Need-loop-again Inv-loop μ-loop
 loop-again c =
     let put = c .before .before .put-block in
@@ -106,11 +91,9 @@ loop-again c =
           (l .inv .2) (put .ensures),
     )
 
--- src/fresh.rt:50:1
 same-length : tie.Need-same-length Inv-loop μ-loop
 same-length c = c .before .loop .inv .1
 
--- src/fresh.rt:50:1
 returns : tie.Need-returns Inv-loop μ-loop
 unfolding freshDraw
 returns c =

@@ -8,35 +8,27 @@ use Rattle.rescue.proofs.fresh.put_empty.Reads as reads
 use Rattle.rescue.proofs.fresh.put_empty.Lts as lts
 use Rattle.rescue.proofs.fresh.put_draw.Reads as put-draw-reads
 
--- src/fresh.rt:74:5
 array-write-d : tie.Need-array-write-d
 array-write-d c = search needs
 
--- src/fresh.rt:75:5
 array-write-d-2 : tie.Need-array-write-d-2
 array-write-d-2 c = search needs
 
--- src/fresh.rt:76:5
 array-write-d-3 : tie.Need-array-write-d-3
 array-write-d-3 c = search needs
 
--- src/fresh.rt:77:5
 array-write-d-4 : tie.Need-array-write-d-4
 array-write-d-4 c = search needs
 
--- src/fresh.rt:78:14
 slice-aggregate-put-draw : tie.Need-slice-aggregate-put-draw
 slice-aggregate-put-draw c = search needs
 
--- src/fresh.rt:78:5
 put-draw-requires : tie.Need-put-draw-requires
 put-draw-requires c κs = search needs
 
--- src/fresh.rt:69:1
 same-length : tie.Need-same-length
 same-length c = search needs
 
--- src/fresh.rt:69:1
 returns : tie.Need-returns
 returns c =
     let entry = c .before .before .before .before .before .before in

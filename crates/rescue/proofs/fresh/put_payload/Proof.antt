@@ -16,42 +16,33 @@ Inv-loop d at block₀ i₀ block i = (i ≤ payloadBytes) × (length block ≡ 
 abbrev μ-loop : tie.MeasureT-loop
 μ-loop d at block₀ i₀ block i = payloadBytes - i
 
--- src/fresh.rt:34:5
 loop-holds : tie.Need-loop-holds Inv-loop μ-loop
 loop-holds c = search needs
 
--- src/fresh.rt:35:22
 add-block : tie.Need-add-block Inv-loop μ-loop
 add-block c = search needs
 
--- src/fresh.rt:35:20
 shared-slice-read-block : tie.Need-shared-slice-read-block Inv-loop μ-loop
 shared-slice-read-block c = search needs
 
--- src/fresh.rt:35:9
 slice-write-block : tie.Need-slice-write-block Inv-loop μ-loop
 slice-write-block c = search needs
 
--- src/fresh.rt:36:9
 add-i : tie.Need-add-i Inv-loop μ-loop
 add-i c = search needs
 
--- src/fresh.rt:34:5
 loop-less : tie.Need-loop-less Inv-loop μ-loop
 loop-less c = search needs
 
--- src/fresh.rt:34:5
 loop-again : tie.Need-loop-again Inv-loop μ-loop
 loop-again c =
     let l = c .before .before .loop in
     let a = c .before .before .before .args in
     (search needs, simp length-set (omega arith), copied-more (a .d .now) (a .at) (l .block) (l .i) (omega arith) (omega arith) (l .inv .2))
 
--- src/fresh.rt:29:1
 same-length : tie.Need-same-length Inv-loop μ-loop
 same-length c = search needs
 
--- src/fresh.rt:29:1
 returns : tie.Need-returns Inv-loop μ-loop
 returns c =
     let l = c .before .loop in

@@ -6,47 +6,36 @@ use Rattle.rescue.proofs.fresh.seal.Reads as reads
 use Rattle.rescue.proofs.fresh.seal.Lts as lts
 use Rattle.scene.proofs.blocks.checksum.Reads as checksum-reads
 
--- src/fresh.rt:19:9
 checksum-requires : tie.Need-checksum-requires
 checksum-requires c κs = search needs
 
--- src/fresh.rt:22:18
 cast-block : tie.Need-cast-block
 cast-block c = search needs
 
--- src/fresh.rt:22:5
 slice-write-block : tie.Need-slice-write-block
 slice-write-block c = search needs
 
--- src/fresh.rt:23:18
 cast-block-2 : tie.Need-cast-block-2
 cast-block-2 c = search needs
 
--- src/fresh.rt:23:5
 slice-write-block-2 : tie.Need-slice-write-block-2
 slice-write-block-2 c = search needs
 
--- src/fresh.rt:24:18
 cast-block-3 : tie.Need-cast-block-3
 cast-block-3 c = search needs
 
--- src/fresh.rt:24:5
 slice-write-block-3 : tie.Need-slice-write-block-3
 slice-write-block-3 c = search needs
 
--- src/fresh.rt:25:18
 cast-block-4 : tie.Need-cast-block-4
 cast-block-4 c = search needs
 
--- src/fresh.rt:25:5
 slice-write-block-4 : tie.Need-slice-write-block-4
 slice-write-block-4 c = search needs
 
--- src/fresh.rt:15:1
 same-length : tie.Need-same-length
 same-length c = search needs
 
--- src/fresh.rt:15:1
 returns : tie.Need-returns
 returns c =
     let a = c .before .before .before in

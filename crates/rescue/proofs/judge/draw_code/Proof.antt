@@ -32,62 +32,49 @@ right-1 c = sym (c .before .block-right2 .ensures) ∙ not-false _ (c .if2 .left
 right-2 : (c : tie.Else3) → blockRight (scene (c .before .before .before .before)) (blockOf (number (c .before .before .before .before)) + 2) ≡ true
 right-2 c = sym (c .before .block-right3 .ensures) ∙ not-false _ (c .if3 .left)
 
--- src/judge.rt:70:21
 mul-first : tie.Need-mul-first
 mul-first c = search needs
 
--- src/judge.rt:70:17
 add-first : tie.Need-add-first
 add-first c = search needs
 
--- src/judge.rt:71:9
 block-right-requires : tie.Need-block-right-requires
 block-right-requires c κs = search needs
 
--- src/judge.rt:72:9
 returns : tie.Need-returns
 returns c =
     let a = c .before .before .before .args in
     wrong-0 (a .s .now) (a .i) (sym (c .before .block-right .ensures) ∙ not-true _ (c .if1 .taken))
 
--- src/judge.rt:74:24
 add-block-right : tie.Need-add-block-right
 add-block-right c = search needs
 
--- src/judge.rt:74:9
 block-right-requires-2 : tie.Need-block-right-requires-2
 block-right-requires-2 c κs = search needs
 
--- src/judge.rt:75:9
 returns-2 : tie.Need-returns-2
 returns-2 c =
     let first = c .before .before in
     wrong-1 (scene first) (number first) (right-0 first) (sym (c .before .block-right2 .ensures) ∙ not-true _ (c .if2 .taken))
 
--- src/judge.rt:77:24
 add-block-right-2 : tie.Need-add-block-right-2
 add-block-right-2 c = search needs
 
--- src/judge.rt:77:9
 block-right-requires-3 : tie.Need-block-right-requires-3
 block-right-requires-3 c κs = search needs
 
--- src/judge.rt:78:9
 returns-3 : tie.Need-returns-3
 returns-3 c =
     let second = c .before .before in
     let first = second .before .before in
     wrong-2 (scene first) (number first) (right-0 first) (right-1 second) (sym (c .before .block-right3 .ensures) ∙ not-true _ (c .if3 .taken))
 
--- src/judge.rt:80:24
 add-block-right-3 : tie.Need-add-block-right-3
 add-block-right-3 c = search needs
 
--- src/judge.rt:80:9
 block-right-requires-4 : tie.Need-block-right-requires-4
 block-right-requires-4 c κs = search needs
 
--- src/judge.rt:81:9
 returns-4 : tie.Need-returns-4
 returns-4 c =
     let third = c .before .before in
@@ -96,27 +83,21 @@ returns-4 c =
     wrong-3 (scene first) (number first) (right-0 first) (right-1 second) (right-2 third)
     (sym (c .before .block-right4 .ensures) ∙ not-true _ (c .if4 .taken))
 
--- src/judge.rt:84:21
 slice-aggregate-read-draw : tie.Need-slice-aggregate-read-draw
 slice-aggregate-read-draw c = search needs
 
--- src/judge.rt:84:5
 read-draw-requires : tie.Need-read-draw-requires
 read-draw-requires c κs = search needs
 
--- src/judge.rt:85:16
 slice-aggregate-draw-rules : tie.Need-slice-aggregate-draw-rules
 slice-aggregate-draw-rules c = search needs
 
--- src/judge.rt:85:26
 edition-requires : tie.Need-edition-requires
 edition-requires c κs = search needs
 
--- src/judge.rt:85:5
 draw-rules-requires : tie.Need-draw-rules-requires
 draw-rules-requires c κs = search needs
 
--- src/judge.rt:66:1
 returns-5 : tie.Need-returns-5
 returns-5 c =
     let edition = c .before in

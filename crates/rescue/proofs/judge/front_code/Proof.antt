@@ -25,30 +25,24 @@ right-first right = sym (right .before .block-right .ensures) ∙ not-false _ (r
 calm : (fit : tie.Else4) → headerRules (scene (fit .before .before .before .before .before .before)) .code ≡ 0
 calm fit = sym (ap (λ f. f .code) (fit .before .before .header-rules .ensures)) ∙ fit .if4 .left
 
--- src/judge.rt:30:9
 returns : tie.Need-returns
 returns c = ragged (c .before .before .args .s .now) (c .if1 .taken)
 
--- src/judge.rt:33:9
 returns-2 : tie.Need-returns-2
 returns-2 c = short (scene (c .before)) (c .before .if1 .left) (c .if2 .taken)
 
--- src/judge.rt:35:9
 block-right-requires : tie.Need-block-right-requires
 block-right-requires c κs = search needs
 
--- src/judge.rt:36:9
 returns-3 : tie.Need-returns-3
 returns-3 c =
     let long = c .before .before in
     let whole = long .before in
     spoiled (scene whole) (whole .if1 .left) (long .if2 .left) (sym (c .before .block-right .ensures) ∙ not-true _ (c .if3 .taken))
 
--- src/judge.rt:38:9
 header-rules-requires : tie.Need-header-rules-requires
 header-rules-requires c κs = search needs
 
--- src/judge.rt:40:9
 returns-4 : tie.Need-returns-4
 returns-4 c =
     let header = c .before .before .header-rules in
@@ -58,23 +52,18 @@ returns-4 c =
     ap (λ f. f .code) (header .ensures)
     ∙ unfit (scene whole) (whole .if1 .left) (long .if2 .left) (right-first right) (rw (← header .ensures) (c .if4 .taken))
 
--- src/judge.rt:42:52
 count-requires : tie.Need-count-requires
 count-requires c κs = search needs
 
--- src/judge.rt:42:38
 mul-if5 : tie.Need-mul-if5
 mul-if5 c = search needs
 
--- src/judge.rt:42:34
 add-if5 : tie.Need-add-if5
 add-if5 c = search needs
 
--- src/judge.rt:42:19
 mul-if5-2 : tie.Need-mul-if5-2
 mul-if5-2 c = search needs
 
--- src/judge.rt:43:9
 returns-5 : tie.Need-returns-5
 returns-5 c =
     let fit = c .before .before in
@@ -83,7 +72,6 @@ returns-5 c =
     let whole = long .before in
     miscounted (scene whole) (whole .if1 .left) (long .if2 .left) (right-first right) (calm fit) (rw (← c .before .count .ensures .0) (c .if5 .taken))
 
--- src/judge.rt:26:1
 returns-6 : tie.Need-returns-6
 returns-6 c =
     let fit = c .before .before in

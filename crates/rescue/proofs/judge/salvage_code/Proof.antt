@@ -11,32 +11,27 @@ use Rattle.rescue.proofs.judge.front_code.Reads as front-code-reads
 calm : (sound : tie.Else1) → frontCode (sound .before .before .before .args .s .now) ≡ 0
 calm sound = sym (sound .before .front-code .ensures) ∙ sound .if1 .left
 
--- src/judge.rt:52:9
 front-code-requires : tie.Need-front-code-requires
 front-code-requires c κs = search needs
 
--- src/judge.rt:54:9
 returns : tie.Need-returns
 returns c =
     let a = c .before .before .before .args in
     let front = c .before .front-code in
     front .ensures ∙ front-first (a .s .now) (a .bytes) (a .numbers) (rw (← front .ensures) (c .if1 .taken))
 
--- src/judge.rt:57:9
 returns-2 : tie.Need-returns-2
 returns-2 c =
     let sound = c .before in
     let a = sound .before .before .before .args in
     no-room (a .s .now) (a .bytes) (a .numbers) (calm sound) (c .if2 .taken)
 
--- src/judge.rt:60:9
 returns-3 : tie.Need-returns-3
 returns-3 c =
     let sound = c .before .before in
     let a = sound .before .before .before .args in
     no-list (a .s .now) (a .bytes) (a .numbers) (calm sound) (c .before .if2 .left) (c .if3 .taken)
 
--- src/judge.rt:49:1
 returns-4 : tie.Need-returns-4
 returns-4 c =
     let sound = c .before .before in

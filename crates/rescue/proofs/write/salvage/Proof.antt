@@ -18,7 +18,6 @@ use Rattle.rescue.proofs.write.write_list.Reads as write-list-reads
 use Rattle.rescue.proofs.write.write_scene.Reads as write-scene-reads
 use Rattle.scene.proofs.header.count.Reads as count-reads
 
--- src/write.rt:29:9
 -- the part that is lent has the bytes of the scene
 part : (n : ℕ) (place : List ℕ) → n ≤ length place → length (take (n - 0) (drop 0 place)) ≡ n
 part n place l = part-length place 0 n (omega arith) l ∙ omega arith
@@ -33,7 +32,6 @@ allowed c =
 salvage-code-requires : tie.Need-salvage-code-requires
 salvage-code-requires c κs = search needs
 
--- src/write.rt:31:9
 returns : tie.Need-returns
 returns c =
     let code = c .before .salvage-code in
@@ -46,23 +44,18 @@ returns c =
       ),
     )
 
--- src/write.rt:33:9
 count-requires : tie.Need-count-requires
 count-requires c κs = allowed c .long
 
--- src/write.rt:35:23
 sub-write-scene : tie.Need-sub-write-scene
 sub-write-scene c = search needs
 
--- src/write.rt:35:23
 part-write-scene-start : tie.Need-part-write-scene-start
 part-write-scene-start c = search needs
 
--- src/write.rt:35:23
 part-write-scene-end : tie.Need-part-write-scene-end
 part-write-scene-end c = allowed (c .before) .room
 
--- src/write.rt:35:5
 write-scene-requires : tie.Need-write-scene-requires
 write-scene-requires c κs =
     let ok = allowed (c .before .before) in
@@ -70,7 +63,6 @@ write-scene-requires c κs =
     let e = c .before .count .ensures .0 in
     (e, rw e (ok .count), ok .front .bytes ∙ rw e, part (length (a .s .now)) (a .place .now) (ok .room))
 
--- src/write.rt:36:9
 write-list-requires : tie.Need-write-list-requires
 write-list-requires c κs =
     let after-count = c .before .before .before .before .before in
@@ -78,15 +70,12 @@ write-list-requires c κs =
     let e = after-count .count .ensures .0 in
     (rw e (ok .count), ok .front .bytes ∙ rw e, ok .listed)
 
--- src/write.rt:24:1
 same-length : tie.Need-same-length
 same-length c = search needs
 
--- src/write.rt:24:1
 same-length-2 : tie.Need-same-length-2
 same-length-2 c = search needs
 
--- src/write.rt:24:1
 returns-2 : tie.Need-returns-2
 returns-2 c =
     let list = c .before .before .write-list in

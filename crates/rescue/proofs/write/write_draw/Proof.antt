@@ -10,35 +10,27 @@ use Rattle.rescue.proofs.fresh.put_empty.Reads as put-empty-reads
 use Rattle.rescue.proofs.judge.draw_code.Reads as draw-code-reads
 use Rattle.rescue.proofs.write.copy.Reads as copy-reads
 
--- src/write.rt:66:8
 draw-code-requires : tie.Need-draw-code-requires
 draw-code-requires c κs = search needs
 
--- src/write.rt:67:36
 mul-copy : tie.Need-mul-copy
 mul-copy c = search needs
 
--- src/write.rt:67:32
 add-copy : tie.Need-add-copy
 add-copy c = search needs
 
--- src/write.rt:67:17
 mul-copy-2 : tie.Need-mul-copy-2
 mul-copy-2 c = search needs
 
--- src/write.rt:67:9
 copy-requires : tie.Need-copy-requires
 copy-requires c κs = search needs
 
--- src/write.rt:69:9
 put-empty-requires : tie.Need-put-empty-requires
 put-empty-requires c κs = search needs
 
--- src/write.rt:62:1
 same-length : tie.Need-same-length
 same-length c = search needs
 
--- src/write.rt:62:1
 returns : tie.Need-returns
 returns c =
     let test = c .before .before .before .before in
@@ -47,11 +39,9 @@ returns c =
     ∙ kept-blocks (entry .args .s .now) (entry .args .i) (length (entry .args .out .now))
     (sym (test .before .draw-code .ensures) ∙ test .if1 .taken) (entry .pre .2)
 
--- src/write.rt:62:1
 same-length-2 : tie.Need-same-length-2
 same-length-2 c = search needs
 
--- src/write.rt:62:1
 returns-2 : tie.Need-returns-2
 returns-2 c =
     let test = c .before .before .before .before in

@@ -25,45 +25,35 @@ Inv-loop s n out₀ i₀ out i = (i ≤ n) × (length out ≡ length out₀) × 
 abbrev μ-loop : tie.MeasureT-loop
 μ-loop s n out₀ i₀ out i = n - i
 
--- src/write.rt:54:5
 loop-holds : tie.Need-loop-holds Inv-loop μ-loop
 loop-holds c = search needs
 
--- src/write.rt:55:18
 mul-at : tie.Need-mul-at Inv-loop μ-loop
 mul-at c = search needs
 
--- src/write.rt:56:39
 add-write-draw : tie.Need-add-write-draw Inv-loop μ-loop
 add-write-draw c = search needs
 
--- src/write.rt:56:26
 sub-write-draw : tie.Need-sub-write-draw Inv-loop μ-loop
 sub-write-draw c = search needs
 
--- src/write.rt:56:26
 part-write-draw-start : tie.Need-part-write-draw-start Inv-loop μ-loop
 part-write-draw-start c = search needs
 
--- src/write.rt:56:26
 part-write-draw-end : tie.Need-part-write-draw-end Inv-loop μ-loop
 part-write-draw-end c = search needs
 
--- src/write.rt:56:9
 write-draw-requires : tie.Need-write-draw-requires Inv-loop μ-loop
 write-draw-requires c κs =
     let l = c .before .before .loop in
     (omega arith, omega arith, lent (l .out) (l .i) (omega arith))
 
--- src/write.rt:57:9
 add-i : tie.Need-add-i Inv-loop μ-loop
 add-i c = search needs
 
--- src/write.rt:54:5
 loop-less : tie.Need-loop-less Inv-loop μ-loop
 loop-less c = search needs
 
--- src/write.rt:54:5
 loop-again : tie.Need-loop-again Inv-loop μ-loop
 loop-again c =
     let put = c .before .before .write-draw in
@@ -79,11 +69,9 @@ loop-again c =
           (l .inv .2) (put .ensures),
     )
 
--- src/write.rt:49:1
 same-length : tie.Need-same-length Inv-loop μ-loop
 same-length c = c .before .loop .inv .1
 
--- src/write.rt:49:1
 returns : tie.Need-returns Inv-loop μ-loop
 returns c =
     let l = c .before .loop in

@@ -20,58 +20,45 @@ Inv-loop s n list₀ k₀ i₀ list k i =
 abbrev μ-loop : tie.MeasureT-loop
 μ-loop s n list₀ k₀ i₀ list k i = n - i
 
--- src/write.rt:94:5
 loop-holds : tie.Need-loop-holds Inv-loop μ-loop
 loop-holds c =
     let a = c .before .before .args in
     let none = none-listed (a .s .now) (a .list .now) in
     (omega arith, omega arith, refl, none .0, none .1)
 
--- src/write.rt:95:13
 draw-code-requires : tie.Need-draw-code-requires Inv-loop μ-loop
 draw-code-requires c κs = search needs
 
--- src/write.rt:97:22
 mul-at : tie.Need-mul-at Inv-loop μ-loop
 mul-at c = search needs
 
--- src/write.rt:98:24
 cast-list : tie.Need-cast-list Inv-loop μ-loop
 cast-list c = search needs
 
--- src/write.rt:98:13
 mul-list : tie.Need-mul-list Inv-loop μ-loop
 mul-list c = search needs
 
--- src/write.rt:98:13
 slice-write-list : tie.Need-slice-write-list Inv-loop μ-loop
 slice-write-list c = search needs
 
--- src/write.rt:99:18
 add-list : tie.Need-add-list Inv-loop μ-loop
 add-list c = search needs
 
--- src/write.rt:99:13
 mul-list-2 : tie.Need-mul-list-2 Inv-loop μ-loop
 mul-list-2 c = search needs
 
--- src/write.rt:99:13
 slice-write-list-2 : tie.Need-slice-write-list-2 Inv-loop μ-loop
 slice-write-list-2 c = simp length-set (omega arith)
 
--- src/write.rt:100:13
 add-k : tie.Need-add-k Inv-loop μ-loop
 add-k c = search needs
 
--- src/write.rt:102:9
 add-i : tie.Need-add-i Inv-loop μ-loop
 add-i c = search needs
 
--- src/write.rt:94:5
 loop-less : tie.Need-loop-less Inv-loop μ-loop
 loop-less c = search needs
 
--- src/write.rt:94:5
 loop-again : tie.Need-loop-again Inv-loop μ-loop
 loop-again c =
     let code = c .before .draw-code in
@@ -93,15 +80,12 @@ loop-again c =
     (search needs, rw (came .2) (omega arith), ap length (came .1) ∙ l .inv .2, came .2 ∙ l .inv .3 ∙ sym (t .1), came .1 ∙ l .inv .4 ∙ rw (t .0)))
     (c .if1 .came)
 
--- src/write.rt:104:5
 cast-result : tie.Need-cast-result Inv-loop μ-loop
 cast-result c = search needs
 
--- src/write.rt:88:1
 same-length : tie.Need-same-length Inv-loop μ-loop
 same-length c = search needs
 
--- src/write.rt:88:1
 returns : tie.Need-returns Inv-loop μ-loop
 returns c =
     let l = c .before .loop in

@@ -15,43 +15,33 @@ use Rattle.rescue.proofs.write.write_scene.Lts as lts
 use Rattle.rescue.proofs.write.copy.Reads as copy-reads
 use Rattle.rescue.proofs.write.write_draws.Reads as write-draws-reads
 
--- src/write.rt:45:16
 sub-copy : tie.Need-sub-copy
 sub-copy c = search needs
 
--- src/write.rt:45:16
 part-copy-start : tie.Need-part-copy-start
 part-copy-start c = search needs
 
--- src/write.rt:45:16
 part-copy-end : tie.Need-part-copy-end
 part-copy-end c = search needs
 
--- src/write.rt:45:5
 copy-requires : tie.Need-copy-requires
 copy-requires c κs = search needs
 
--- src/write.rt:47:23
 sub-write-draws : tie.Need-sub-write-draws
 sub-write-draws c = search needs
 
--- src/write.rt:47:23
 part-write-draws-start : tie.Need-part-write-draws-start
 part-write-draws-start c = search needs
 
--- src/write.rt:47:23
 part-write-draws-end : tie.Need-part-write-draws-end
 part-write-draws-end c = search needs
 
--- src/write.rt:47:5
 write-draws-requires : tie.Need-write-draws-requires
 write-draws-requires c κs = search needs
 
--- src/write.rt:41:1
 same-length : tie.Need-same-length
 same-length c = search needs
 
--- src/write.rt:41:1
 returns : tie.Need-returns
 returns c =
     let after-draws = c .before .before in
