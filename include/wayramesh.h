@@ -3,8 +3,9 @@
  *
  * A scene file goes in, and pixels come out. wayramesh_draw draws a scene in full. wayramesh_redraw takes a surface
  * from one scene to the next by drawing only the area in which they may differ. docs/FORMAT.md describes the scene file:
- * paper 01's, with paper 02's P8, P3, P1, P6 and P10. At the end of this file, wayramesh_compare says where two pictures
- * differ, and wayramesh_composite is the blending step on one pixel.
+ * paper 01's, with paper 02's P8, P3, P1, P6 and P10. wayramesh_draw_plain draws in full too, by another and slower engine.
+ * At the end of this file, wayramesh_compare says where two pictures differ, and wayramesh_composite is the blending step on
+ * one pixel.
  *
  * Link with libwayramesh.a (x86-64; it needs memcpy and memset of the C library). The library allocates nothing, keeps
  * nothing between calls, and does no input or output. examples/panel.c is a whole program.
@@ -195,6 +196,29 @@ static inline wayramesh_answer wayramesh_redraw_unmasked(const uint8_t *old, siz
                                                          int32_t *scratch, size_t scratch_len)
 {
     return wayramesh_redraw(old, old_len, new_scene, new_len, 0, old, 0, surface, surface_len, scratch, scratch_len);
+}
+
+/* ---- The plain engine ---- */
+
+/*
+ * Draws a scene in full as wayramesh_draw does, with another engine: it visits each pixel, each of its 16 samples and each
+ * edge of the path, and keeps no list of crossings. Arguments and answer are those of wayramesh_draw.
+ *
+ * It is proved that for every scene, mask, surface and scratch both calls answer the same seven numbers and leave the same
+ * bytes in the surface and the same numbers in the scratch, refusals included. So it serves to check the quick engine on
+ * the machine that runs it, not to draw in time: docs/SPEED.md says how many times slower it is.
+ */
+wayramesh_answer wayramesh_draw_plain(const uint8_t *scene, size_t scene_len,
+                                      uint32_t mask_lent, const uint8_t *mask, size_t mask_len,
+                                      uint8_t *surface, size_t surface_len,
+                                      int32_t *scratch, size_t scratch_len);
+
+/* The same without a mask. */
+static inline wayramesh_answer wayramesh_draw_plain_unmasked(const uint8_t *scene, size_t scene_len,
+                                                             uint8_t *surface, size_t surface_len,
+                                                             int32_t *scratch, size_t scratch_len)
+{
+    return wayramesh_draw_plain(scene, scene_len, 0, scene, 0, surface, surface_len, scratch, scratch_len);
 }
 
 /* ---- Two pictures compared ---- */

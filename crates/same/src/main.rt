@@ -16,8 +16,8 @@ use render::judge::SCRATCH_NUMBERS;
 ghost use Prim.Native.Nat.{_≤_};
 ghost use lib.ListN.{length};
 
-// Bytes for each of the two pictures: 524,288 pixels.
-const PICTURE_BYTES: usize = 2097152;
+// Bytes for each of the two pictures: 1,024 by 768 pixels.
+const PICTURE_BYTES: usize = 3145728;
 
 fn main() {
     if os::arg_count() != 2 {
@@ -56,21 +56,21 @@ fn lend_first(scene: &[u8], first: &mut [u8; PICTURE_BYTES]) {
 }
 
 fn draw_second(scene: &[u8], first: &mut [u8])
-    requires { ⌜ 2097152 ≤ length (now first) ⌝ }
+    requires { ⌜ 3145728 ≤ length (now first) ⌝ }
 {
     let mut second = [0u8; PICTURE_BYTES];
     lend_second(scene, first, &mut second);
 }
 
 fn lend_second(scene: &[u8], first: &mut [u8], second: &mut [u8; PICTURE_BYTES])
-    requires { ⌜ 2097152 ≤ length (now first) ⌝ }
+    requires { ⌜ 3145728 ≤ length (now first) ⌝ }
 {
     size_surfaces(scene, first, second);
 }
 
 // Both surfaces get the size that the scene asks for.
 fn size_surfaces(scene: &[u8], first: &mut [u8], second: &mut [u8])
-    requires { ⌜ (2097152 ≤ length (now first)) × (2097152 ≤ length (now second)) ⌝ }
+    requires { ⌜ (3145728 ≤ length (now first)) × (3145728 ≤ length (now second)) ⌝ }
 {
     let n = surface_bytes(picture_size(scene));
     if n <= PICTURE_BYTES {

@@ -66,6 +66,32 @@ pub extern "C" fn wayramesh_redraw(
     render::redraw(old, new, lent != 0, mask, surface, scratch)
 }
 
+// Draws a scene in full with the plain engine: the same answer, the same bytes, in more time.
+#[no_mangle]
+pub extern "C" fn wayramesh_draw_plain(
+    scene: &[u8],
+    lent: u32,
+    mask: &[u8],
+    surface: &mut [u8],
+    scratch: &mut [i32],
+) -> Answer
+    ensures { λ r. ⌜
+        r
+        ≡ drawAnswer (now (scene .entry)) (maskOf (not (eqb lent 0)) (now (mask .entry)))
+        (length (now (surface .entry))) (length (now (scratch .entry)))
+        ⌝ }
+    ensures { λ _. ⌜
+        now (surface .exit)
+        ≡ drawSurface (now (scene .entry)) (maskOf (not (eqb lent 0)) (now (mask .entry))) (now (surface .entry)) (length (now (scratch .entry)))
+        ⌝ }
+    ensures { λ _. ⌜
+        now (scratch .exit)
+        ≡ drawScratch (now (scene .entry)) (maskOf (not (eqb lent 0)) (now (mask .entry))) (length (now (surface .entry))) (now (scratch .entry))
+        ⌝ }
+{
+    plain::draw_plain(scene, lent != 0, mask, surface, scratch)
+}
+
 // Compares two pictures of one named size.
 #[no_mangle]
 pub extern "C" fn wayramesh_compare(width: u32, height: u32, a: &[u8], b: &[u8]) -> Comparison

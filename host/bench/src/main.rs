@@ -6,12 +6,14 @@
 //! `panel small`, `panel night`, `largest`. Full drawings and redraws take turns in one run: a frame is drawn, then redrawn to the other.
 //! The buffers are not cleared between calls. A redraw's time includes the rules on both scenes, a full drawing's those on
 //! one. Then come the stages of the full drawing of the first frame. The other parts are `paints`, a full drawing in each
-//! kind of paint, `blending`, blended pixels alone, `masks`, a lamp under masks, and `compare`.
+//! kind of paint, `blending`, blended pixels alone, `masks`, a lamp under masks, `plain`, the plain engine beside the quick one,
+//! and `compare`.
 #![forbid(unsafe_code)]
 
 mod blending;
 mod compare;
 mod masks;
+mod plain;
 mod stages;
 mod workloads;
 
@@ -37,6 +39,9 @@ fn main() {
     }
     if wanted("masks") {
         masks::print(budget);
+    }
+    if wanted("plain") {
+        plain::print(budget);
     }
     if wanted("compare") {
         compare::print(budget);

@@ -26,12 +26,12 @@ impl Workload {
 pub fn all() -> Vec<Workload> {
     let day = Readings::default();
     let night = day.at_night();
-    vec![
-        panel_at("panel", 1.0, &day),
-        panel_at("panel small", 0.25, &day),
-        panel_at("panel night", 1.0, &night),
-        largest(),
-    ]
+    vec![panel_at("panel", 1.0, &day), small_panel(), panel_at("panel night", 1.0, &night), largest()]
+}
+
+/// The panel at a quarter of its sides.
+pub fn small_panel() -> Workload {
+    panel_at("panel small", 0.25, &Readings::default())
 }
 
 /// The panel and its next frame: the speed needle and a door have moved.

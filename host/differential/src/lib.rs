@@ -114,13 +114,15 @@ impl Buffers {
 #[derive(Clone, Copy)]
 pub enum Call<'a> {
     Draw(&'a [u8]),
+    /// By the plain engine.
+    DrawPlain(&'a [u8]),
     Redraw(&'a [u8], &'a [u8]),
 }
 
 impl Call<'_> {
     fn scenes(&self) -> Vec<&[u8]> {
         match self {
-            Call::Draw(scene) => vec![scene],
+            Call::Draw(scene) | Call::DrawPlain(scene) => vec![scene],
             Call::Redraw(old, new) => vec![old, new],
         }
     }
@@ -133,7 +135,9 @@ pub fn compare(name: &str, call: Call, buffers: &Buffers) -> (library::Answer, B
     let lent = buffers.lent_mask();
     let mut expected = buffers.clone();
     let expected_answer = match call {
-        Call::Draw(scene) => reference::draw(scene, lent, &mut expected.surface, &mut expected.scratch),
+        Call::Draw(scene) | Call::DrawPlain(scene) => {
+            reference::draw(scene, lent, &mut expected.surface, &mut expected.scratch)
+        }
         Call::Redraw(old, new) => reference::redraw(old, new, lent, &mut expected.surface, &mut expected.scratch),
     };
 
@@ -145,10 +149,11 @@ pub fn compare(name: &str, call: Call, buffers: &Buffers) -> (library::Answer, B
     let mask = library::Mask { lent: buffers.mask_lent, bytes: guarded_mask.content() };
     let mut surface = Guarded::new(&buffers.surface, 0x5A, (shift + 7) % 16);
     let mut scratch = Guarded::new(&buffers.scratch, 0x5A5A_5A5A, shift % 4);
-    let answer = match &scenes[..] {
-        [scene] => library::draw(scene.content(), mask, surface.content_mut(), scratch.content_mut()),
-        [old, new] => library::redraw(old.content(), new.content(), mask, surface.content_mut(), scratch.content_mut()),
-        _ => unreachable!("one scene or two"),
+    let (first, last) = (scenes[0].content(), scenes[scenes.len() - 1].content());
+    let answer = match call {
+        Call::Draw(_) => library::draw(first, mask, surface.content_mut(), scratch.content_mut()),
+        Call::DrawPlain(_) => library::draw_plain(first, mask, surface.content_mut(), scratch.content_mut()),
+        Call::Redraw(..) => library::redraw(first, last, mask, surface.content_mut(), scratch.content_mut()),
     };
 
     let check = |what: &str, holds: bool| {
