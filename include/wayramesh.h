@@ -3,9 +3,12 @@
  *
  * A scene file goes in, and pixels come out. wayramesh_draw draws a scene in full. wayramesh_redraw takes a surface
  * from one scene to the next by drawing only the area in which they may differ. docs/FORMAT.md describes the scene file:
- * paper 01's, with paper 02's P8, P3, P1, P6 and P10. wayramesh_draw_plain draws in full too, by another and slower engine.
- * At the end of this file, wayramesh_compare says where two pictures differ, and wayramesh_composite is the blending step on
- * one pixel.
+ * paper 01's, with paper 02's P8, P3, P1, P6 and P10. Further down:
+ *
+ *   wayramesh_draw_plain   draws in full too, by another and slower engine
+ *   wayramesh_compare      says where two pictures differ
+ *   wayramesh_composite    is the blending step on one pixel
+ *   wayramesh_salvage      writes a spoiled scene again
  *
  * Link with libwayramesh.a (x86-64; it needs memcpy and memset of the C library). The library allocates nothing, keeps
  * nothing between calls, and does no input or output. examples/panel.c is a whole program.
@@ -29,10 +32,12 @@
  *
  *   1. Pointers. None is NULL. Each leads to as many items as its length says, and they stay there during the call. A
  *      run of length 0 is not read or written.
- *   2. Alignment. The scratch is aligned for int32_t. Scenes, mask and surface may lie at any address.
- *   3. Overlap. Surface and scratch overlap neither each other nor a scene nor the mask. Scenes and mask may overlap, and
- *      the two scenes of a redraw may be the same.
- *   4. Others. During a call no one else writes scenes and mask, and no one else reads or writes surface and scratch.
+ *   2. Alignment. The scratch is aligned for int32_t, the list of a salvage for uint32_t. Scenes, mask, surface and the
+ *      place of a salvage may lie at any address.
+ *   3. Overlap. Surface and scratch overlap neither each other nor a scene nor the mask; nor do the place and the list of a
+ *      salvage each other or the scene. Scenes and mask may overlap, and the two scenes of a redraw may be the same.
+ *   4. Others. During a call no one else writes scenes and mask, and no one else reads or writes surface, scratch, place and
+ *      list.
  *   5. Stack. There are 32 KiB of stack free.
  *   6. Floating-point environment. Round to nearest, as C programs start (fesetround(FE_TONEAREST)), and nothing flushed
  *      to zero. In another rounding mode some colours differ by 1. A call leaves the mode as it is.
@@ -92,7 +97,7 @@ extern "C" {
 /* surface_len is not 4 * width * height, or mask_len of a mask that is lent is not width * height. */
 #define WAYRAMESH_UNSUPPORTED_IMAGE_FORMAT 0x1004u
 
-/* scratch_len is below WAYRAMESH_SCRATCH_NUMBERS. */
+/* scratch_len is below WAYRAMESH_SCRATCH_NUMBERS, or place_len of a salvage is below scene_len. */
 #define WAYRAMESH_OUT_OF_MEMORY 0x1002u
 
 /* The numbers that a scratch must have at least; more do no harm. */
@@ -308,6 +313,45 @@ typedef struct wayramesh_composited {
  */
 wayramesh_composited wayramesh_composite(uint32_t mode, uint32_t coverage, uint32_t mask,
                                          wayramesh_pixel source, wayramesh_pixel destination);
+
+/* ---- A spoiled scene written again ---- */
+
+/* The numbers of a list that has room for every draw of a scene: two for each of 64. */
+#define WAYRAMESH_LIST_NUMBERS 128u
+
+/*
+ * What wayramesh_salvage answers.
+ *
+ *   code      WAYRAMESH_ACCEPTED if the scene was written. Else the code of the scene rules if block 0 breaks one or the
+ *             length is not right: WAYRAMESH_BAD_LENGTH, WAYRAMESH_BAD_CHECKSUM or WAYRAMESH_ILLEGAL_ARGUMENT, in the order
+ *             above. Else WAYRAMESH_OUT_OF_MEMORY if place_len is below scene_len.
+ *   replaced  How many draws were replaced; 0 in a refusal.
+ */
+typedef struct wayramesh_salvaged {
+    uint32_t code;
+    uint32_t replaced;
+} wayramesh_salvaged;
+
+/*
+ * Writes a scene again in which each draw that the rules refuse, judged by itself, is replaced by an empty one: blend
+ * WAYRAMESH_BLEND_SRC_OVER, paint 0x1B00, spread 0x1C00, all else zero, with fresh checks. A draw is judged by its own four
+ * checks and its own fields and path, as if a mask were lent.
+ *
+ *   scene, scene_len      The scene file. Any bytes may be given.
+ *   place, place_len      Where the scene goes, to the first scene_len bytes; those behind stay as they are.
+ *   list, list_len        Where the replaced draws are listed, in order, two numbers for each: the draw's number, and the
+ *                         code that it got. WAYRAMESH_LIST_NUMBERS are enough for every scene. A shorter list, also one of
+ *                         length 0, takes as many of the first ones as it has two numbers for, and replaced still counts
+ *                         them all; numbers behind stay as they are. Aligned for uint32_t.
+ *
+ * It is proved, for all bytes and lengths, that the call returns, that the answer, the place and the list are as described,
+ * and that a refused call writes nothing. It is proved too that the written scene passes the scene rules with a mask lent;
+ * that block 0 and every kept draw are the same in each byte, so that a kept draw draws as before; that a scene which
+ * passes is written as it is; and that salvaging a salvaged scene replaces nothing and gives the same bytes.
+ */
+wayramesh_salvaged wayramesh_salvage(const uint8_t *scene, size_t scene_len,
+                                     uint8_t *place, size_t place_len,
+                                     uint32_t *list, size_t list_len);
 
 #ifdef __cplusplus
 }

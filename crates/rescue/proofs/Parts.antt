@@ -1,15 +1,15 @@
 -- The parts of a salvaged scene, and what is left of the places that are lent.
 use mathlib.Core.Path.{_≡_, refl, sym, ap, ap₂, _∙_}
 use mathlib.Core.List.{List, [], _++_, append-nil}
-use mathlib.Core.Bool.{Bool, true, false, cond, _&&_}
-use Prim.Native.Nat.{ℕ, _+_, _*_, _%_, _≤_, _<_}
+use mathlib.Core.Bool.{Bool, true, false, _&&_}
+use Prim.Native.Nat.{ℕ, _+_, _*_, _%_, _≤_}
 use native.Mathlib.Omega.{arith}
-use lib.ListN.{length, take, drop, length-append, length-drop}
+use lib.ListN.{length, take, drop, length-drop}
 use lib.Seq.{take-at, drop-at, drop-length}
 use lib.Dec.{eqb, leb}
 use borrow.Author.Tests.{eq-eqb, ne-eqb, eqb-true, leb-true}
 use Rattle.lists.specs.Lists.{upto, over}
-use Rattle.codes.specs.Codes.{acceptedCode, badLength, badChecksum, outOfMemory}
+use Rattle.codes.specs.Codes.{badLength, badChecksum, outOfMemory}
 use Rattle.codes.proofs.Refusals.{refuses}
 use Rattle.codes.proofs.First.{sooner-none}
 use Rattle.rect.proofs.Laws.{both}
@@ -18,10 +18,10 @@ use Rattle.scene.specs.Blocks.{blockRight, blockOf}
 use Rattle.scene.specs.Header.{countOf}
 use Rattle.scene.specs.Rules.{headerRules}
 use Rattle.scene.proofs.Accepted.{header-count}
-use Rattle.rescue.specs.Fresh.{freshDraw, emptyDraw}
-use Rattle.rescue.specs.Salvaged.{drawCode, drawSpan, salvagedDraw, salvagedScene, listedTo, replacedTo}
-use Rattle.rescue.specs.Salvaged.{orCode, demandCode, frontCode, listNumbers, salvageCode, answerOf, written}
-use Rattle.rescue.specs.declared.Salvaged.{Salvaged}
+use Rattle.rescue.specs.Fresh.{freshDraw, emptyDraw, withBlocks}
+use Rattle.rescue.specs.Salvaged.{drawCode, drawSpan, salvagedDraw, salvagedScene, replacedTo}
+use Rattle.rescue.specs.Salvaged.{orCode, demandCode, frontCode, salvageCode, answerOf, written}
+use Rattle.rescue.proofs.Codes.{sound}
 
 -- ---- a draw's blocks
 module _ (s : List ℕ) (i : ℕ) where
@@ -76,35 +76,37 @@ front-passed s h =
       bytes = eqb-true _ _ (required _ badLength (refuses badLength refl) (r .1));
     }
 
-pub record Allowed (s : List ℕ) (bytes numbers : ℕ) : Type 0 where
+pub front-code : (s : List ℕ) → Front s → frontCode s ≡ 0
+front-code s f =
+    let w = both (eqb (length s % blockBytes) 0) (leb blockBytes (length s)) (f .whole) in
+    sym (sound s (eqb-true (length s % blockBytes) 0 (w .0)) (leb-true blockBytes (length s) (w .1)) (f .first) (f .header) (f .bytes))
+
+pub record Allowed (s : List ℕ) (bytes : ℕ) : Type 0 where
   pub front : Front s
   pub long : blockBytes ≤ length s
   pub count : countOf s ≤ drawLimit
   pub room : length s ≤ bytes
-  pub listed : listNumbers ≤ numbers
 
-pub call-allowed : (s : List ℕ) (bytes numbers : ℕ) → salvageCode s bytes numbers ≡ 0 → Allowed s bytes numbers
+pub call-allowed : (s : List ℕ) (bytes : ℕ) → salvageCode s bytes ≡ 0 → Allowed s bytes
 unfolding salvageCode
-call-allowed s bytes numbers h =
-    let room = demandCode (leb (length s) bytes && leb listNumbers numbers) outOfMemory in
+call-allowed s bytes h =
+    let room = demandCode (leb (length s) bytes) outOfMemory in
     let p = sooner-none (λ (c : ℕ). c) (frontCode s) room h in
     let f = front-passed s (p .0) in
-    let fits = both (leb (length s) bytes) (leb listNumbers numbers) (required _ outOfMemory (refuses outOfMemory refl) (p .1)) in
     record {
       front = f;
       long = leb-true blockBytes (length s) (both (eqb (length s % blockBytes) 0) (leb blockBytes (length s)) (f .whole) .1);
       count = header-count s (f .header);
-      room = leb-true (length s) bytes (fits .0);
-      listed = leb-true listNumbers numbers (fits .1);
+      room = leb-true (length s) bytes (required _ outOfMemory (refuses outOfMemory refl) (p .1));
     }
 
 -- ---- what a call leaves
-module _ (s : List ℕ) (bytes numbers c : ℕ) (e : c ≡ salvageCode s bytes numbers) where
-  pub refused-answer : (c ≡ 0 → ⊥) → record { code = c; replaced = 0 } ≡ answerOf s bytes numbers
+module _ (s : List ℕ) (bytes c : ℕ) (e : c ≡ salvageCode s bytes) where
+  pub refused-answer : (c ≡ 0 → ⊥) → record { code = c; replaced = 0 } ≡ answerOf s bytes
   unfolding answerOf
   refused-answer n = rw (← e, ne-eqb c 0 n)
 
-  pub salvaged-answer : (k : ℕ) → c ≡ 0 → k ≡ replacedTo s (countOf s) → record { code = c; replaced = k } ≡ answerOf s bytes numbers
+  pub salvaged-answer : (k : ℕ) → c ≡ 0 → k ≡ replacedTo s (countOf s) → record { code = c; replaced = k } ≡ answerOf s bytes
   unfolding answerOf
   salvaged-answer k z q = rw (← e, eq-eqb c 0 z, q)
 
@@ -118,5 +120,5 @@ module _ (c : ℕ) (p before : List ℕ) where
   all-written z = rw (eq-eqb c 0 z)
 
 pub scene-parts : (s : List ℕ) (n : ℕ) → n ≡ countOf s → take blockBytes s ++ upto n (salvagedDraw s) ≡ salvagedScene s
-unfolding salvagedScene
+unfolding salvagedScene withBlocks
 scene-parts s n e = rw e

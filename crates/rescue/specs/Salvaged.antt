@@ -1,6 +1,6 @@
 -- A salvaged scene: which draws are replaced, its bytes, the list, and what is refused.
-use Prim.Native.Nat.{ℕ, _*_, _%_}
-use mathlib.Core.List.{List, [], _∷_, _++_}
+use Prim.Native.Nat.{ℕ, _*_, _/_, _%_}
+use mathlib.Core.List.{List, [], _∷_}
 use mathlib.Core.Bool.{Bool, true, cond, _&&_}
 use lib.ListN.{length, take, drop}
 use lib.Dec.{eqb, leb}
@@ -11,7 +11,7 @@ use Rattle.scene.specs.Layout.{blockBytes, drawBlocks}
 use Rattle.scene.specs.Blocks.{blockRight, blockOf}
 use Rattle.scene.specs.Header.{countOf}
 use Rattle.scene.specs.Rules.{headerRules, drawFault}
-use Rattle.rescue.specs.Fresh.{freshDraw, emptyDraw}
+use Rattle.rescue.specs.Fresh.{freshDraw, emptyDraw, withBlocks}
 use Rattle.rescue.specs.declared.Salvaged.{Salvaged}
 
 -- the code of draw i, judged by itself: its four checks, then its rules, in the scene's edition; a mask counts as lent
@@ -34,7 +34,7 @@ salvagedDraw s i = cond (isKept s i) (blocksOf s i) (freshDraw i emptyDraw)
 
 -- the salvaged scene: block 0 as it is, then the draws
 unfoldable pub salvagedScene : List ℕ → List ℕ
-salvagedScene s = take blockBytes s ++ upto (countOf s) (salvagedDraw s)
+salvagedScene s = withBlocks s (salvagedDraw s)
 
 -- the replaced ones of the first n draws, in order: for each its number and its code
 unfoldable pub listedTo : List ℕ → ℕ → List ℕ
@@ -60,20 +60,20 @@ frontCode s =
     (orCode (headerRules s .code)
     (demandCode (eqb (length s) (blockBytes * blockOf (countOf s))) badLength)))
 
--- a list of 64 draws has 128 numbers
-abbrev pub listNumbers : ℕ
-listNumbers = 128
+-- then a place that is too short for the scene
+unfoldable pub salvageCode : List ℕ → ℕ → ℕ
+salvageCode s bytes = orCode (frontCode s) (demandCode (leb (length s) bytes) outOfMemory)
 
--- then a place of too few bytes, or of too few numbers for the list
-unfoldable pub salvageCode : List ℕ → ℕ → ℕ → ℕ
-salvageCode s bytes numbers = orCode (frontCode s) (demandCode (leb (length s) bytes && leb listNumbers numbers) outOfMemory)
-
-unfoldable pub answerOf : List ℕ → ℕ → ℕ → Salvaged
-answerOf s bytes numbers = record {
-  code = salvageCode s bytes numbers;
-  replaced = cond (eqb (salvageCode s bytes numbers) acceptedCode) (replacedTo s (countOf s)) 0;
+unfoldable pub answerOf : List ℕ → ℕ → Salvaged
+answerOf s bytes = record {
+  code = salvageCode s bytes;
+  replaced = cond (eqb (salvageCode s bytes) acceptedCode) (replacedTo s (countOf s)) 0;
 }
 
 -- what stands in a place afterwards: its first elements are what is written, the others are as they were; nothing is written where it is refused
 unfoldable pub written : ℕ → List ℕ → List ℕ → List ℕ
 written code p before = cond (eqb code acceptedCode) (over p before) before
+
+-- a list is never too short: the first of the replaced draws are written, as many as a place of so many numbers has two for
+unfoldable pub fitting : ℕ → List ℕ → List ℕ
+fitting numbers l = take (2 * (numbers / 2)) l

@@ -1,5 +1,6 @@
 // Blocks with fresh checks.
 use scene::blocks::checksum;
+use scene::blocks::copy;
 use scene::layout::BLOCK_BYTES;
 use scene::layout::DRAW_BLOCKS;
 use scene::layout::DRAW_BYTES;
@@ -25,24 +26,12 @@ fn seal(block: &mut [u8], b: u32)
     block[511] = (weighted / 256) as u8;
 }
 
-// The payload that stands at a place of d, put at the start of a block.
-fn put_payload(d: &[u8], at: usize, block: &mut [u8])
-    requires { ⌜ (at + payloadBytes ≤ length (now d)) × (length (now block) ≡ blockBytes) ⌝ }
-    ensures { λ _. ⌜ (length (now (block .exit)) ≡ blockBytes) × (take payloadBytes (now (block .exit)) ≡ take payloadBytes (drop at (now (d .entry)))) ⌝ }
-{
-    let mut i = 0;
-    while i < PAYLOAD_BYTES {
-        block[i] = d[at + i];
-        i += 1;
-    }
-}
-
 // Block b, from the payload that stands at a place of d.
 fn put_block(d: &[u8], at: usize, b: u32, block: &mut [u8])
     requires { ⌜ (b < 65536) × (at + payloadBytes ≤ length (now d)) × (length (now block) ≡ blockBytes) ⌝ }
     ensures { λ _. ⌜ now (block .exit) ≡ freshBlock b (take payloadBytes (drop at (now (d .entry)))) ⌝ }
 {
-    put_payload(d, at, block);
+    copy(d, at, &mut block[0..PAYLOAD_BYTES]);
     seal(block, b);
 }
 

@@ -19,9 +19,6 @@ ghost use Rattle.scene.specs.Layout.{blockBytes, drawLimit};
 ghost use Rattle.scene.specs.Blocks.{blockOf};
 ghost use Rattle.rescue.specs.Salvaged.{drawCode, frontCode, salvageCode};
 
-// The numbers that a list of all draws takes.
-pub const LIST_NUMBERS: usize = 128;
-
 // The scene rules up to the draws.
 fn front_code(s: &[u8]) -> u32
     ensures { λ r. ⌜ r ≡ frontCode (now (s .entry)) ⌝ }
@@ -45,18 +42,15 @@ fn front_code(s: &[u8]) -> u32
     ACCEPTED
 }
 
-// The same, then places that are too short: of so many bytes for the scene, of so many numbers for the list.
-pub fn salvage_code(s: &[u8], bytes: usize, numbers: usize) -> u32
-    ensures { λ r. ⌜ r ≡ salvageCode (now (s .entry)) bytes numbers ⌝ }
+// The same, then a place of too few bytes for the scene.
+pub fn salvage_code(s: &[u8], bytes: usize) -> u32
+    ensures { λ r. ⌜ r ≡ salvageCode (now (s .entry)) bytes ⌝ }
 {
     let code = front_code(s);
     if code != ACCEPTED {
         return code;
     }
     if bytes < s.len() {
-        return OUT_OF_MEMORY;
-    }
-    if numbers < LIST_NUMBERS {
         return OUT_OF_MEMORY;
     }
     ACCEPTED

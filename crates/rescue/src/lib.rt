@@ -4,6 +4,7 @@ pub mod judge;
 pub mod write;
 
 // The code, 0 for none, and how many draws were replaced.
+#[repr(C)]
 pub struct Salvaged {
     pub code: u32,
     pub replaced: u32,

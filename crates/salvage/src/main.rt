@@ -4,7 +4,7 @@
 //     replaced N          how many draws were replaced, then a line `DRAW CODE` for each
 //     refused CODE        block 0 or the length is wrong, and no file is written
 //
-// The file is written under another name first and then renamed, so that one that was there is replaced whole or not at all.
+// The file is written under another name first, which must be free, and then renamed, so that one that was there is replaced whole or not at all.
 use codes::ACCEPTED;
 use console::Line;
 use console::files::FILE_BUFFER;
@@ -89,7 +89,7 @@ fn write_file(bytes: &[u8]) -> bool {
         return false;
     }
     if NAME_LIMIT < n {
-        os::fail(&name);
+        io::write_all(libc::STDERR_FILENO, b"OUT: File name too long\n");
         return false;
     }
     let mut other = io::buffer();
@@ -109,12 +109,12 @@ fn replace_file(name: &[u8], other: &mut [u8], n: usize, bytes: &[u8]) -> bool
 }
 
 fn put_file(name: &[u8], other: &[u8], bytes: &[u8]) -> bool {
-    let fd = os::open_overwrite(other);
+    let fd = os::create(other);
     if fd < 0 {
         os::fail(other);
         return false;
     }
-    let whole = io::write_all(fd, bytes);
+    let whole = io::write_all(fd, bytes) && libc::fsync(fd) == 0;
     let closed = libc::close(fd);
     if whole && closed == 0 && os::rename(other, name) == 0 {
         return true;

@@ -9,11 +9,11 @@
 --     Verdicts   the verdict, by how far the rules are kept
 --     Places     a block passes at one number only
 mod Sums
-mod Copies
+pub mod Copies
 mod Same
 mod First
 mod Sizes
 mod Paths
 pub mod Accepted
-mod Verdicts
+pub mod Verdicts
 pub mod Places

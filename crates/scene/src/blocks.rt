@@ -66,7 +66,7 @@ pub fn read_draw(s: &[u8], i: usize, out: &mut [u8])
 }
 
 // The bytes from a place on, as many as out takes.
-fn copy(s: &[u8], at: usize, out: &mut [u8])
+pub fn copy(s: &[u8], at: usize, out: &mut [u8])
     requires { ⌜ at + length (now out) ≤ length (now s) ⌝ }
     ensures { λ _. ⌜ now (out .exit) ≡ take (length (now (out .entry))) (drop at (now (s .entry))) ⌝ }
 {

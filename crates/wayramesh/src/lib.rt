@@ -1,4 +1,6 @@
 // The C interface: include/wayramesh.h tells a C caller what these functions take and answer.
+pub mod salvage;
+
 use blend::Composited;
 use color::Pixel;
 use difference::Comparison;

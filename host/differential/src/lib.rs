@@ -11,7 +11,7 @@ use generate::{masks, Random};
 use reference::picture::SCRATCH_NUMBERS;
 
 /// A buffer between two guards, at an offset from where it was allocated.
-struct Guarded<T> {
+pub struct Guarded<T> {
     items: Vec<T>,
     start: usize,
     end: usize,
@@ -22,7 +22,7 @@ impl<T: Copy + PartialEq + Debug> Guarded<T> {
     const GUARD: usize = 64;
 
     /// `shift` below 16 moves the buffer, for bytes off every alignment.
-    fn new(content: &[T], guard: T, shift: usize) -> Guarded<T> {
+    pub fn new(content: &[T], guard: T, shift: usize) -> Guarded<T> {
         let start = Self::GUARD + shift;
         let mut items = vec![guard; start];
         items.extend_from_slice(content);
@@ -31,15 +31,15 @@ impl<T: Copy + PartialEq + Debug> Guarded<T> {
         Guarded { items, start, end, guard }
     }
 
-    fn content(&self) -> &[T] {
+    pub fn content(&self) -> &[T] {
         &self.items[self.start..self.end]
     }
 
-    fn content_mut(&mut self) -> &mut [T] {
+    pub fn content_mut(&mut self) -> &mut [T] {
         &mut self.items[self.start..self.end]
     }
 
-    fn guards_hold(&self) -> bool {
+    pub fn guards_hold(&self) -> bool {
         let outside = self.items[..self.start].iter().chain(&self.items[self.end..]);
         outside.into_iter().all(|&item| item == self.guard)
     }

@@ -1,6 +1,6 @@
 //! Random scenes spoiled in a few places. Most have fresh checks, so that the rules behind the checks are met.
 
-use scene::{file_offset, seal_block, Scene, BLOCK};
+use scene::{file_offset, seal_block, seal_block_from, Scene, BLOCK};
 
 use crate::places::exchange;
 use crate::Random;
@@ -12,6 +12,48 @@ pub fn damaged(random: &mut Random, scene: &Scene) -> Vec<u8> {
         spoil(random, &mut bytes);
     }
     bytes
+}
+
+/// What may happen to one block of a file: a change, given the file and the block's number.
+pub type Damage = (&'static str, fn(&mut Vec<u8>, usize));
+
+/// Damage of a whole block, with the check as it was, with a wrong one, and with a fresh one.
+pub const OF_A_BLOCK: [Damage; 11] = [
+    ("zeros", |file, block| whole(file, block).fill(0)),
+    ("zeros, sealed", |file, block| {
+        whole(file, block).fill(0);
+        seal_block(file, block);
+    }),
+    // Zeros have the sums b and b: 65,521 more is the same number modulo 65,521, and is wrong.
+    ("zeros, a check that is only congruent", |file, block| {
+        whole(file, block).fill(0);
+        let sum = (65_521 + block.min(14)) as u16;
+        whole(file, block)[508..510].copy_from_slice(&sum.to_le_bytes());
+        whole(file, block)[510..].copy_from_slice(&sum.to_le_bytes());
+    }),
+    ("ones", |file, block| whole(file, block).fill(0xFF)),
+    ("ones, sealed", |file, block| {
+        whole(file, block).fill(0xFF);
+        seal_block(file, block);
+    }),
+    ("the next block's bytes", next_block),
+    ("the next block's bytes, sealed", |file, block| {
+        next_block(file, block);
+        seal_block(file, block);
+    }),
+    ("sums from 0", |file, block| seal_block_from(file, block, 0)),
+    ("sums from the next number", |file, block| seal_block_from(file, block, block as u64 + 1)),
+    ("cut off", |file, block| file.truncate(BLOCK * block)),
+    ("cut off behind its first byte", |file, block| file.truncate(BLOCK * block + 1)),
+];
+
+fn whole(file: &mut [u8], block: usize) -> &mut [u8] {
+    &mut file[BLOCK * block..][..BLOCK]
+}
+
+fn next_block(file: &mut Vec<u8>, block: usize) {
+    let next = (block + 1) % (file.len() / BLOCK);
+    file.copy_within(BLOCK * next..BLOCK * (next + 1), BLOCK * block);
 }
 
 fn spoil(random: &mut Random, bytes: &mut Vec<u8>) {

@@ -24,10 +24,12 @@ pub const OUT_OF_MEMORY: u32 = 0x1002;
 mod compare;
 mod composite;
 mod plain;
+mod salvage;
 
 pub use compare::{compare, Comparison};
 pub use composite::{composite, Composited, Pixel};
 pub use plain::draw_plain;
+pub use salvage::{salvage, Salvaged};
 
 /// The mask of a call, a byte for each pixel. With 0 in `lent` there is none, whatever the bytes are; with any other number
 /// it is lent.

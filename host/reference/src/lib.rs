@@ -20,6 +20,7 @@ pub mod print;
 pub mod radial;
 pub mod redraw;
 pub mod rules;
+pub mod salvage;
 pub mod transform;
 
 pub use answer::{Answer, Fault, Rectangle};

@@ -83,6 +83,15 @@ pub struct DrawFault {
 
 /// The scene in a file, or its first fault; a draw may ask for a mask only where one is lent.
 pub fn scene(bytes: &[u8], mask_lent: bool) -> Result<Scene, Fault> {
+    let header = front(bytes)?;
+    let rules = Rules { mask_lent, edition: header.edition };
+    let draws = (0..header.draws).map(|i| rules.numbered_draw(bytes, i)).collect::<Result<_, _>>()?;
+    let Header { width, height, background, edition, .. } = header;
+    Ok(Scene { width, height, background, edition, draws })
+}
+
+/// What is judged before the draws: whole blocks, block 0, and the length that its count asks for.
+pub(crate) fn front(bytes: &[u8]) -> Result<Header, Fault> {
     let fault = |code, offset| Fault { code, draw: NO_DRAW, offset };
     if bytes.len() % file::BLOCK != 0 || bytes.len() < file::BLOCK {
         return Err(fault(BAD_LENGTH, 0));
@@ -94,17 +103,15 @@ pub fn scene(bytes: &[u8], mask_lent: bool) -> Result<Scene, Fault> {
     if bytes.len() != file::length(header.draws) {
         return Err(fault(BAD_LENGTH, 0));
     }
-    let rules = Rules { mask_lent, edition: header.edition };
-    let draws = (0..header.draws).map(|i| rules.numbered_draw(bytes, i)).collect::<Result<_, _>>()?;
-    let Header { width, height, background, edition, .. } = header;
-    Ok(Scene { width, height, background, edition, draws })
+    Ok(header)
 }
 
-struct Header {
+/// The fields of block 0.
+pub(crate) struct Header {
     width: u32,
     height: u32,
-    draws: usize,
-    edition: Edition,
+    pub draws: usize,
+    pub edition: Edition,
     background: [u8; 4],
 }
 
@@ -134,7 +141,7 @@ pub struct Rules {
 
 impl Rules {
     /// The four checks of draw `index`, then the rules on its bytes.
-    fn numbered_draw(&self, bytes: &[u8], index: usize) -> Result<Draw, Fault> {
+    pub(crate) fn numbered_draw(&self, bytes: &[u8], index: usize) -> Result<Draw, Fault> {
         let fault = |code, offset| Fault { code, draw: index as u32, offset };
         for block in file::first_block(index)..file::first_block(index + 1) {
             if !file::check_holds(bytes, block) {

@@ -4,7 +4,7 @@
 use std::fs;
 use std::path::{Path, PathBuf};
 
-use reference::{print, rules};
+use reference::{print, rules, salvage};
 
 fn vectors() -> PathBuf {
     Path::new(env!("CARGO_MANIFEST_DIR")).join("../../tests/vectors")
@@ -100,4 +100,19 @@ fn faults_of_the_edge_cases() {
 fn files_with_prefix(prefix: &str) -> usize {
     let named = |path: &&PathBuf| path.file_name().map_or(false, |name| name.to_string_lossy().starts_with(prefix));
     files("draw", "scene").iter().filter(named).count()
+}
+
+/// What the program prints, and the file that it writes; none where the scene is refused.
+#[test]
+fn salvages() {
+    let scenes = files("salvage", "scene");
+    assert_eq!(scenes.len(), 30);
+    for path in scenes {
+        let scene = read(&path);
+        check(&path, &salvage::printed(&scene));
+        let mut place = vec![0; scene.len()];
+        let written = salvage::salvage(&scene, &mut place).is_ok();
+        assert_eq!(written, path.with_extension("salvaged").exists(), "{}", path.display());
+        assert!(!written || place == read(&path.with_extension("salvaged")), "{}", path.display());
+    }
 }

@@ -8,7 +8,7 @@ use Rattle.lists.proofs.Laws.{part-length, take-end}
 use Rattle.scene.specs.Layout.{blockBytes, payloadBytes, drawBlocks}
 use Rattle.scene.specs.Blocks.{blockOf}
 use Rattle.rescue.specs.Fresh.{freshBlock, freshDraw}
-use Rattle.rescue.proofs.Copied.{part-kept, part-turn}
+use Rattle.scene.proofs.Copies.{part-kept, part-turn}
 use borrow.Author.Needs.{needs}
 use Rattle.rescue.proofs.fresh.put_draw.Statement.{statement}
 use Rattle.rescue.proofs.fresh.put_draw.Tie as tie

@@ -1,6 +1,6 @@
 use mathlib.Core.Path.{_≡_, sym, _∙_}
 use Rattle.rescue.specs.Salvaged.{frontCode}
-use Rattle.rescue.proofs.Codes.{front-first, no-room, no-list, allowed}
+use Rattle.rescue.proofs.Codes.{front-first, no-room, allowed}
 use borrow.Author.Needs.{needs}
 use Rattle.rescue.proofs.judge.salvage_code.Statement.{statement}
 use Rattle.rescue.proofs.judge.salvage_code.Tie as tie
@@ -18,25 +18,19 @@ returns : tie.Need-returns
 returns c =
     let a = c .before .before .before .args in
     let front = c .before .front-code in
-    front .ensures ∙ front-first (a .s .now) (a .bytes) (a .numbers) (rw (← front .ensures) (c .if1 .taken))
+    front .ensures ∙ front-first (a .s .now) (a .bytes) (rw (← front .ensures) (c .if1 .taken))
 
 returns-2 : tie.Need-returns-2
 returns-2 c =
     let sound = c .before in
     let a = sound .before .before .before .args in
-    no-room (a .s .now) (a .bytes) (a .numbers) (calm sound) (c .if2 .taken)
+    no-room (a .s .now) (a .bytes) (calm sound) (c .if2 .taken)
 
 returns-3 : tie.Need-returns-3
 returns-3 c =
-    let sound = c .before .before in
+    let sound = c .before in
     let a = sound .before .before .before .args in
-    no-list (a .s .now) (a .bytes) (a .numbers) (calm sound) (c .before .if2 .left) (c .if3 .taken)
-
-returns-4 : tie.Need-returns-4
-returns-4 c =
-    let sound = c .before .before in
-    let a = sound .before .before .before .args in
-    allowed (a .s .now) (a .bytes) (a .numbers) (calm sound) (c .before .if2 .left) (c .if3 .left)
+    allowed (a .s .now) (a .bytes) (calm sound) (c .if2 .left)
 
 pub salvage-code-spec : {M : Type 1} → statement M
-salvage-code-spec = tie.close (tie.spec front-code-requires returns returns-2 returns-3 returns-4)
+salvage-code-spec = tie.close (tie.spec front-code-requires returns returns-2 returns-3)

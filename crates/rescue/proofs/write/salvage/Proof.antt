@@ -6,7 +6,7 @@ use lib.ListN.{length, take, drop}
 use Rattle.lists.specs.Lists.{over}
 use Rattle.lists.proofs.Laws.{part-length}
 use Rattle.scene.specs.Header.{countOf}
-use Rattle.rescue.specs.Salvaged.{salvagedScene, listedTo, replacedTo}
+use Rattle.rescue.specs.Salvaged.{salvagedScene, listedTo, replacedTo, fitting}
 use Rattle.rescue.proofs.Parts.{Allowed, call-allowed, refused-answer, salvaged-answer, nothing-written, all-written, front-part}
 use borrow.Author.Needs.{needs}
 use Rattle.rescue.proofs.write.salvage.Statement.{statement}
@@ -24,10 +24,10 @@ part n place l = part-length place 0 n (omega arith) l ∙ omega arith
 
 -- nothing is refused
 allowed : (c : tie.Else1)
-    → let a = c .before .before .before .before .before .args in Allowed (a .s .now) (length (a .place .now)) (length (a .list .now))
+    → let a = c .before .before .before .before .before .args in Allowed (a .s .now) (length (a .place .now))
 allowed c =
     let a = c .before .before .before .before .before .args in
-    call-allowed (a .s .now) (length (a .place .now)) (length (a .list .now)) (sym (c .before .salvage-code .ensures) ∙ c .if1 .left)
+    call-allowed (a .s .now) (length (a .place .now)) (sym (c .before .salvage-code .ensures) ∙ c .if1 .left)
 
 salvage-code-requires : tie.Need-salvage-code-requires
 salvage-code-requires c κs = search needs
@@ -37,10 +37,10 @@ returns c =
     let code = c .before .salvage-code in
     let a = c .before .before .before .before .before .args in
     let s = a .s .now in (
-      refused-answer s (length (a .place .now)) (length (a .list .now)) (code .result) (code .ensures) (c .if1 .taken),
+      refused-answer s (length (a .place .now)) (code .result) (code .ensures) (c .if1 .taken),
       (
         nothing-written (code .result) (salvagedScene s) (a .place .now) (c .if1 .taken),
-        nothing-written (code .result) (listedTo s (countOf s)) (a .list .now) (c .if1 .taken),
+        nothing-written (code .result) (fitting (length (a .list .now)) (listedTo s (countOf s))) (a .list .now) (c .if1 .taken),
       ),
     )
 
@@ -68,7 +68,7 @@ write-list-requires c κs =
     let after-count = c .before .before .before .before .before in
     let ok = allowed (after-count .before) in
     let e = after-count .count .ensures .0 in
-    (rw e (ok .count), ok .front .bytes ∙ rw e, ok .listed)
+    (rw e (ok .count), ok .front .bytes ∙ rw e)
 
 same-length : tie.Need-same-length
 same-length c = search needs
@@ -91,13 +91,13 @@ returns-2 c =
     let place = a .place .now in
     let q = scene .last .1 .1 .0 in
     let wide : length q ≡ length s = scene .kept .1 .1 .0 ∙ part (length s) place (ok .room) in (
-      salvaged-answer s (length place) (length (a .list .now)) (code .result) (code .ensures) (list .result) (test .if1 .left)
+      salvaged-answer s (length place) (code .result) (code .ensures) (list .result) (test .if1 .left)
           (list .ensures .0 ∙ ap (replacedTo s) e),
       (
         front-part place q (length s - 0) (omega (arith, wide)) ∙ ap (λ (x : List ℕ). over x place) (scene .ensures)
             ∙ all-written (code .result) (salvagedScene s) place (test .if1 .left),
-        list .ensures .1 ∙ ap (λ (n : ℕ). over (listedTo s n) (a .list .now)) e
-            ∙ all-written (code .result) (listedTo s (countOf s)) (a .list .now) (test .if1 .left),
+        list .ensures .1 ∙ ap (λ (n : ℕ). over (fitting (length (a .list .now)) (listedTo s n)) (a .list .now)) e
+            ∙ all-written (code .result) (fitting (length (a .list .now)) (listedTo s (countOf s))) (a .list .now) (test .if1 .left),
       ),
     )
 

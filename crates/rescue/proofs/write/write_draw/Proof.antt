@@ -1,4 +1,4 @@
-use mathlib.Core.Path.{_≡_, sym, _∙_}
+use mathlib.Core.Path.{sym, _∙_}
 use lib.ListN.{length}
 use Rattle.rescue.proofs.Parts.{kept-blocks, empty-blocks}
 use borrow.Author.Needs.{needs}
@@ -8,7 +8,7 @@ use Rattle.rescue.proofs.write.write_draw.Reads as reads
 use Rattle.rescue.proofs.write.write_draw.Lts as lts
 use Rattle.rescue.proofs.fresh.put_empty.Reads as put-empty-reads
 use Rattle.rescue.proofs.judge.draw_code.Reads as draw-code-reads
-use Rattle.rescue.proofs.write.copy.Reads as copy-reads
+use Rattle.scene.proofs.blocks.copy.Reads as copy-reads
 
 draw-code-requires : tie.Need-draw-code-requires
 draw-code-requires c κs = search needs

@@ -6,7 +6,7 @@ use lib.ListN.{length, take, drop}
 use Rattle.lists.specs.Lists.{upto}
 use Rattle.lists.proofs.Laws.{part-length, take-end}
 use Rattle.rescue.specs.Salvaged.{drawSpan, salvagedDraw}
-use Rattle.rescue.proofs.Copied.{part-kept, part-turn}
+use Rattle.scene.proofs.Copies.{part-kept, part-turn}
 use borrow.Author.Needs.{needs}
 use Rattle.rescue.proofs.write.write_draws.Statement.{statement}
 use Rattle.rescue.proofs.write.write_draws.Tie as tie

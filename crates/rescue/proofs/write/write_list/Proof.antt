@@ -2,9 +2,9 @@ use mathlib.Core.Path.{_≡_, refl, sym, ap, _∙_}
 use mathlib.Core.Logic.{⊎-elim}
 use Prim.Native.Nat.{_-_, _≤_}
 use native.Mathlib.Omega.{arith}
-use lib.ListN.{length, length-set}
+use lib.ListN.{length}
 use Rattle.lists.specs.Lists.{over}
-use Rattle.rescue.specs.Salvaged.{drawCode, listedTo, replacedTo}
+use Rattle.rescue.specs.Salvaged.{drawCode, listedTo, replacedTo, fitting}
 use Rattle.rescue.proofs.Listed.{none-listed, kept-turn, replaced-turn, listed-turn}
 use borrow.Author.Needs.{needs}
 use Rattle.rescue.proofs.write.write_list.Statement.{statement}
@@ -12,10 +12,11 @@ use Rattle.rescue.proofs.write.write_list.Tie as tie
 use Rattle.rescue.proofs.write.write_list.Reads as reads
 use Rattle.rescue.proofs.write.write_list.Lts as lts
 use Rattle.rescue.proofs.judge.draw_code.Reads as draw-code-reads
+use Rattle.rescue.proofs.write.put_entry.Reads as put-entry-reads
 
 abbrev Inv-loop : tie.InvT-loop
 Inv-loop s n list₀ k₀ i₀ list k i =
-    (i ≤ n) × (k ≤ i) × (length list ≡ length list₀) × (k ≡ replacedTo s i) × (list ≡ over (listedTo s i) list₀)
+    (i ≤ n) × (k ≤ i) × (length list ≡ length list₀) × (k ≡ replacedTo s i) × (list ≡ over (fitting (length list₀) (listedTo s i)) list₀)
 
 abbrev μ-loop : tie.MeasureT-loop
 μ-loop s n list₀ k₀ i₀ list k i = n - i
@@ -29,26 +30,11 @@ loop-holds c =
 draw-code-requires : tie.Need-draw-code-requires Inv-loop μ-loop
 draw-code-requires c κs = search needs
 
-mul-at : tie.Need-mul-at Inv-loop μ-loop
-mul-at c = search needs
+cast-put-entry : tie.Need-cast-put-entry Inv-loop μ-loop
+cast-put-entry c = search needs
 
-cast-list : tie.Need-cast-list Inv-loop μ-loop
-cast-list c = search needs
-
-mul-list : tie.Need-mul-list Inv-loop μ-loop
-mul-list c = search needs
-
-slice-write-list : tie.Need-slice-write-list Inv-loop μ-loop
-slice-write-list c = search needs
-
-add-list : tie.Need-add-list Inv-loop μ-loop
-add-list c = search needs
-
-mul-list-2 : tie.Need-mul-list-2 Inv-loop μ-loop
-mul-list-2 c = search needs
-
-slice-write-list-2 : tie.Need-slice-write-list-2 Inv-loop μ-loop
-slice-write-list-2 c = simp length-set (omega arith)
+put-entry-requires : tie.Need-put-entry-requires Inv-loop μ-loop
+put-entry-requires c κs = search needs
 
 add-k : tie.Need-add-k Inv-loop μ-loop
 add-k c = search needs
@@ -67,13 +53,14 @@ loop-again c =
     let s = a .s .now in
     ⊎-elim
     (λ came.
+    let call = came .2 in
     let bad : drawCode s (l .i) ≡ 0 → ⊥ = rw (← code .ensures) (came .0 .taken) in
     let e = replaced-turn s (l .i) bad .1 in (
       search needs,
-      rw (came .2) (omega arith),
-      ap length (came .1) ∙ simp length-set (l .inv .2),
-      came .2 ∙ rw (e, l .inv .3),
-      came .1 ∙ listed-turn s (l .i) (l .list) (a .list .now) (l .k) (code .result) bad (code .ensures) (l .inv .3) (omega arith) (l .inv .4),
+      rw (came .6) (omega arith),
+      ap length (came .5) ∙ call .kept .0 ∙ l .inv .2,
+      came .6 ∙ rw (e, l .inv .3),
+      came .5 ∙ call .ensures ∙ listed-turn s (l .i) (l .list) (a .list .now) (l .k) (code .result) bad (code .ensures) (l .inv .3) (l .inv .4) (l .inv .2),
     ))
     (λ came.
     let t = kept-turn s (l .i) (sym (code .ensures) ∙ came .0 .left) in
@@ -101,13 +88,8 @@ write-list-spec =
     μ-loop
     loop-holds
     draw-code-requires
-    mul-at
-    cast-list
-    mul-list
-    slice-write-list
-    add-list
-    mul-list-2
-    slice-write-list-2
+    cast-put-entry
+    put-entry-requires
     add-k
     add-i
     loop-less

@@ -5,14 +5,14 @@ use native.Mathlib.Omega.{arith}
 use lib.ListN.{length, take, drop}
 use lib.Seq.{length-take-le}
 use Rattle.rescue.specs.Salvaged.{drawSpan}
-use Rattle.rescue.proofs.Copied.{part-kept}
+use Rattle.scene.proofs.Copies.{part-kept}
 use Rattle.rescue.proofs.Parts.{two-parts, scene-parts}
 use borrow.Author.Needs.{needs}
 use Rattle.rescue.proofs.write.write_scene.Statement.{statement}
 use Rattle.rescue.proofs.write.write_scene.Tie as tie
 use Rattle.rescue.proofs.write.write_scene.Reads as reads
 use Rattle.rescue.proofs.write.write_scene.Lts as lts
-use Rattle.rescue.proofs.write.copy.Reads as copy-reads
+use Rattle.scene.proofs.blocks.copy.Reads as copy-reads
 use Rattle.rescue.proofs.write.write_draws.Reads as write-draws-reads
 
 sub-copy : tie.Need-sub-copy
