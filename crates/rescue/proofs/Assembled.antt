@@ -61,10 +61,10 @@ byFields w h n e rest =
     (orElse (must (leb e newEdition) editionAt) rest)))
 
 module _ (s t : List ℕ) (same : take blockBytes t ≡ take blockBytes s) where
-  byte-same : (p : ℕ) → p < blockBytes → getD t p 0 ≡ getD s p 0
+  pub byte-same : (p : ℕ) → p < blockBytes → getD t p 0 ≡ getD s p 0
   byte-same p l = sym (getD-take blockBytes t p 0 l) ∙ ap (λ (x : List ℕ). getD x p 0) same ∙ getD-take blockBytes s p 0 l
 
-  word-same : (p : ℕ) → p < 511 → getD t p 0 + getD t (p + 1) 0 * 256 ≡ getD s p 0 + getD s (p + 1) 0 * 256
+  pub word-same : (p : ℕ) → p < 511 → getD t p 0 + getD t (p + 1) 0 * 256 ≡ getD s p 0 + getD s (p + 1) 0 * 256
   word-same p l = ap₂ (λ (x y : ℕ). x + y * 256) (byte-same p (omega arith)) (byte-same (p + 1) (omega arith))
 
   pub count-same : countOf t ≡ countOf s

@@ -3,6 +3,7 @@
 //! - [`scenes`]: random scenes that the rules mostly accept, and pairs of them for a redraw.
 //! - [`damage`]: random scenes spoiled in a few bytes, with their checks made fresh or not.
 //! - [`masks`]: random masks for them.
+//! - [`orders`]: scenes of small draws, and their draws in another order.
 //! - [`places`]: blocks of a sound file out of place.
 //! - [`rules`]: both sides of every rule, with the answer that the paper gives.
 //! - [`transforms`]: random colour transformations for scenes of edition 1.
@@ -11,6 +12,7 @@
 
 pub mod damage;
 pub mod masks;
+pub mod orders;
 pub mod paths;
 pub mod places;
 pub mod radial;

@@ -44,8 +44,8 @@ pub fn damage(old: &Scene, new: &Scene) -> Rectangle {
 }
 
 /// A box of pixels, both ends included.
-#[derive(Clone, Copy)]
-struct Bounds {
+#[derive(Clone, Copy, Debug)]
+pub struct Bounds {
     left: i64,
     right: i64,
     bottom: i64,
@@ -63,7 +63,18 @@ impl Bounds {
         }
     }
 
-    fn rectangle(self) -> Rectangle {
+    /// The pixels of both; None where they share none.
+    pub fn meet(self, other: Bounds) -> Option<Bounds> {
+        let shared = Bounds {
+            left: self.left.max(other.left),
+            right: self.right.min(other.right),
+            bottom: self.bottom.max(other.bottom),
+            top: self.top.min(other.top),
+        };
+        (shared.left <= shared.right && shared.bottom <= shared.top).then_some(shared)
+    }
+
+    pub fn rectangle(self) -> Rectangle {
         Rectangle {
             x: self.left as u32,
             y: self.bottom as u32,
@@ -74,7 +85,7 @@ impl Bounds {
 }
 
 /// A draw's box over all edge ends, cut to the surface; None where no pixel is left.
-fn bounds(draw: &Draw, width: u32, height: u32) -> Option<Bounds> {
+pub fn bounds(draw: &Draw, width: u32, height: u32) -> Option<Bounds> {
     let (left, right) = pixels(&draw.edges, |p| p.x, width)?;
     let (bottom, top) = pixels(&draw.edges, |p| p.y, height)?;
     Some(Bounds { left, right, bottom, top })
