@@ -6,11 +6,14 @@
  *     ./panel scenes/panel.scene scenes/panel-next.scene > panel.pam  two scene files
  *     ./panel scenes/panel-soft.scene scenes/panel-soft-next.scene scenes/panel-soft.mask > panel.pam
  *                                                                     and a mask for both, a byte for each pixel
+ *     host/target/debug/picture-to-png panel.pam panel.png            as a PNG image, after `cargo build --offline` in host
  *
- * What the two calls answered goes to standard error.
+ * What the two calls answered goes to standard error. The exit status is 0 if both have drawn, 1 if one was refused or a scene
+ * could not be made, 2 if a file could not be read.
  */
 
 #include "wayramesh.h"
+#include "wayramesh_scene.h"
 
 #include <stdio.h>
 #include <stdlib.h>
@@ -18,144 +21,50 @@
 
 /* ---- A scene in code ------------------------------------------------------------------------------------------ */
 
-enum { PAYLOAD = 508, DRAW_BLOCKS = 4, DRAW_BYTES = PAYLOAD * DRAW_BLOCKS, GAUGE_DRAWS = 3 };
-enum { GAUGE_BYTES = (int)WAYRAMESH_BLOCK_BYTES * (1 + DRAW_BLOCKS * GAUGE_DRAWS) };
 enum { GAUGE_WIDTH = 64, GAUGE_HEIGHT = 24, BEZEL = 4, FADE = 6 };
+enum { GAUGE_DRAWS = 3, GAUGE_BYTES = WAYRAMESH_SCENE_BYTES(GAUGE_DRAWS) };
 
-/* The flag of a draw that asks for the mask. */
-enum { MASKED = 1 << 3 };
-
-static void put_u16(uint8_t *at, unsigned value)
+/* The trough, lit from above by a radial gradient. */
+static void draw_trough(wayramesh_scene *scene)
 {
-    at[0] = (uint8_t)(value & 255u);
-    at[1] = (uint8_t)(value >> 8 & 255u);
+    wayramesh_scene_draw(scene, WAYRAMESH_BLEND_SRC_OVER, 0);
+    wayramesh_scene_radial(scene, 32.0f, 12.0f, 32.0f, 16.0f, 40.0f, WAYRAMESH_SPREAD_PAD);
+    wayramesh_scene_stop(scene, 0.0f, 0.45f, 0.45f, 0.5f, 1.0f);
+    wayramesh_scene_stop(scene, 1.0f, 0.15f, 0.15f, 0.2f, 1.0f);
+    wayramesh_scene_rectangle(scene, 2, 4, 62, 20);
 }
 
-static void put_f32(uint8_t *at, float value)
+/* The filling, a ramp from green to red that fades under the mask. */
+static void draw_filling(wayramesh_scene *scene)
 {
-    uint32_t bits;
-    memcpy(&bits, &value, sizeof bits);
-    put_u16(at, bits & 65535u);
-    put_u16(at + 2, bits >> 16);
+    wayramesh_scene_draw(scene, WAYRAMESH_BLEND_SRC_OVER, WAYRAMESH_FLAG_MASKED);
+    wayramesh_scene_linear(scene, 4.0f, 0.0f, 60.0f, 0.0f, WAYRAMESH_SPREAD_PAD);
+    wayramesh_scene_stop(scene, 0.0f, 0.0f, 0.8f, 0.0f, 1.0f);
+    wayramesh_scene_stop(scene, 1.0f, 0.9f, 0.0f, 0.0f, 1.0f);
+    wayramesh_scene_rectangle(scene, 4, 6, 60, 18);
 }
 
-/* Copies a payload into the block of a file and writes the block's check, both sums of which begin at its number. */
-static void put_block(uint8_t *file, uint32_t number, const uint8_t *payload)
+/* The needle at a column. */
+static void draw_needle(wayramesh_scene *scene, int column)
 {
-    uint8_t *block = file + WAYRAMESH_BLOCK_BYTES * number;
-    uint32_t sum = number, weighted = number;
-    for (uint32_t i = 1; i <= PAYLOAD / 2; i++) {
-        uint32_t word = (uint32_t)(payload[2 * i - 2] | payload[2 * i - 1] << 8);
-        sum = (sum + word) % 65521u;
-        weighted = (weighted + i * word) % 65521u;
-    }
-    memcpy(block, payload, PAYLOAD);
-    put_u16(block + PAYLOAD, sum);
-    put_u16(block + PAYLOAD + 2, weighted);
+    const int32_t tip[] = {column - 3, 22, column, 2, column + 3, 22};
+    wayramesh_scene_draw(scene, WAYRAMESH_BLEND_SRC_OVER, 0);
+    wayramesh_scene_color(scene, 1.0f, 1.0f, 1.0f, 1.0f);
+    wayramesh_scene_polygon(scene, tip, 3);
 }
 
-/* The fields that all draws of the gauge share: over what is there, in a colour, surface pixels as units. */
-static void begin_draw(uint8_t *draw, float r, float g, float b)
+/* A bar gauge of 64 by 24 pixels. Only the end is looked at: it answers the first thing that went wrong. */
+static void make_gauge(uint8_t *bytes, int needle)
 {
-    const float color[4] = {r, g, b, 1.0f};
-    memset(draw, 0, DRAW_BYTES);
-    put_u16(draw + 2, 0x2001);
-    put_u16(draw + 4, 0x1B00);
-    put_u16(draw + 6, 0x1C00);
-    put_f32(draw + 12, 1.0f);
-    put_f32(draw + 24, 1.0f);
-    for (int i = 0; i < 4; i++) {
-        put_f32(draw + 36 + 4 * i, color[i]);
-    }
-}
-
-/* Appends a segment with its coordinates; counts how many of each there are. */
-typedef struct {
-    uint8_t *draw;
-    int segments;
-    int coordinates;
-} path;
-
-static void append(path *p, int segment, const int *coordinates, int count)
-{
-    p->draw[772 + p->segments++] = (uint8_t)segment;
-    p->draw[8] = (uint8_t)p->segments;
-    for (int i = 0; i < count; i++) {
-        put_u16(p->draw + 900 + 2 * p->coordinates++, (unsigned)coordinates[i] & 65535u);
-    }
-}
-
-/* A closed polygon: a move, lines, a close. */
-static void polygon(uint8_t *draw, const int *points, int count)
-{
-    path p = {draw, 0, 0};
-    for (int i = 0; i < count; i++) {
-        append(&p, i == 0 ? 2 : 4, points + 2 * i, 2);
-    }
-    append(&p, 0, NULL, 0);
-}
-
-/* A stop of a gradient: its offset and an opaque colour. */
-static void put_stop(uint8_t *at, float offset, float r, float g, float b)
-{
-    const float numbers[5] = {offset, r, g, b, 1.0f};
-    for (int i = 0; i < 5; i++) {
-        put_f32(at + 4 * i, numbers[i]);
-    }
-}
-
-/* A radial gradient's circle, which stands in place of the first stop: centre, focal point, radius. */
-static void put_circle(uint8_t *at, float cx, float cy, float fx, float fy, float r)
-{
-    const float numbers[5] = {cx, cy, fx, fy, r};
-    for (int i = 0; i < 5; i++) {
-        put_f32(at + 4 * i, numbers[i]);
-    }
-}
-
-/*
- * A bar gauge of 64 by 24 pixels: its trough, lit from above by a radial gradient, its filling, a ramp from green to
- * red that fades under the mask, and a needle at a column.
- */
-static void gauge(uint8_t *scene, int needle)
-{
-    static const int trough[] = {2, 4, 62, 4, 62, 20, 2, 20};
-    static const int filling[] = {4, 6, 60, 6, 60, 18, 4, 18};
-    const int tip[] = {needle - 3, 22, needle, 2, needle + 3, 22};
-    uint8_t payload[PAYLOAD] = {0};
-    uint8_t draws[GAUGE_DRAWS][DRAW_BYTES];
-
-    put_u16(payload, GAUGE_WIDTH);
-    put_u16(payload + 2, GAUGE_HEIGHT);
-    put_u16(payload + 4, GAUGE_DRAWS);
-    payload[11] = 255;
-    put_block(scene, 0, payload);
-
-    begin_draw(draws[0], 0.0f, 0.0f, 0.0f);
-    put_u16(draws[0] + 4, 0x1B02);
-    draws[0][10] = 2;
-    put_circle(draws[0] + 132, 32.0f, 12.0f, 32.0f, 16.0f, 40.0f);
-    put_stop(draws[0] + 152, 0.0f, 0.45f, 0.45f, 0.5f);
-    put_stop(draws[0] + 172, 1.0f, 0.15f, 0.15f, 0.2f);
-    polygon(draws[0], trough, 4);
-
-    begin_draw(draws[1], 0.0f, 0.0f, 0.0f);
-    put_u16(draws[1], MASKED);
-    put_u16(draws[1] + 4, 0x1B01);
-    draws[1][10] = 2;
-    put_f32(draws[1] + 52, 4.0f);
-    put_f32(draws[1] + 60, 60.0f);
-    put_stop(draws[1] + 132, 0.0f, 0.0f, 0.8f, 0.0f);
-    put_stop(draws[1] + 152, 1.0f, 0.9f, 0.0f, 0.0f);
-    polygon(draws[1], filling, 4);
-
-    begin_draw(draws[2], 1.0f, 1.0f, 1.0f);
-    polygon(draws[2], tip, 3);
-
-    for (int i = 0; i < GAUGE_DRAWS; i++) {
-        for (int j = 0; j < DRAW_BLOCKS; j++) {
-            put_block(scene, (uint32_t)(1 + DRAW_BLOCKS * i + j), draws[i] + PAYLOAD * j);
-        }
+    wayramesh_scene scene;
+    wayramesh_scene_begin(&scene, bytes, GAUGE_BYTES, GAUGE_WIDTH, GAUGE_HEIGHT, 0);
+    wayramesh_scene_background(&scene, 0, 0, 0, 255);
+    draw_trough(&scene);
+    draw_filling(&scene);
+    draw_needle(&scene, needle);
+    if (wayramesh_scene_end(&scene) != WAYRAMESH_SCENE_BUILT) {
+        fprintf(stderr, "draw %u: %s\n", (unsigned)scene.draw, wayramesh_scene_words(scene.code));
+        exit(1);
     }
 }
 
@@ -180,7 +89,7 @@ static void *allocate(size_t bytes)
     void *memory = malloc(bytes);
     if (memory == NULL) {
         fprintf(stderr, "out of memory\n");
-        exit(1);
+        exit(2);
     }
     return memory;
 }
@@ -192,7 +101,7 @@ static file read_file(const char *name, size_t most)
     FILE *stream = fopen(name, "rb");
     if (stream == NULL) {
         perror(name);
-        exit(1);
+        exit(2);
     }
     f.length = fread(f.bytes, 1, most + 1, stream);
     fclose(stream);
@@ -202,7 +111,7 @@ static file read_file(const char *name, size_t most)
 static file gauge_file(int needle)
 {
     file f = {allocate(GAUGE_BYTES), GAUGE_BYTES};
-    gauge(f.bytes, needle);
+    make_gauge(f.bytes, needle);
     return f;
 }
 

@@ -11,7 +11,8 @@
  *   wayramesh_salvage      writes a spoiled scene again
  *
  * Link with libwayramesh.a (x86-64; it needs memcpy and memset of the C library). The library allocates nothing, keeps
- * nothing between calls, and does no input or output. examples/panel.c is a whole program.
+ * nothing between calls, and does no input or output. examples/panel.c is a whole program, and wayramesh_scene.h makes
+ * scene files.
  *
  * What is proved of the first two functions, for every input:
  *

@@ -17,7 +17,6 @@ mod plain;
 mod stages;
 mod workloads;
 
-use std::env;
 use std::time::{Duration, Instant};
 
 use library::Mask;
@@ -25,11 +24,22 @@ use scene::PaintType;
 use stages::Versions;
 use workloads::Workload;
 
+const HELP: &str = "\
+usage: bench [SECONDS [PART]]
+
+Times calls of the library, each for so many seconds, 2 if none are given, and prints a table. A part alone is one of its
+workloads by name, or paints, blending, masks, plain or compare.
+";
+
 fn main() {
-    let seconds = env::args().nth(1).map_or(2.0, |text| text.parse().expect("a number of seconds"));
-    let budget = Duration::from_secs_f64(seconds);
-    let chosen = env::args().nth(2);
-    let wanted = |part: &str| chosen.as_deref().map_or(true, |name| name == part);
+    let arguments = tool::arguments(HELP);
+    let seconds = arguments.first().map_or(Ok(2.0), |text| text.parse::<f64>());
+    let budget = match seconds {
+        Ok(seconds) if (0.0..=3_600.0).contains(&seconds) => Duration::from_secs_f64(seconds),
+        _ => tool::usage(HELP),
+    };
+    let chosen = arguments.get(1);
+    let wanted = |part: &str| chosen.map_or(true, |name| name == part);
     print_workloads(workloads::all().into_iter().filter(|workload| wanted(workload.name)).collect(), budget);
     if wanted("paints") {
         print_paints(budget);
@@ -123,7 +133,7 @@ fn whole_calls(workload: &Workload, budget: Duration) -> Times {
         }
     }
     let shown = surface.clone();
-    library::draw(&frames[0], Mask::NONE, &mut surface, &mut scratch);
+    assert_eq!(library::draw(&frames[0], Mask::NONE, &mut surface, &mut scratch).code, 0, "{}", workload.name);
     assert!(surface == shown, "{}: the redraw left another picture than the full drawing", workload.name);
     times
 }

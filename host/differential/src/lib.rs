@@ -219,7 +219,7 @@ pub fn compiled_example(name: &str, folder: &str) -> PathBuf {
     let archive = env::var_os("WAYRAMESH_LIB_DIR").map_or(root.join("target/staticlib"), PathBuf::from);
     let program = Path::new(folder).join(name);
     let status = Command::new("cc")
-        .args(["-std=c99", "-Wall", "-Wextra", "-Wpedantic", "-Werror", "-I"])
+        .args(["-std=c99", "-pthread", "-Wall", "-Wextra", "-Wpedantic", "-Wconversion", "-Werror", "-I"])
         .arg(root.join("include"))
         .arg(root.join("examples").join(name).with_extension("c"))
         .arg(archive.join("libwayramesh.a"))

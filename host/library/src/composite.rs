@@ -4,9 +4,13 @@
 #[repr(C)]
 #[derive(Clone, Copy, Debug, PartialEq, Eq)]
 pub struct Pixel {
+    /// Red.
     pub r: u8,
+    /// Green.
     pub g: u8,
+    /// Blue.
     pub b: u8,
+    /// Alpha.
     pub a: u8,
 }
 
@@ -26,7 +30,9 @@ impl From<Pixel> for [u8; 4] {
 #[repr(C)]
 #[derive(Clone, Copy, Debug, PartialEq, Eq)]
 pub struct Composited {
+    /// The number of a [`Code`](crate::Code).
     pub code: u32,
+    /// What is to be stored, or the destination as it was given.
     pub pixel: Pixel,
 }
 
@@ -35,6 +41,7 @@ extern "C" {
 }
 
 /// Blends a source over a destination under a coverage of 0 to 16 and a mask's byte of 0 to 255.
+#[must_use = "the pixel is not stored anywhere"]
 pub fn composite(mode: u32, coverage: u32, mask: u32, source: Pixel, destination: Pixel) -> Composited {
     // SAFETY: all arguments go by value, and the function takes every one.
     unsafe { wayramesh_composite(mode, coverage, mask, source, destination) }

@@ -1,17 +1,38 @@
-//! The C interface of include/wayramesh.h, declared again for Rust, behind safe functions.
+//! Wayramesh, the proved renderer of scene files, behind safe functions: the C interface of `include/wayramesh.h`, which says
+//! what every argument and number means.
 //!
-//! Nothing checks these declarations against the library: they are the header's, and the tests compare results.
+//! - [`Surface`]: a picture with its size, scratch, mask and the scene that it shows. [`Surface::show`] takes it to the next.
+//! - [`draw`], [`redraw`], [`draw_plain`], [`compare`], [`composite`]: the calls as they are, on buffers that are lent.
+//! - [`Code`] and [`Refusal`]: why a call was refused, in words.
+//!
+//! The archive libwayramesh.a is linked from `target/staticlib` of the repository, or the folder in `WAYRAMESH_LIB_DIR`; the
+//! package `wayramesh-scene` makes scene files. Nothing checks the declarations here against the library: they are the header's,
+//! and the tests compare results.
+#![warn(missing_docs)]
+
+mod code;
+mod surface;
+
+pub use code::{Area, Code, Refusal};
+pub use surface::{size, BadSize, Surface, MAX_SIDE};
 
 /// The answer of a call; the header says what its numbers mean.
 #[repr(C)]
 #[derive(Clone, Copy, Debug, PartialEq, Eq)]
 pub struct Answer {
+    /// The number of a [`Code`].
     pub code: u32,
+    /// The draw that broke a rule, or [`NO_DRAW`].
     pub draw: u32,
+    /// 1 if it was the new scene of a redraw, else 0.
     pub scene: u32,
+    /// The left column of what was drawn.
     pub x: u32,
+    /// The lowest row of what was drawn.
     pub y: u32,
+    /// The columns that were drawn.
     pub width: u32,
+    /// The rows that were drawn.
     pub height: u32,
 }
 
@@ -20,6 +41,9 @@ pub const SCRATCH_NUMBERS: usize = 12_300;
 
 /// The code of a call whose scratch has fewer.
 pub const OUT_OF_MEMORY: u32 = 0x1002;
+
+/// The draw number of what is in no draw.
+pub const NO_DRAW: u32 = 64;
 
 mod compare;
 mod composite;
@@ -35,13 +59,17 @@ pub use salvage::{salvage, Salvaged};
 /// it is lent.
 #[derive(Clone, Copy, Debug)]
 pub struct Mask<'a> {
+    /// 0 if there is none.
     pub lent: u32,
+    /// A byte for each pixel, row 0 first.
     pub bytes: &'a [u8],
 }
 
 impl<'a> Mask<'a> {
+    /// No mask.
     pub const NONE: Mask<'static> = Mask { lent: 0, bytes: &[] };
 
+    /// A mask that is lent.
     pub fn of(bytes: &'a [u8]) -> Mask<'a> {
         Mask { lent: 1, bytes }
     }
@@ -80,6 +108,7 @@ mod ffi {
 }
 
 /// Draws a scene in full.
+#[must_use = "a call may be refused"]
 pub fn draw(scene: &[u8], mask: Mask, surface: &mut [u8], scratch: &mut [i32]) -> Answer {
     // SAFETY: each pointer comes with its slice's length. Surface and scratch overlap no other slice; scene and mask are
     // only read. The function asks no more.
@@ -99,6 +128,7 @@ pub fn draw(scene: &[u8], mask: Mask, surface: &mut [u8], scratch: &mut [i32]) -
 }
 
 /// Redraws a surface from the old scene to the new, both with the same mask.
+#[must_use = "a call may be refused"]
 pub fn redraw(old: &[u8], new: &[u8], mask: Mask, surface: &mut [u8], scratch: &mut [i32]) -> Answer {
     // SAFETY: as in `draw`; the two scenes are only read and may overlap.
     unsafe {

@@ -17,6 +17,7 @@ extern "C" {
 }
 
 /// Draws a scene in full, by each pixel, each sample and each edge.
+#[must_use = "a call may be refused"]
 pub fn draw_plain(scene: &[u8], mask: Mask, surface: &mut [u8], scratch: &mut [i32]) -> Answer {
     // SAFETY: as in `draw`.
     unsafe {

@@ -1,8 +1,9 @@
 //! The bezels of the lamps, and the mask with which their light fades there: the display's frame, and a sunken strip on the
 //! board for the row of small lamps.
 
-use crate::canvas::{Canvas, Paint, Part, Stops};
+use crate::canvas::{Canvas, Paint, Stops};
 use crate::display::{self, MIDDLE};
+use crate::part::Part;
 use crate::shape::{Point, Shape};
 use crate::{lamps, HEIGHT, WIDTH};
 
@@ -18,7 +19,7 @@ const STRIP_STOPS: Stops = &[(0.0, 0x0A0C0FFF), (0.15, 0x12161BFF), (0.9, 0x191E
 
 /// The strip, sunken into the board.
 pub fn strip(canvas: &mut Canvas) {
-    canvas.set_part(Part::Housing);
+    Part::Housing.begin(canvas);
     let (top, bottom) = (lamps::ROW + STRIP_HALF_HEIGHT, lamps::ROW - STRIP_HALF_HEIGHT);
     canvas.fill(inside_strip(), Paint::rows(top, bottom, STRIP_STOPS));
 }

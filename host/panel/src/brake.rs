@@ -1,8 +1,9 @@
 //! The second dial: the air pressure in the brake's two circuits. Each has a half of the dial, with its own scale and
 //! needle, so that equal pressures stand at equal heights. Circuit 1 has a solid needle, circuit 2 a hollow one.
 
-use crate::canvas::{Canvas, Color, Paint, Part};
+use crate::canvas::{Canvas, Color, Paint};
 use crate::dial::{self, Marks, Needle, Numbers, Scale, Window};
+use crate::part::Part;
 use crate::shape::{Point, Shape};
 use crate::signs::Brake;
 
@@ -52,7 +53,7 @@ const HOLLOW_INSIDE: [Point; 5] = [(34.0, -4.6), (97.0, -4.6), (128.0, 0.0), (97
 
 /// The dial, with a pressure in bar for each circuit.
 pub fn dial(canvas: &mut Canvas, pressures: [f64; 2]) {
-    canvas.set_part(Part::Print);
+    Part::Print.begin(canvas);
     let hatched = SCALES.iter().fold(Shape::new(), band);
     canvas.fill(hatched, Paint::Color(BAND_COLOR));
     let marks = SCALES.iter().fold(Shape::new(), |shape, scale| scale.marks(shape, &MARKS));

@@ -1,7 +1,8 @@
 //! What the two dials have in common: the housing, marks and numbers, needles, the hub, and the glass.
 
-use crate::canvas::{faces_light, light_angle, towards_light, Canvas, Color, Paint, Part, Stops};
+use crate::canvas::{faces_light, light_angle, towards_light, Canvas, Color, Paint, Stops};
 use crate::font;
+use crate::part::Part;
 use crate::shape::{on_circle, Point, Shape};
 
 /// The outermost circle of the rim, and the circle where the face begins.
@@ -94,7 +95,7 @@ impl Scale {
 
 /// A shadow on the board, the rim, and the face.
 pub fn housing(canvas: &mut Canvas, center: Point) {
-    canvas.set_part(Part::Housing);
+    Part::Housing.begin(canvas);
     let reach = RADIUS + SHADOW_REACH;
     let under = towards_light(center, -SHADOW_SHIFT);
     let edge = ((RADIUS - SHADOW_REACH) / reach) as f32;
@@ -116,7 +117,7 @@ const UNIT_COLOR: Color = 0xA9B3BFFF;
 
 /// What the dials measure.
 pub fn units(canvas: &mut Canvas, shapes: impl IntoIterator<Item = Shape>) {
-    canvas.set_part(Part::Print);
+    Part::Print.begin(canvas);
     canvas.fill_all(shapes, Paint::Color(UNIT_COLOR));
 }
 
@@ -164,7 +165,7 @@ const HUB_STOPS: Stops = &[
 
 /// The cap over the needles' pivot.
 pub fn hub(canvas: &mut Canvas, center: Point) {
-    canvas.set_part(Part::Housing);
+    Part::Housing.begin(canvas);
     canvas.fill(Shape::new().circle(center, HUB), Paint::dome(center, HUB, HUB_LEAN, HUB_STOPS));
 }
 
@@ -177,7 +178,7 @@ const GLASS_LEAN: f64 = 0.8;
 const GLASS_STOPS: Stops = &[(0.0, 0xFFFFFF38), (0.5, 0xE8F0FF1C), (1.0, 0xFFFFFF08)];
 
 pub fn glass(canvas: &mut Canvas, center: Point) {
-    canvas.set_part(Part::Housing);
+    Part::Housing.begin(canvas);
     let middle = light_angle();
     let hollow = towards_light(center, -GLASS_HOLLOW * GLASS);
     let end = on_circle(center, GLASS, middle + GLASS_SPAN);
@@ -203,7 +204,7 @@ pub struct Window {
 }
 
 pub fn windows<'a>(canvas: &mut Canvas, windows: impl IntoIterator<Item = &'a Window>) {
-    canvas.set_part(Part::Housing);
+    Part::Housing.begin(canvas);
     let bottom = WINDOW_ROW - WINDOW_HEIGHT / 2.0;
     let shape = windows.into_iter().fold(Shape::new(), |shape, window| {
         let left = window.middle.0 - window.width / 2.0;

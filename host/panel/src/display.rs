@@ -1,7 +1,8 @@
 //! The display between the dials: its frame follows their rims. At the top the two great lamps, in the waist the
 //! doors, at the bottom the line and its next stop.
 
-use crate::canvas::{Canvas, Color, Paint, Part, Stops};
+use crate::canvas::{Canvas, Color, Paint, Stops};
+use crate::part::Part;
 use crate::shape::{on_circle, Point, Shape};
 use crate::{bezel, brake, dial, font, speed, Trip};
 
@@ -26,7 +27,7 @@ const RULE_COLOR: Color = 0x5C86A880;
 pub const MIDDLE: f64 = (speed::CENTER.0 + brake::CENTER.0) / 2.0;
 
 pub fn display(canvas: &mut Canvas) {
-    canvas.set_part(Part::Housing);
+    Part::Housing.begin(canvas);
     let (top, bottom) = (speed::CENTER.1 + HALF_HEIGHT, speed::CENTER.1 - HALF_HEIGHT);
     canvas.fill(waisted(0.0), Paint::rows(top, bottom, FRAME_STOPS));
     canvas.fill(glass(), Paint::rows(top, bottom, GLASS_STOPS));
@@ -120,7 +121,7 @@ const WEATHER_HEIGHT: f64 = 18.0;
 const WEATHER_COLOR: Color = 0x9DB4C9FF;
 
 pub fn trip(canvas: &mut Canvas, trip: &Trip) {
-    canvas.set_part(Part::Print);
+    Part::Print.begin(canvas);
     let plate = font::width(trip.line, LINE_HEIGHT) + 2.0 * PLATE_PADDING;
     let width = plate + STOP_GAP + font::width(trip.next_stop, STOP_HEIGHT);
     let (left, bottom) = (MIDDLE - width / 2.0, PLATE_ROW - PLATE_HEIGHT / 2.0);

@@ -1,7 +1,8 @@
 //! The three doors, seen from outside. Each state has leaves of its own shape, and a word of its own.
 
-use crate::canvas::{Canvas, Color, Paint, Part, Stops};
+use crate::canvas::{Canvas, Color, Paint, Stops};
 use crate::display::MIDDLE;
+use crate::part::Part;
 use crate::shape::{Point, Shape};
 
 /// The state of a door.
@@ -59,7 +60,7 @@ const WORD_ROW: f64 = 221.0;
 const WORD_HEIGHT: f64 = 10.5;
 
 pub fn doors(canvas: &mut Canvas, doors: [Door; 3]) {
-    canvas.set_part(Part::Door);
+    Part::Door.begin(canvas);
     let doorways = |shape: Shape, by: f64| {
         COLUMNS
             .iter()
@@ -69,12 +70,12 @@ pub fn doors(canvas: &mut Canvas, doors: [Door; 3]) {
     canvas.fill(doorways(Shape::new(), 0.0), Paint::rows(SILL + HEIGHT, SILL, INSIDE_STOPS));
     let names = COLUMNS.iter().zip(NAMES);
     let names = names.fold(Shape::new(), |shape, (&x, name)| shape.text(name, (x, NAME_ROW), NAME_HEIGHT));
-    canvas.set_part(Part::Print);
+    Part::Print.begin(canvas);
     canvas.fill(names, Paint::Color(NAME_COLOR));
     for (x, door) in COLUMNS.into_iter().zip(doors) {
-        canvas.set_part(Part::Door);
+        Part::Door.begin(canvas);
         canvas.fill(leaves(x, door), Paint::rows(SILL + HEIGHT, SILL, door.leaf_stops()));
-        canvas.set_part(Part::Lamp);
+        Part::Lamp.begin(canvas);
         canvas.write(door.word(), (x, WORD_ROW), WORD_HEIGHT, door.color());
     }
 }

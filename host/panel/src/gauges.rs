@@ -1,7 +1,8 @@
 //! Two small gauges below the display: fuel, and the temperature of the coolant.
 
-use crate::canvas::{Canvas, Color, Paint, Part, Stops};
+use crate::canvas::{Canvas, Color, Paint, Stops};
 use crate::display::MIDDLE;
+use crate::part::Part;
 use crate::shape::Shape;
 use crate::signs;
 
@@ -25,7 +26,7 @@ const COOLANT_STOPS: Stops = &[(0.0, 0x4FA3FFFF), (0.4, 0x4FDBC4FF), (0.75, 0xF2
 
 /// Both gauges; full is 1.
 pub fn gauges(canvas: &mut Canvas, fuel: f64, coolant: f64) {
-    canvas.set_part(Part::Lamp);
+    Part::Lamp.begin(canvas);
     let lit = |share: f64| (share * f64::from(BLOCKS)).round() as i32;
     let unlit = blocks(blocks(Shape::new(), FUEL_LEFT, lit(fuel)..BLOCKS), COOLANT_LEFT, lit(coolant)..BLOCKS);
     canvas.fill(unlit, Paint::Color(UNLIT));
@@ -33,7 +34,7 @@ pub fn gauges(canvas: &mut Canvas, fuel: f64, coolant: f64) {
         let paint = Paint::columns(left, left + LENGTH, stops);
         canvas.fill(blocks(Shape::new(), left, 0..lit(share)), paint);
     }
-    canvas.set_part(Part::Print);
+    Part::Print.begin(canvas);
     let fuel = signs::FUEL.at((FUEL_LEFT - SIGN_GAP, ROW));
     let coolant = signs::coolant((COOLANT_LEFT + LENGTH + SIGN_GAP, ROW));
     canvas.fill_all([fuel, coolant], Paint::Color(SIGN_COLOR));

@@ -1,7 +1,8 @@
 //! Lamps: a row of small ones above the dials, and two great ones in the display. One that is off is faintly seen.
 
-use crate::canvas::{Canvas, Color, Paint, Part, Stops};
+use crate::canvas::{Canvas, Color, Paint, Stops};
 use crate::display::{self, MIDDLE};
+use crate::part::Part;
 use crate::shape::{Point, Shape};
 use crate::signs::{self, Brake};
 use crate::{bezel, Readings};
@@ -30,7 +31,7 @@ const STOP_BRAKE: Brake = Brake { ring: 15.0, brackets: 22.0, line: 3.0 };
 const STOP_BRAKE_LETTER: f64 = 15.0;
 
 pub fn small_lamps(canvas: &mut Canvas, readings: &Readings, light: Light) {
-    canvas.set_part(Part::Lamp);
+    Part::Lamp.begin(canvas);
     turn_signal(canvas, -1.0, readings.left_turn, light);
     turn_signal(canvas, 1.0, readings.right_turn, light);
     let place = |number: f64| (MIDDLE + number * STEP, ROW);
@@ -90,7 +91,7 @@ const GREAT_ROW: f64 = 411.0;
 const GREAT_SHIFT: f64 = 55.0;
 
 pub fn great_lamps(canvas: &mut Canvas, readings: &Readings, light: Light) {
-    canvas.set_part(Part::Lamp);
+    Part::Lamp.begin(canvas);
     stop_sign(canvas, (MIDDLE - GREAT_SHIFT, GREAT_ROW), readings.stop_requested, light);
     parking_brake(canvas, (MIDDLE + GREAT_SHIFT, GREAT_ROW), readings.parking_brake, light);
 }

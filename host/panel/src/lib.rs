@@ -6,24 +6,22 @@
 
 mod bezel;
 mod brake;
-mod canvas;
 mod dial;
 mod display;
 mod doors;
-mod font;
 mod gauges;
 mod lamps;
-mod shape;
+mod part;
 mod signs;
 mod speed;
-mod stroke;
 
 pub use bezel::mask;
 pub use doors::Door;
 pub use lamps::Light;
 
-use canvas::{Canvas, Color, Paint, Part, Stops};
-use scene::Scene;
+use canvas::{Canvas, Color, Paint, Stops};
+use part::Part;
+use scene::{canvas, font, shape, stroke, Scene};
 use shape::Shape;
 
 pub const WIDTH: f64 = 1_024.0;
@@ -106,7 +104,8 @@ impl Readings {
 /// The panel at a scale of at most 1, which is 1,024 by 600 pixels. Wide light asks for the mask. At night the scene has
 /// the edition with transformations.
 pub fn panel(readings: &Readings, scale: f64, light: Light) -> Scene {
-    let mut canvas = Canvas::new((WIDTH, HEIGHT), scale, BACKGROUND, readings.night);
+    let mut canvas = Canvas::new((WIDTH, HEIGHT), scale, BACKGROUND);
+    canvas.set_edition(if readings.night { part::NIGHT } else { part::DAY });
     board(&mut canvas);
     if light == Light::Wide {
         bezel::strip(&mut canvas);
@@ -123,7 +122,7 @@ pub fn panel(readings: &Readings, scale: f64, light: Light) -> Scene {
     display::trip(&mut canvas, &readings.trip);
     lamps::small_lamps(&mut canvas, readings, light);
     gauges::gauges(&mut canvas, readings.fuel, readings.coolant);
-    canvas.scene()
+    canvas.scene().expect("the panel keeps the rules")
 }
 
 /// The scene files of the folder scenes: the panel and its next frame, in full size and a quarter of it; a pair with wide
@@ -155,7 +154,7 @@ const BOARD_STOPS: Stops = &[(0.0, 0x343A43FF), (0.5, 0x1B1F25FF), (1.0, 0x0D0F1
 
 /// The board that holds the instruments.
 fn board(canvas: &mut Canvas) {
-    canvas.set_part(Part::Housing);
+    Part::Housing.begin(canvas);
     let (width, height) = (WIDTH - 2.0 * BOARD_MARGIN, HEIGHT - 2.0 * BOARD_MARGIN);
     let board = Shape::new().rounded_rectangle(BOARD_MARGIN, BOARD_MARGIN, width, height, BOARD_CORNER);
     canvas.fill(board, Paint::rows(HEIGHT, 0.0, BOARD_STOPS));

@@ -1,7 +1,8 @@
 //! The main dial: speed by needle and in figures.
 
-use crate::canvas::{Canvas, Color, Paint, Part};
+use crate::canvas::{Canvas, Color, Paint};
 use crate::dial::{self, Marks, Needle, Numbers, Scale, Window};
+use crate::part::Part;
 use crate::shape::{Point, Shape};
 
 pub const CENTER: Point = (214.0, 285.0);
@@ -19,7 +20,7 @@ const NEEDLE: [Point; 6] =
     [(-46.0, -5.5), (0.0, -NEEDLE_HALF), (158.0, -1.4), (158.0, 1.4), (0.0, NEEDLE_HALF), (-46.0, 5.5)];
 
 pub fn dial(canvas: &mut Canvas, speed: f64) {
-    canvas.set_part(Part::Print);
+    Part::Print.begin(canvas);
     dial::print(canvas, [SCALE.marks(Shape::new(), &MARKS)].into_iter().chain(SCALE.numbers(&NUMBERS)));
     let figures = format!("{speed:.0}");
     canvas.fill(Shape::new().text(&figures, WINDOW.middle, FIGURES_HEIGHT), Paint::Color(FIGURES_COLOR));

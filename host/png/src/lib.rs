@@ -1,8 +1,12 @@
-//! Turns a printed picture, as the drawing programs write it, into a PNG image.
+//! Turns pictures into PNG images: printed ones, as the drawing programs write them, and PAM images.
 #![forbid(unsafe_code)]
 
 mod deflate;
 pub mod difference;
+mod pam;
+
+/// The greatest width and height of a picture.
+const MOST_PIXELS: usize = 1_024;
 
 /// A picture with straight alpha, its top row first.
 #[derive(Clone, Debug, PartialEq, Eq)]
@@ -13,29 +17,74 @@ pub struct Picture {
     pub rgba: Vec<u8>,
 }
 
+/// Why there is no picture.
+#[derive(Clone, Debug, PartialEq, Eq)]
+pub enum Problem {
+    /// The text says that a scene was refused, or is past a program's limits.
+    Refused(String),
+    /// What is wrong with it, in words.
+    Unreadable(String),
+}
+
+fn unreadable(reason: &str) -> Problem {
+    Problem::Unreadable(reason.to_string())
+}
+
+/// A width or a height.
+fn side(word: &str) -> Result<usize, String> {
+    match word.parse() {
+        Ok(side) if (1..=MOST_PIXELS).contains(&side) => Ok(side),
+        _ => Err(format!("no picture: {word:.80} is not a width or height of 1 to 1,024")),
+    }
+}
+
+/// A pixel of 8 hex digits.
+fn pixel(word: &str) -> Option<[u8; 4]> {
+    let digits = word.len() == 8 && word.bytes().all(|byte| byte.is_ascii_hexdigit());
+    digits.then(|| u32::from_str_radix(word, 16).map(u32::to_be_bytes).ok())?
+}
+
 impl Picture {
+    /// Reads a printed picture or a PAM image.
+    pub fn read(bytes: &[u8]) -> Result<Picture, Problem> {
+        if bytes.starts_with(b"P7") {
+            return pam::read(bytes).map_err(Problem::Unreadable);
+        }
+        let text =
+            std::str::from_utf8(bytes).map_err(|_| unreadable("this is neither a printed picture nor a PAM image"))?;
+        match text.lines().next() {
+            Some(line) if line == "limit" || line.starts_with("refused ") => Err(Problem::Refused(line.to_string())),
+            _ => Picture::parse(text).map_err(Problem::Unreadable),
+        }
+    }
+
     /// Reads a printed picture: "width height", then the rows with 8 hex digits for each premultiplied pixel. A
     /// redraw's line with the four numbers of its area may come first.
-    pub fn parse(text: &str) -> Result<Picture, String> {
-        let mut lines = text.lines().peekable();
-        if lines.peek().map_or(false, |line| line.split(' ').count() == 4) {
+    fn parse(text: &str) -> Result<Picture, String> {
+        let mut lines = text.lines().enumerate().peekable();
+        if lines.peek().map_or(false, |(_, line)| line.split(' ').count() == 4) {
             lines.next();
         }
-        let size = lines.next().ok_or("the input is empty")?;
-        let sides: Vec<usize> = size.split(' ').filter_map(|word| word.parse().ok()).collect();
+        let (_, size) = lines.next().ok_or("the input is empty")?;
+        let sides: Vec<&str> = size.split(' ').collect();
         let (width, height) = match sides[..] {
-            [width, height] => (width, height),
-            _ => return Err(format!("no picture: {size}")),
+            [width, height] => (side(width)?, side(height)?),
+            _ => return Err(format!("no picture: {size:.80}")),
         };
         let mut rgba = Vec::with_capacity(4 * width * height);
-        for pixel in lines.flat_map(|line| line.split(' ')) {
-            let number = u32::from_str_radix(pixel, 16).map_err(|_| format!("no pixel: {pixel}"))?;
-            rgba.extend_from_slice(&straight(number.to_be_bytes()));
+        for (number, line) in lines {
+            let pixels: Option<Vec<[u8; 4]>> = line.split(' ').map(pixel).collect();
+            match pixels {
+                Some(pixels) if pixels.len() == width && rgba.len() < 4 * width * height => {
+                    rgba.extend(pixels.into_iter().flat_map(straight));
+                }
+                _ => return Err(format!("line {} is no row of a picture of {width} by {height}", number + 1)),
+            }
         }
-        if rgba.len() != 4 * width * height {
-            return Err(format!("{} pixels for {width} by {height}", rgba.len() / 4));
+        match rgba.len() / 4 / width {
+            rows if rows == height => Ok(Picture { width, height, rgba }),
+            rows => Err(format!("{rows} rows for {width} by {height}")),
         }
-        Ok(Picture { width, height, rgba })
     }
 
     /// The PNG image.
@@ -99,10 +148,42 @@ mod tests {
     fn reads_both_programs_output() {
         let drawn = "2 1\n000000ff 40000080\n";
         let expected = Picture { width: 2, height: 1, rgba: vec![0, 0, 0, 255, 128, 0, 0, 128] };
-        assert_eq!(Picture::parse(drawn), Ok(expected.clone()));
-        assert_eq!(Picture::parse(&format!("0 0 2 1\n{drawn}")), Ok(expected));
-        assert!(Picture::parse("refused b002 64\n").is_err());
-        assert!(Picture::parse("2 1\n000000ff\n").is_err());
+        assert_eq!(Picture::read(drawn.as_bytes()), Ok(expected.clone()));
+        assert_eq!(Picture::read(format!("0 0 2 1\n{drawn}").as_bytes()), Ok(expected));
+        let line = "refused b002 64";
+        assert_eq!(Picture::read(format!("{line}\n").as_bytes()), Err(Problem::Refused(line.into())));
+        assert_eq!(Picture::read(b"limit\n"), Err(Problem::Refused("limit".into())));
+    }
+
+    /// What is no picture is told: nothing is taken for granted of sizes, rows and digits.
+    #[test]
+    fn tells_what_is_no_picture() {
+        let texts = [
+            "",
+            "\n",
+            "0 0\n",
+            "0 1\n",
+            "2 0\n",
+            "1025 1\n",
+            "99999999999999999999 99999999999999999999\n",
+            "18446744073709551615 18446744073709551615\n00000000\n",
+            "-1 1\n",
+            "2\n",
+            "2 1 1\n",
+            "0 0 2 1\n",
+            "2 1\n",
+            "2 1\n000000ff\n",
+            "2 1\n000000ff 000000ff 000000ff\n",
+            "2 1\n000000ff 000000ff\n000000ff 000000ff\n",
+            "2 2\n000000ff 000000ff\n",
+            "2 1\n000000ff +00000ff\n",
+            "2 1\n000000ff 0000ff\n",
+            "2 1\n000000ff 000000f\u{e9}\n",
+            "2 1\n000000ff  000000ff\n",
+        ];
+        for bytes in texts.iter().map(|text| text.as_bytes()).chain([&b"\xFF\xFE"[..], b"P6\n1 1\n255\nabc"]) {
+            assert!(matches!(Picture::read(bytes), Err(Problem::Unreadable(_))), "{bytes:?}");
+        }
     }
 
     #[test]

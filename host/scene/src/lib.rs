@@ -1,14 +1,39 @@
-//! Builds scene files: a scene is a value with named fields, and [`Scene::bytes`] writes its blocks with their
-//! checks.
+//! Makes scene files, which the library `wayramesh` draws; `docs/FORMAT.md` describes them.
 //!
-//! Nothing is judged here, so that tests can write scenes that the rules refuse: only what the layout has no
-//! place for panics. For damage that the fields cannot express, edit the bytes and [`seal`] them again.
+//! - [`Scene`]: a value with named fields. [`Scene::build`] judges it by the rules of the format and writes the file, or says
+//!   what is wrong.
+//! - [`canvas::Canvas`]: shapes and texts in pixels, with paints, at any scale. It makes a [`Scene`].
+//! - [`shape::Shape`], [`stroke::Line`] and [`font`]: circles, rings, bars, lines and letters.
+//!
+//! ```
+//! use wayramesh_scene::canvas::{Canvas, Paint};
+//! use wayramesh_scene::shape::Shape;
+//!
+//! let mut canvas = Canvas::new((64.0, 24.0), 1.0, 0x000000FF);
+//! canvas.fill(Shape::new().rounded_rectangle(2.0, 4.0, 60.0, 16.0, 5.0), Paint::Color(0x37E37AFF));
+//! canvas.write("42", (32.0, 12.0), 10.0, 0xFFFFFFFF);
+//! let file = canvas.scene()?.build()?;
+//! assert_eq!(file.len(), 512 * (1 + 4 * 2));
+//! # Ok::<(), wayramesh_scene::Error>(())
+//! ```
+//!
+//! Tests need scenes that the rules refuse: [`Scene::bytes`] writes whatever the layout has places for, and bytes that were
+//! edited can be [`seal`]ed again.
 #![forbid(unsafe_code)]
+#![warn(missing_docs)]
 
+pub mod canvas;
+mod error;
+pub mod font;
+mod judge;
 pub mod path;
+pub mod shape;
+pub mod stroke;
 
+pub use error::{Error, Fault};
 pub use path::Path;
 
+/// The bytes of a block: 508 of payload, then its check.
 pub const BLOCK: usize = 512;
 const PAYLOAD: usize = 508;
 const DRAW_BLOCKS: usize = 4;
@@ -18,70 +43,100 @@ pub const DRAW_BYTES: usize = PAYLOAD * DRAW_BLOCKS;
 /// A scene; row 0 is the lowest.
 #[derive(Clone, Debug, Default)]
 pub struct Scene {
+    /// In pixels, 1 to 1,024.
     pub width: u16,
+    /// In pixels, 1 to 1,024.
     pub height: u16,
     /// R, G, B, A, not premultiplied.
     pub background: [u8; 4],
     /// 0, or 1, in which draws have a colour transformation and 550 coordinates, not 566. Others have 0's layout.
     pub edition: u16,
+    /// In the order in which they are drawn, at most 64.
     pub draws: Vec<Draw>,
 }
 
+/// What of a path is inside.
 #[derive(Clone, Copy, Debug, Default, PartialEq, Eq)]
 pub enum FillRule {
+    /// What edges surround an odd number of times: a part within another is a hole.
     #[default]
     EvenOdd,
+    /// What edges surround, up and down counted against each other: parts that overlap are one.
     NonZero,
 }
 
+/// How a paint and what is there become one.
 #[derive(Clone, Copy, Debug, Default, PartialEq, Eq)]
 pub enum Blend {
+    /// The paint.
     Src,
+    /// The paint, and what is there where the paint is not opaque.
     #[default]
     SrcOver,
+    /// What is there, and the paint where that is not opaque.
     DstOver,
+    /// The paint as far as what is there is opaque.
     SrcIn,
+    /// What is there as far as the paint is opaque.
     DstIn,
 }
 
 impl Blend {
+    /// All of them, in the order of their numbers.
     pub const ALL: [Blend; 5] = [Blend::Src, Blend::SrcOver, Blend::DstOver, Blend::SrcIn, Blend::DstIn];
 }
 
+/// Which of a draw's paints is used.
 #[derive(Clone, Copy, Debug, Default, PartialEq, Eq)]
 pub enum PaintType {
+    /// A colour.
     #[default]
     Color,
+    /// A gradient from a point to another.
     Linear,
+    /// A gradient from a focal point to a circle.
     Radial,
 }
 
 impl PaintType {
+    /// All of them, in the order of their numbers.
     pub const ALL: [PaintType; 3] = [PaintType::Color, PaintType::Linear, PaintType::Radial];
 }
 
+/// What a gradient does beyond its ends.
 #[derive(Clone, Copy, Debug, Default, PartialEq, Eq)]
 pub enum Spread {
+    /// It keeps its last colour.
     #[default]
     Pad,
+    /// It begins again.
     Repeat,
+    /// It turns back.
     Reflect,
 }
 
 impl Spread {
+    /// All of them, in the order of their numbers.
     pub const ALL: [Spread; 3] = [Spread::Pad, Spread::Repeat, Spread::Reflect];
 }
 
+/// A rectangle of pixels; one whose width or height is not above 0 has none.
 #[derive(Clone, Copy, Debug, Default, PartialEq, Eq)]
 pub struct Scissor {
+    /// The left column.
     pub x: i32,
+    /// The lowest row.
     pub y: i32,
+    /// The number of columns.
     pub width: i32,
+    /// The number of rows.
     pub height: i32,
 }
 
+/// A place of a gradient, and its colour there.
 #[derive(Clone, Copy, Debug, Default, PartialEq)]
 pub struct Stop {
+    /// 0 to 1, and not below the one before.
     pub offset: f32,
     /// R, G, B, A, not premultiplied.
     pub color: [f32; 4],
@@ -93,27 +148,37 @@ pub const IDENTITY: [f32; 8] = [1.0, 1.0, 1.0, 1.0, 0.0, 0.0, 0.0, 0.0];
 /// A draw. The default is an empty path in transparent black, with the identity matrix, over what is there.
 #[derive(Clone, Debug)]
 pub struct Draw {
+    /// What of the path is inside.
     pub fill_rule: FillRule,
+    /// Whether only pixels in one of the scissors are drawn, none if there are none.
     pub scissoring: bool,
+    /// Whether stops are premultiplied before interpolation, so that colours which fade do not darken on the way.
     pub premultiplied_ramp: bool,
     /// Whether the draw asks for the mask that is lent with the scene.
     pub masked: bool,
     /// Whether the transformation is on.
     pub transformed: bool,
+    /// How the paint and what is there become one.
     pub blend: Blend,
+    /// Which paint is used: `color`, or the gradient of `linear` or `radial` with the stops.
     pub paint: PaintType,
+    /// What a gradient does beyond its ends.
     pub spread: Spread,
-    /// sx, shy, shx, sy, tx, ty.
+    /// sx, shy, shx, sy, tx, ty: a point (x, y) of the path lies at (sx·x + shx·y + tx, shy·x + sy·y + ty) in pixels.
     pub matrix: [f32; 6],
+    /// R, G, B, A, not premultiplied, 0 to 1.
     pub color: [f32; 4],
     /// x0, y0, x1, y1 in surface pixels.
     pub linear: [f32; 4],
     /// cx, cy, fx, fy, r in surface pixels; a radial draw has them in place of the first stop, any other not at all.
     pub radial: [f32; 5],
+    /// At most 4; they are used where `scissoring` is on.
     pub scissors: Vec<Scissor>,
+    /// At most 32, in a radial draw 31.
     pub stops: Vec<Stop>,
     /// Four scales, then four biases, each for R, G, B and A; only edition 1 has a place for them.
     pub transformation: [f32; 8],
+    /// What is filled.
     pub path: Path,
 }
 
@@ -141,6 +206,7 @@ impl Default for Draw {
 }
 
 impl Scene {
+    /// A scene of edition 0 without draws.
     pub fn new(width: u16, height: u16, background: [u8; 4]) -> Scene {
         Scene { width, height, background, edition: 0, draws: Vec::new() }
     }
@@ -155,7 +221,11 @@ impl Scene {
         usize::from(self.width) * usize::from(self.height)
     }
 
-    /// The scene file.
+    /// The scene file, whatever the rules say of it; see [`Scene::build`].
+    ///
+    /// # Panics
+    ///
+    /// If the layout has no places for what the scene has.
     pub fn bytes(&self) -> Vec<u8> {
         let mut file = vec![0; BLOCK * (1 + DRAW_BLOCKS * self.draws.len())];
         put(&mut file, 0, &self.width.to_le_bytes());
@@ -175,7 +245,11 @@ impl Scene {
 }
 
 impl Draw {
-    /// The joined payloads in an edition.
+    /// The joined payloads in an edition, whatever the rules say of them.
+    ///
+    /// # Panics
+    ///
+    /// If the layout has no places for what the draw has.
     pub fn bytes(&self, edition: u16) -> [u8; DRAW_BYTES] {
         assert!(self.scissors.len() <= 4, "the layout has four scissors");
         let radial = self.paint == PaintType::Radial;

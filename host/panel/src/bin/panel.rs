@@ -1,29 +1,31 @@
-//! Writes the panel's scene files and its mask into the folder named as the argument.
+//! Writes the panel's scene files and its mask.
 
 use std::path::Path;
-use std::{env, fs, process};
+
+const HELP: &str = "\
+usage: panel FOLDER
+
+Writes the scene files of the demonstration panel, and the mask of one pair, into a folder, and says what each is. A file that
+cannot be written is told on standard error and ends with 2.
+";
 
 fn main() {
-    let arguments: Vec<String> = env::args().skip(1).collect();
+    let arguments = tool::arguments(HELP);
     let folder = match &arguments[..] {
         [folder] => folder,
-        _ => {
-            eprintln!("usage: panel FOLDER");
-            process::exit(2);
-        }
+        _ => tool::usage(HELP),
     };
     let write = |name: &str, bytes: &[u8]| {
-        let path = Path::new(folder).join(name);
-        if let Err(error) = fs::write(&path, bytes) {
-            eprintln!("{}: {error}", path.display());
-            process::exit(2);
-        }
-        path.display().to_string()
+        let path = Path::new(folder).join(name).display().to_string();
+        tool::write(&path, bytes);
+        path
     };
+    let mut text = String::new();
     for (name, scene) in panel::files() {
         let path = write(name, &scene.bytes());
-        println!("{path}: {} by {}, {} draws", scene.width, scene.height, scene.draws.len());
+        text += &format!("{path}: {} by {}, {} draws\n", scene.width, scene.height, scene.draws.len());
     }
     let (name, mask) = panel::mask_file();
-    println!("{}: {} bytes", write(name, &mask), mask.len());
+    text += &format!("{}: {} bytes\n", write(name, &mask), mask.len());
+    tool::write("-", text.as_bytes());
 }

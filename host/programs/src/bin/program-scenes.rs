@@ -1,23 +1,23 @@
-//! Writes the programs' scene files into the folder named as the argument, which is the repository's folder crates.
+//! Writes the scene files that the proved programs are run on.
 
 use std::path::Path;
-use std::{env, fs, process};
+
+const HELP: &str = "\
+usage: program-scenes FOLDER
+
+Writes the scene files that the proved programs are run on into a folder, which is the repository's folder crates, and says
+where. A file that cannot be written is told on standard error and ends with 2.
+";
 
 fn main() {
-    let arguments: Vec<String> = env::args().skip(1).collect();
+    let arguments = tool::arguments(HELP);
     let folder = match &arguments[..] {
         [folder] => folder,
-        _ => {
-            eprintln!("usage: program-scenes FOLDER");
-            process::exit(2);
-        }
+        _ => tool::usage(HELP),
     };
     for (place, bytes) in programs::files() {
-        let path = Path::new(folder).join(place);
-        if let Err(error) = fs::write(&path, bytes) {
-            eprintln!("{}: {error}", path.display());
-            process::exit(2);
-        }
-        println!("{}", path.display());
+        let path = Path::new(folder).join(place).display().to_string();
+        tool::write(&path, &bytes);
+        tool::write("-", format!("{path}\n").as_bytes());
     }
 }

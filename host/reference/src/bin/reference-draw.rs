@@ -1,28 +1,26 @@
-//! The drawing program by the reference: prints the picture of the scene file named as its argument. A file with a mask
-//! may be lent, as the proved program lends none.
+//! The drawing program by the reference.
 
-use std::io::Write;
-use std::{env, fs, io, process};
+const HELP: &str = "\
+usage: reference-draw SCENE [MASK]
+
+Draws a scene file by the reference and prints its picture: width and height, then the rows from the top one down, 8 hex digits
+for each pixel. A mask, a byte for each pixel, may be lent, as the proved program lends none.
+
+A file named - is standard input. A scene that is refused prints one line, as `refused b002 64`, and ends with 1; a file that
+cannot be read is told on standard error and ends with 2.
+";
 
 fn main() {
-    let arguments: Vec<String> = env::args().skip(1).collect();
+    let arguments = tool::arguments(HELP);
     let (scene, mask) = match &arguments[..] {
         [scene] => (scene, None),
         [scene, mask] => (scene, Some(mask)),
-        _ => {
-            eprintln!("usage: reference-draw SCENE [MASK]");
-            process::exit(2);
-        }
+        _ => tool::usage(HELP),
     };
-    let read = |path: &String| {
-        fs::read(path).unwrap_or_else(|e| {
-            eprintln!("{path}: {e}");
-            process::exit(2);
-        })
-    };
-    let text = reference::print::drawing(&read(scene), mask.map(read).as_deref());
-    if let Err(error) = io::stdout().write_all(text.as_bytes()) {
-        eprintln!("{error}");
-        process::exit(2);
+    let (scene, mask) = (tool::read(scene), mask.map(|mask| tool::read(mask)));
+    let text = reference::print::drawing(&scene, mask.as_deref());
+    tool::write("-", text.as_bytes());
+    if text.starts_with("refused") {
+        std::process::exit(tool::REFUSED);
     }
 }

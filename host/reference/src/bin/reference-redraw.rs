@@ -1,28 +1,26 @@
-//! The redraw program by the reference: draws the old scene file, redraws to the new, and prints area and picture. A file
-//! with a mask may be lent, as the proved program lends none.
+//! The redraw program by the reference.
 
-use std::io::Write;
-use std::{env, fs, io, process};
+const HELP: &str = "\
+usage: reference-redraw OLD NEW [MASK]
+
+Draws the old scene file by the reference, redraws it to the new one, and prints the area, as x, y, width and height, and the
+picture. A mask, a byte for each pixel, may be lent for both, as the proved program lends none.
+
+A file named - is standard input. A scene that is refused prints one line, as `refused b002 64 1`, and ends with 1; a file that
+cannot be read is told on standard error and ends with 2.
+";
 
 fn main() {
-    let arguments: Vec<String> = env::args().skip(1).collect();
+    let arguments = tool::arguments(HELP);
     let (old, new, mask) = match &arguments[..] {
         [old, new] => (old, new, None),
         [old, new, mask] => (old, new, Some(mask)),
-        _ => {
-            eprintln!("usage: reference-redraw OLD NEW [MASK]");
-            process::exit(2);
-        }
+        _ => tool::usage(HELP),
     };
-    let read = |path: &String| {
-        fs::read(path).unwrap_or_else(|e| {
-            eprintln!("{path}: {e}");
-            process::exit(2);
-        })
-    };
-    let text = reference::print::redrawing(&read(old), &read(new), mask.map(read).as_deref());
-    if let Err(error) = io::stdout().write_all(text.as_bytes()) {
-        eprintln!("{error}");
-        process::exit(2);
+    let (old, new, mask) = (tool::read(old), tool::read(new), mask.map(|mask| tool::read(mask)));
+    let text = reference::print::redrawing(&old, &new, mask.as_deref());
+    tool::write("-", text.as_bytes());
+    if text.starts_with("refused") {
+        std::process::exit(tool::REFUSED);
     }
 }

@@ -1,7 +1,9 @@
-//! The letters of the panel: lines of one width along the table below, in units of which a digit is 16 high.
+//! Letters: lines of one width along the table below, in units of which a digit is 16 high. A text with another letter spoils
+//! its shape, whose fault then names the letter.
 
 use crate::shape::{Point, Shape};
 use crate::stroke::Line::{self, Closed, Open, Straight};
+use crate::Fault;
 
 /// The height of digits and capitals, and the width of their lines.
 const HEIGHT: f64 = 16.0;
@@ -11,8 +13,13 @@ const GAP: f64 = 2.4;
 
 /// The width of a text of this height, without the last gap.
 pub fn width(text: &str, height: f64) -> f64 {
-    let units = text.chars().map(|letter| glyph(letter).1 + GAP).sum::<f64>() - GAP;
-    units * height / HEIGHT
+    let units = text.chars().map(advance).sum::<f64>() - GAP;
+    units.max(0.0) * height / HEIGHT
+}
+
+/// The letters of the font, in no order.
+pub fn alphabet() -> impl Iterator<Item = char> {
+    GLYPHS.iter().map(|glyph| glyph.0)
 }
 
 /// Appends a text from its lower left corner.
@@ -30,22 +37,29 @@ fn places<'a>(text: &'a str, corner: Point, height: f64) -> impl Iterator<Item =
     let unit = height / HEIGHT;
     text.chars().scan(corner.0, move |x, letter| {
         let at = (*x, corner.1);
-        *x += (glyph(letter).1 + GAP) * unit;
+        *x += advance(letter) * unit;
         Some((letter, at))
     })
 }
 
 fn write_letter(shape: Shape, letter: char, corner: Point, height: f64) -> Shape {
     let unit = height / HEIGHT;
-    shape.lines(glyph(letter).2, corner, unit, LINE * unit)
+    match glyph(letter) {
+        Some(glyph) => shape.lines(glyph.2, corner, unit, LINE * unit),
+        None => shape.spoiled(Fault::NoLetter(letter)),
+    }
+}
+
+/// How far the next letter is.
+fn advance(letter: char) -> f64 {
+    glyph(letter).map_or(0.0, |glyph| glyph.1 + GAP)
 }
 
 /// A letter, its width, and its lines.
 type Glyph = (char, f64, &'static [Line]);
 
-/// A letter of the panel; the panel's texts have no other.
-fn glyph(letter: char) -> &'static Glyph {
-    GLYPHS.iter().find(|glyph| glyph.0 == letter).unwrap_or_else(|| panic!("the panel's font has no {letter:?}"))
+fn glyph(letter: char) -> Option<&'static Glyph> {
+    GLYPHS.iter().find(|glyph| glyph.0 == letter)
 }
 
 const GLYPHS: &[Glyph] = &[
@@ -108,6 +122,14 @@ const GLYPHS: &[Glyph] = &[
     ),
     ('A', 10.6, &[Straight(&[(1.0, 0.0), (5.3, 15.6), (9.6, 0.0)]), Straight(&[(2.2, 4.6), (8.4, 4.6)])]),
     (
+        'B',
+        10.0,
+        &[
+            Closed(&[(1.2, 1.2, 0.0), (8.8, 1.2, 3.5), (8.8, 8.3, 3.5), (1.2, 8.3, 0.0)]),
+            Closed(&[(1.2, 8.3, 0.0), (8.4, 8.3, 3.2), (8.4, 14.8, 3.2), (1.2, 14.8, 0.0)]),
+        ],
+    ),
+    (
         'C',
         9.8,
         &[Open(&[
@@ -121,6 +143,7 @@ const GLYPHS: &[Glyph] = &[
     ),
     ('D', 10.2, &[Closed(&[(1.2, 1.2, 0.0), (9.0, 1.2, 4.4), (9.0, 14.8, 4.4), (1.2, 14.8, 0.0)])]),
     ('E', 9.0, &[Straight(&[(9.0, 14.8), (1.2, 14.8), (1.2, 1.2), (9.0, 1.2)]), Straight(&[(1.2, 8.1), (8.0, 8.1)])]),
+    ('F', 9.0, &[Straight(&[(9.0, 14.8), (1.2, 14.8), (1.2, 0.0)]), Straight(&[(1.2, 8.1), (8.0, 8.1)])]),
     (
         'G',
         10.2,
@@ -144,6 +167,16 @@ const GLYPHS: &[Glyph] = &[
         ],
     ),
     ('I', 2.4, &[Straight(&[(1.2, 0.0), (1.2, 16.0)])]),
+    ('J', 8.4, &[Open(&[(7.2, 16.0, 0.0), (7.2, 1.2, 3.0), (1.2, 1.2, 2.8), (1.2, 4.6, 0.0)])]),
+    (
+        'K',
+        9.6,
+        &[
+            Straight(&[(1.2, 0.0), (1.2, 16.0)]),
+            Straight(&[(1.4, 5.8), (8.3, 16.0)]),
+            Straight(&[(3.9, 9.2), (8.6, 0.0)]),
+        ],
+    ),
     ('L', 8.4, &[Straight(&[(1.2, 16.0), (1.2, 1.2), (8.4, 1.2)])]),
     (
         'M',
@@ -166,6 +199,22 @@ const GLYPHS: &[Glyph] = &[
     ('O', 10.8, &[Closed(&[(1.2, 1.2, 4.2), (9.6, 1.2, 4.2), (9.6, 14.8, 4.2), (1.2, 14.8, 4.2)])]),
     ('P', 9.8, &[Open(&[(1.2, 0.0, 0.0), (1.2, 14.8, 0.0), (8.6, 14.8, 3.6), (8.6, 7.0, 3.6), (1.2, 7.0, 0.0)])]),
     (
+        'Q',
+        10.8,
+        &[
+            Closed(&[(1.2, 1.2, 4.2), (9.6, 1.2, 4.2), (9.6, 14.8, 4.2), (1.2, 14.8, 4.2)]),
+            Straight(&[(6.2, 4.6), (10.2, 0.2)]),
+        ],
+    ),
+    (
+        'R',
+        9.8,
+        &[
+            Open(&[(1.2, 0.0, 0.0), (1.2, 14.8, 0.0), (8.6, 14.8, 3.6), (8.6, 7.0, 3.6), (1.2, 7.0, 0.0)]),
+            Straight(&[(5.0, 7.0), (8.8, 0.0)]),
+        ],
+    ),
+    (
         'S',
         10.0,
         &[Open(&[
@@ -180,8 +229,12 @@ const GLYPHS: &[Glyph] = &[
         ])],
     ),
     ('T', 9.6, &[Straight(&[(0.0, 14.8), (9.6, 14.8)]), Straight(&[(4.8, 0.0), (4.8, 14.8)])]),
+    ('U', 10.2, &[Open(&[(1.2, 16.0, 0.0), (1.2, 1.2, 3.8), (9.0, 1.2, 3.8), (9.0, 16.0, 0.0)])]),
     ('V', 10.4, &[Straight(&[(1.0, 16.0), (5.2, 0.4), (9.4, 16.0)])]),
+    ('W', 14.4, &[Straight(&[(1.0, 16.0), (4.1, 0.4), (7.2, 14.0), (10.3, 0.4), (13.4, 16.0)])]),
+    ('X', 10.2, &[Straight(&[(1.2, 16.0), (9.0, 0.0)]), Straight(&[(9.0, 16.0), (1.2, 0.0)])]),
     ('Y', 10.0, &[Straight(&[(1.1, 16.0), (5.0, 7.6), (8.9, 16.0)]), Straight(&[(5.0, 0.0), (5.0, 8.0)])]),
+    ('Z', 9.8, &[Straight(&[(0.6, 14.8), (8.2, 14.8), (1.6, 1.2), (9.4, 1.2)])]),
     (
         'a',
         8.8,
@@ -228,6 +281,17 @@ const GLYPHS: &[Glyph] = &[
     (' ', 3.2, &[]),
     ('.', 2.6, &[Straight(&[(1.3, 0.0), (1.3, 2.6)])]),
     (':', 2.6, &[Straight(&[(1.3, 2.2), (1.3, 4.8)]), Straight(&[(1.3, 9.0), (1.3, 11.6)])]),
+    ('-', 6.4, &[Straight(&[(0.4, 7.4), (6.0, 7.4)])]),
+    ('+', 8.4, &[Straight(&[(0.4, 7.4), (8.0, 7.4)]), Straight(&[(4.2, 3.6), (4.2, 11.2)])]),
+    (
+        '%',
+        13.0,
+        &[
+            Closed(&[(1.2, 9.8, 2.0), (5.2, 9.8, 2.0), (5.2, 14.8, 2.0), (1.2, 14.8, 2.0)]),
+            Closed(&[(7.8, 1.2, 2.0), (11.8, 1.2, 2.0), (11.8, 6.2, 2.0), (7.8, 6.2, 2.0)]),
+            Straight(&[(2.6, 0.0), (10.4, 16.0)]),
+        ],
+    ),
     ('/', 7.4, &[Straight(&[(1.0, 0.0), (6.4, 16.0)])]),
     ('°', 5.6, &[Closed(&[(1.2, 11.6, 1.6), (4.4, 11.6, 1.6), (4.4, 14.8, 1.6), (1.2, 14.8, 1.6)])]),
 ];

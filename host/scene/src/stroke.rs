@@ -9,11 +9,15 @@ const GREATEST_MITRE: f64 = 120.0;
 /// Shorter pieces than this, in pixels, are none.
 const SHORTEST: f64 = 1e-6;
 
-/// A line of a letter or a sign: its points, with the radii of its turns unless it is made of straight pieces.
-#[derive(Clone, Copy)]
+/// A line of a letter or a sign: its points, with the radii of its turns unless it is made of straight pieces. One with fewer
+/// than two points draws nothing, nor does a closed one with fewer than three.
+#[derive(Clone, Copy, Debug)]
 pub enum Line {
+    /// Straight pieces through these points.
     Straight(&'static [Point]),
+    /// From the first point to the last: x, y and the radius in which the line turns there.
     Open(&'static [(f64, f64, f64)]),
+    /// The same, and back to the first point.
     Closed(&'static [(f64, f64, f64)]),
 }
 
@@ -45,6 +49,9 @@ pub fn border(shape: Shape, points: &[Point], width: f64) -> Shape {
 
 /// Appends the outline of an open line with flat ends.
 fn open(shape: Shape, corners: &[Corner], width: f64) -> Shape {
+    if corners.len() < 2 {
+        return shape;
+    }
     let half = width / 2.0;
     let back: Vec<Corner> = corners.iter().rev().copied().collect();
     let shape = side(shape.move_to(end(corners, half)), corners, half);
@@ -53,6 +60,9 @@ fn open(shape: Shape, corners: &[Corner], width: f64) -> Shape {
 
 /// Appends both outlines of a line that ends where it begins.
 fn closed(shape: Shape, corners: &[Corner], width: f64) -> Shape {
+    if corners.len() < 3 {
+        return shape;
+    }
     let half = width / 2.0;
     let back: Vec<Corner> = corners.iter().rev().copied().collect();
     loop_side(loop_side(shape, corners, half), &back, half)

@@ -1,9 +1,7 @@
-//! The panel's draws: shapes and paints in panel pixels, brought onto a surface of some scale, by day or at night.
+//! A scene in the making: shapes, texts and paints in pixels of a canvas, brought onto a surface of some scale.
 
-use scene::{Draw, PaintType, Scene, Stop, IDENTITY};
-
-use crate::font;
 use crate::shape::{self, Point, Shape};
+use crate::{font, Draw, Error, PaintType, Scene, Stop, IDENTITY};
 
 /// Where the light comes from, a direction of length 1: from above, a little from the left.
 const LIGHT: Point = (-0.6, 0.8);
@@ -16,11 +14,30 @@ pub type Color = u32;
 pub type Stops<'a> = &'a [(f32, Color)];
 
 /// What a shape is filled with.
-#[derive(Clone, Copy)]
+#[derive(Clone, Copy, Debug)]
 pub enum Paint<'a> {
+    /// A colour.
     Color(Color),
-    Linear { from: Point, to: Point, stops: Stops<'a> },
-    Radial { center: Point, focus: Point, radius: f64, stops: Stops<'a> },
+    /// A gradient from a point to another.
+    Linear {
+        /// Where offset 0 is.
+        from: Point,
+        /// Where offset 1 is.
+        to: Point,
+        /// The colours.
+        stops: Stops<'a>,
+    },
+    /// A gradient from a focal point to the circle round it.
+    Radial {
+        /// The circle's centre.
+        center: Point,
+        /// Where offset 0 is, within the circle.
+        focus: Point,
+        /// The circle's radius; offset 1 is on it.
+        radius: f64,
+        /// The colours.
+        stops: Stops<'a>,
+    },
 }
 
 impl<'a> Paint<'a> {
@@ -60,56 +77,37 @@ pub fn light_angle() -> f64 {
     LIGHT.1.atan2(LIGHT.0).to_degrees()
 }
 
-/// What is dimmed alike at night.
-#[derive(Clone, Copy, Debug, PartialEq, Eq)]
-pub enum Part {
-    /// What only holds the instruments.
-    Housing,
-    /// Marks, figures, words and needles.
-    Print,
-    /// What tells by its colour: lamps and bars.
-    Lamp,
-    /// Doorways and leaves, large and bright by day.
-    Door,
-}
-
-impl Part {
-    /// What is left of red, green and blue at night, as a transformation.
-    fn at_night(self) -> [f32; 8] {
-        let [r, g, b] = match self {
-            Part::Housing => [0.34, 0.3, 0.3],
-            Part::Print => [0.88, 0.48, 0.3],
-            Part::Lamp => [0.8, 0.7, 0.7],
-            Part::Door => [0.66, 0.46, 0.34],
-        };
-        [r, g, b, 1.0, 0.0, 0.0, 0.0, 0.0]
-    }
-}
-
-/// A scene in the making.
+/// A scene in the making. What goes wrong first is kept, and [`Canvas::scene`] says it.
+#[derive(Clone, Debug)]
 pub struct Canvas {
     scale: f64,
     scene: Scene,
-    part: Part,
+    transformation: Option<[f32; 8]>,
     masked: bool,
+    error: Option<Error>,
 }
 
-/// The edition of scenes by day, and the one that has transformations.
-const DAY: u16 = 0;
-const NIGHT: u16 = 1;
-
 impl Canvas {
-    /// A canvas of this size in panel pixels, at a scale.
-    pub fn new((width, height): Point, scale: f64, background: Color, night: bool) -> Canvas {
+    /// A canvas of this size in its own pixels; the surface is so many times larger.
+    pub fn new((width, height): Point, scale: f64, background: Color) -> Canvas {
         let side = |pixels: f64| (pixels * scale).round() as u16;
-        let mut scene = Scene::new(side(width), side(height), background.to_be_bytes());
-        scene.edition = if night { NIGHT } else { DAY };
-        Canvas { scale, scene, part: Part::Housing, masked: false }
+        let scene = Scene::new(side(width), side(height), background.to_be_bytes());
+        Canvas { scale, scene, transformation: None, masked: false, error: None }
     }
 
-    /// What is filled from here on.
-    pub fn set_part(&mut self, part: Part) {
-        self.part = part;
+    /// The scene's edition, which is 0 at first. Edition 1 has transformations.
+    pub fn set_edition(&mut self, edition: u16) {
+        self.scene.edition = edition;
+    }
+
+    /// The scene's edition.
+    pub fn edition(&self) -> u16 {
+        self.scene.edition
+    }
+
+    /// The transformation of what is filled from here on, four scales and four biases; none at first, and in edition 0.
+    pub fn set_transformation(&mut self, transformation: Option<[f32; 8]>) {
+        self.transformation = transformation;
     }
 
     /// Whether what is filled from here on asks for the mask.
@@ -117,17 +115,25 @@ impl Canvas {
         self.masked = masked;
     }
 
-    pub fn scene(self) -> Scene {
-        self.scene
+    /// The scene, if nothing went wrong and it keeps the rules of the format.
+    pub fn scene(self) -> Result<Scene, Error> {
+        match self.error {
+            Some(error) => Err(error),
+            None => self.scene.judge().map(|()| self.scene),
+        }
     }
 
+    /// Fills a shape.
     pub fn fill(&mut self, shape: Shape, paint: Paint) {
         self.fill_turned(shape, paint, 0.0, (0.0, 0.0));
     }
 
     /// Fills a shape that lies about the origin, turned by an angle in degrees and moved to a point. The paint is not.
     pub fn fill_turned(&mut self, shape: Shape, paint: Paint, degrees: f64, to: Point) {
-        assert!(shape.fits(), "a draw has no places for {} segments", shape.path.segments.len());
+        if let Some(fault) = shape.fault().or_else(|| shape.excess()) {
+            self.error = self.error.or(Some(Error { draw: Some(self.scene.draws.len()), fault }));
+            return;
+        }
         let unit = self.scale / shape::UNITS;
         let (sin, cos) = degrees.to_radians().sin_cos();
         let matrix = [unit * cos, unit * sin, -unit * sin, unit * cos, to.0 * self.scale, to.1 * self.scale];
@@ -135,8 +141,8 @@ impl Canvas {
             fill_rule: shape.fill_rule,
             premultiplied_ramp: true,
             masked: self.masked,
-            transformed: self.scene.edition == NIGHT,
-            transformation: if self.scene.edition == NIGHT { self.part.at_night() } else { IDENTITY },
+            transformed: self.transformation.is_some(),
+            transformation: self.transformation.unwrap_or(IDENTITY),
             matrix: matrix.map(|v| v as f32),
             path: shape.path,
             ..self.painted(paint)

@@ -1,25 +1,28 @@
-//! Shapes in panel pixels, written as paths in sixteenths of a pixel.
+//! Shapes in pixels of a canvas, written as paths in sixteenths of a pixel.
 
-use scene::{FillRule, Path};
-
-use crate::font;
+use crate::judge::{most_coordinates, MOST_SEGMENTS};
 use crate::stroke::{self, Line};
+use crate::{font, Fault, FillRule, Path};
 
-/// Path units in a panel pixel.
+/// Path units in a pixel.
 pub const UNITS: f64 = 16.0;
-/// What a draw has places for, in the file's oldest and its newer edition.
-const MOST_SEGMENTS: usize = 128;
-const MOST_COORDINATES: usize = 550;
+/// The edition with fewer coordinates: what fits into its draws fits into all.
+const NARROWEST_EDITION: u16 = 1;
 /// The greatest part of a circle, in degrees, that is drawn as one cubic.
 const GREATEST_ARC: f64 = 90.0;
 
+/// x and y in pixels, row 0 the lowest.
 pub type Point = (f64, f64);
 
-/// A path with the rule that fills it. Each method appends a closed part and returns the shape.
+/// A path with the rule that fills it. Each method appends a closed part and returns the shape; what cannot be appended is
+/// left out, and [`Shape::fault`] says so.
 #[derive(Clone, Debug, Default)]
 pub struct Shape {
+    /// The path, in sixteenths of a pixel.
     pub path: Path,
+    /// What of it is inside.
     pub fill_rule: FillRule,
+    fault: Option<Fault>,
 }
 
 impl Shape {
@@ -28,40 +31,64 @@ impl Shape {
         Shape::default()
     }
 
-    pub fn move_to(self, to: Point) -> Shape {
-        let (x, y) = units(to);
-        Shape { path: self.path.move_to(x, y), ..self }
+    /// What was the first that could not be appended: a point too far from the origin, about 2,048 pixels, or a letter that the
+    /// font does not have.
+    pub fn fault(&self) -> Option<Fault> {
+        self.fault
     }
 
-    /// The point where the path stands; every segment here ends with its point.
+    /// The shape with a fault, if it is the first.
+    pub(crate) fn spoiled(self, fault: Fault) -> Shape {
+        Shape { fault: self.fault.or(Some(fault)), ..self }
+    }
+
+    /// Begins a part.
+    pub fn move_to(self, to: Point) -> Shape {
+        match units(to) {
+            Some((x, y)) => Shape { path: self.path.move_to(x, y), ..self },
+            None => self.spoiled(Fault::BadPoint),
+        }
+    }
+
+    /// The point where the path stands, which is the origin at first; every segment here ends with its point.
     pub fn end(&self) -> Point {
         match self.path.coordinates[..] {
             [.., x, y] => (f64::from(x) / UNITS, f64::from(y) / UNITS),
-            _ => panic!("an empty path stands nowhere"),
+            _ => (0.0, 0.0),
         }
     }
 
+    /// A line, unless the path stands there.
     pub fn line_to(self, to: Point) -> Shape {
-        let (x, y) = units(to);
-        if (f64::from(x) / UNITS, f64::from(y) / UNITS) == self.end() {
-            return self;
+        match units(to) {
+            Some((x, y)) if (f64::from(x) / UNITS, f64::from(y) / UNITS) == self.end() => self,
+            Some((x, y)) => Shape { path: self.path.line_to(x, y), ..self },
+            None => self.spoiled(Fault::BadPoint),
         }
-        Shape { path: self.path.line_to(x, y), ..self }
     }
 
+    /// A cubic curve with two controls.
     pub fn cubic_to(self, first: Point, second: Point, to: Point) -> Shape {
-        Shape { path: self.path.cubic_to(units(first), units(second), units(to)), ..self }
+        match (units(first), units(second), units(to)) {
+            (Some(first), Some(second), Some(to)) => Shape { path: self.path.cubic_to(first, second, to), ..self },
+            _ => self.spoiled(Fault::BadPoint),
+        }
     }
 
-    /// The last side is drawn where the next part begins, or the path ends.
+    /// The polygon through points. The last side is drawn where the next part begins, or the path ends.
     pub fn polygon(self, points: &[Point]) -> Shape {
-        points[1..].iter().fold(self.move_to(points[0]), |shape, &point| shape.line_to(point))
+        points.iter().enumerate().fold(self, |shape, (i, &point)| match i {
+            0 => shape.move_to(point),
+            _ => shape.line_to(point),
+        })
     }
 
+    /// A rectangle from its lower left corner.
     pub fn rectangle(self, x: f64, y: f64, width: f64, height: f64) -> Shape {
         self.polygon(&[(x, y), (x + width, y), (x + width, y + height), (x, y + height)])
     }
 
+    /// A rectangle with round corners.
     pub fn rounded_rectangle(self, x: f64, y: f64, width: f64, height: f64, radius: f64) -> Shape {
         let (left, right) = (x + radius, x + width - radius);
         let (bottom, top) = (y + radius, y + height - radius);
@@ -72,7 +99,7 @@ impl Shape {
             .arc((left, bottom), radius, 180.0, 270.0)
     }
 
-    /// Clockwise, as lines are.
+    /// A circle, clockwise, as lines are.
     pub fn circle(self, center: Point, radius: f64) -> Shape {
         self.move_to(on_circle(center, radius, 0.0)).arc(center, radius, 0.0, -360.0)
     }
@@ -121,18 +148,33 @@ impl Shape {
         path.segments.extend(&more.segments);
         path.coordinates.extend(&more.coordinates);
         let as_one = [self.fill_rule, other.fill_rule].contains(&FillRule::NonZero);
-        let joined = Shape { path, fill_rule: if as_one { FillRule::NonZero } else { FillRule::EvenOdd } };
+        let fill_rule = if as_one { FillRule::NonZero } else { FillRule::EvenOdd };
+        let joined = Shape { path, fill_rule, fault: self.fault.or(other.fault) };
         joined.fits().then_some(joined)
     }
 
     /// Whether a draw has places for the shape.
     pub fn fits(&self) -> bool {
-        self.path.segments.len() <= MOST_SEGMENTS && self.path.coordinates.len() <= MOST_COORDINATES
+        self.excess().is_none()
+    }
+
+    /// What of the shape a draw has no places for.
+    pub(crate) fn excess(&self) -> Option<Fault> {
+        if self.path.segments.len() > MOST_SEGMENTS {
+            Some(Fault::TooManySegments)
+        } else if self.path.coordinates.len() > most_coordinates(NARROWEST_EDITION) {
+            Some(Fault::TooManyCoordinates)
+        } else {
+            None
+        }
     }
 
     /// A line to where an arc about a centre begins, and the arc.
     pub fn arc(self, center: Point, radius: f64, from: f64, to: f64) -> Shape {
         let pieces = ((to - from).abs() / GREATEST_ARC).ceil().max(1.0);
+        if pieces > MOST_SEGMENTS as f64 {
+            return self.spoiled(Fault::TooManySegments);
+        }
         let step = (to - from) / pieces;
         let reach = radius * 4.0 / 3.0 * (step.to_radians() / 4.0).tan();
         (0..pieces as i32).fold(self.line_to(on_circle(center, radius, from)), |shape, i| {
@@ -159,6 +201,11 @@ fn along_tangent(center: Point, radius: f64, degrees: f64, by: f64) -> Point {
     (center.0 + radius * cos - by * sin, center.1 + radius * sin + by * cos)
 }
 
-fn units((x, y): Point) -> (i16, i16) {
-    ((x * UNITS).round() as i16, (y * UNITS).round() as i16)
+/// A point in path units, if it is in their range.
+fn units((x, y): Point) -> Option<(i16, i16)> {
+    let unit = |v: f64| {
+        let units = (v * UNITS).round();
+        (f64::from(i16::MIN)..=f64::from(i16::MAX)).contains(&units).then_some(units as i16)
+    };
+    Some((unit(x)?, unit(y)?))
 }
