@@ -8,6 +8,7 @@
  *   wayramesh_draw_plain   draws in full too, by another and slower engine
  *   wayramesh_compare      says where two pictures differ
  *   wayramesh_composite    is the blending step on one pixel
+ *   wayramesh_explain      says why a pixel has its colour, or where in a refused file the rules were broken
  *   wayramesh_salvage      writes a spoiled scene again
  *
  * Link with libwayramesh.a (x86-64; it needs memcpy and memset of the C library). The library allocates nothing, keeps
@@ -315,6 +316,111 @@ typedef struct wayramesh_composited {
 wayramesh_composited wayramesh_composite(uint32_t mode, uint32_t coverage, uint32_t mask,
                                          wayramesh_pixel source, wayramesh_pixel destination);
 
+/* ---- Why a pixel has its colour ---- */
+
+/*
+ * What wayramesh_explain answers.
+ *
+ *   code     WAYRAMESH_ACCEPTED if the pixel can be explained. Else the code of the scene; or
+ *            WAYRAMESH_UNSUPPORTED_IMAGE_FORMAT if mask_len of a mask that is lent is not width * height; or
+ *            WAYRAMESH_ILLEGAL_ARGUMENT if the pixel lies outside the picture. They are judged in this order.
+ *   draw     The number, from 0, of the draw that broke a rule; WAYRAMESH_NO_DRAW if none did.
+ *   offset   Of a scene that is refused, where in the file the number, the check or the segment is that the rules met
+ *            first. A wrong length is at 0, a wrong check at 512 * block + 508, a flat matrix at its sx, a bad focal point
+ *            at cx, a coordinate or a point at its segment, an unused place at its first byte that is not zero. 0 in all
+ *            other answers.
+ *   draws    How many draws the scene has; 0 in a refusal.
+ *   pixel    The pixel before the first draw, which is the background, premultiplied; zeros in a refusal.
+ */
+typedef struct wayramesh_explanation {
+    uint32_t code;
+    uint32_t draw;
+    size_t offset;
+    uint32_t draws;
+    wayramesh_pixel pixel;
+} wayramesh_explanation;
+
+/*
+ * Begins the explanation of a pixel.
+ *
+ *   scene, scene_len      The scene file, any bytes.
+ *   mask_lent, mask, mask_len
+ *                         As in wayramesh_draw.
+ *   x, y                  The pixel, any numbers; row 0 is the lowest.
+ *
+ * Scene and mask are only read, and nothing is written. wayramesh_explain_draw then gives the line of each draw.
+ */
+wayramesh_explanation wayramesh_explain(const uint8_t *scene, size_t scene_len,
+                                        uint32_t mask_lent, const uint8_t *mask, size_t mask_len,
+                                        uint32_t x, uint32_t y);
+
+/* The same without a mask. */
+static inline wayramesh_explanation wayramesh_explain_unmasked(const uint8_t *scene, size_t scene_len,
+                                                               uint32_t x, uint32_t y)
+{
+    return wayramesh_explain(scene, scene_len, 0, scene, 0, x, y);
+}
+
+/* The kinds of a line. */
+#define WAYRAMESH_NO_LINE 0u   /* the scene has no such draw, or wayramesh_explain refuses the scene, the mask or the pixel */
+#define WAYRAMESH_OUTSIDE 1u   /* scissoring is on, and the pixel is in no scissor */
+#define WAYRAMESH_UNCOVERED 2u /* no sample of the pixel is inside the path */
+#define WAYRAMESH_COVERED 3u
+
+/*
+ * The line of a draw.
+ *
+ *   kind      One of the above.
+ *   before    The pixel before the draw, as it was given.
+ *   after     The pixel after it: the same, if the kind is not WAYRAMESH_COVERED.
+ *
+ * The others are 0 if the kind is not WAYRAMESH_COVERED.
+ *
+ *   coverage  How many of the pixel's WAYRAMESH_SAMPLES samples are inside.
+ *   masked    1 if the draw uses the mask, else 0.
+ *   mask      The mask's byte there; 255 if the draw does not use the mask.
+ *   paint     The paint there as it is blended: premultiplied, after the draw's colour transformation if that is on.
+ */
+typedef struct wayramesh_line {
+    uint32_t kind;
+    wayramesh_pixel before;
+    wayramesh_pixel after;
+    uint32_t coverage;
+    uint32_t masked;
+    uint32_t mask;
+    wayramesh_pixel paint;
+} wayramesh_line;
+
+/*
+ * The line of a draw at the pixel (x, y).
+ *
+ *   scene to y  As in wayramesh_explain.
+ *   draw        The number of the draw, any number.
+ *   before      The pixel before this draw, any bytes.
+ *
+ * For the whole story begin with the pixel of wayramesh_explain, go through the draws from 0 to draws - 1, and give each
+ * the pixel after the one before it:
+ *
+ *   wayramesh_explanation e = wayramesh_explain_unmasked(scene, scene_len, x, y);
+ *   wayramesh_pixel p = e.pixel;
+ *   for (uint32_t i = 0; i < e.draws; i++)
+ *       p = wayramesh_explain_draw_unmasked(scene, scene_len, x, y, i, p).after;
+ *
+ * It is proved that both calls return and that their answers are those of the rules, for all bytes and numbers; that the
+ * lines, taken so, are the steps of the drawing at that pixel; and that the last pixel is the one that an accepted
+ * wayramesh_draw stores there. Each call judges the whole scene anew.
+ */
+wayramesh_line wayramesh_explain_draw(const uint8_t *scene, size_t scene_len,
+                                      uint32_t mask_lent, const uint8_t *mask, size_t mask_len,
+                                      uint32_t x, uint32_t y, uint32_t draw, wayramesh_pixel before);
+
+/* The same without a mask. */
+static inline wayramesh_line wayramesh_explain_draw_unmasked(const uint8_t *scene, size_t scene_len,
+                                                             uint32_t x, uint32_t y, uint32_t draw,
+                                                             wayramesh_pixel before)
+{
+    return wayramesh_explain_draw(scene, scene_len, 0, scene, 0, x, y, draw, before);
+}
 /* ---- A spoiled scene written again ---- */
 
 /* The numbers of a list that has room for every draw of a scene: two for each of 64. */

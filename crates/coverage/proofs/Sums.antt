@@ -19,7 +19,7 @@ use Rattle.fixed.proofs.Tests.{both-left, both-right}
 use Rattle.coverage.proofs.Crossing.{first-column-law, place-law}
 
 -- ---- sums over edges
-sum-append : (f : Edge → ℤ) (a b : List Edge) → sumOf f (a ++ b) ≡ sumOf f a +ℤ sumOf f b
+pub sum-append : (f : Edge → ℤ) (a b : List Edge) → sumOf f (a ++ b) ≡ sumOf f a +ℤ sumOf f b
 sum-append f [] b = sym (+ℤ-idl (sumOf f b))
 sum-append f (e ∷ a) b = rw (sum-append f a b, +ℤ-assoc)
 

@@ -21,7 +21,7 @@ pub fn print_explanation(scene: &[u8], masked: bool, mask: &[u8], x: usize, y: u
             .print();
         return;
     }
-    let p = print_draws(scene, masked, mask, x, y, start.draws, start.pixel);
+    let p = print_draws(scene, masked, mask, x, y, start.draws as usize, start.pixel);
     with_pixel(Line::new().word(b"pixel"), p).print();
 }
 
@@ -73,7 +73,7 @@ fn print_covered(named: Line, line: reason::Line) {
     let counted = with_step(named.word(b"covered"), line)
         .word(b"k")
         .decimal(line.k as u64);
-    if line.masked {
+    if line.masked != 0 {
         print_paint(counted.word(b"mask").decimal(line.mask as u64), line.paint);
         return;
     }

@@ -50,7 +50,7 @@ pub curve-pieces : (o : Point) (c : Curve) → (c .degree ≡ 1 → ⊥) → cur
 unfolding curveEdges
 curve-pieces o c e = rw (ne-eqb (c .degree) 1 e)
 
-curve-count : (o : Point) (c : Curve) → length (curveEdges o c) ≤ 16
+pub curve-count : (o : Point) (c : Curve) → length (curveEdges o c) ≤ 16
 curve-count o c =
     either (eqb (c .degree) 1)
     (λ e. rw (curve-line o c (eqb-true _ _ e)) (omega (arith, edge-count o (c .p3))))

@@ -1,19 +1,19 @@
--- Laws of outlines. Callers of this crate need the first five; the others serve its own functions.
+-- Laws of outlines. Callers of this crate need the first seven; the others serve its own functions.
 --     Flattened   what `flatten` leaves
 --     Returns     a path's edges come back to where they began
 --     Counts      how many edges a curve and a path have
 --     Sizes       the points and the edges of an accepted path are small
 --     Stores      edges stored in a run of numbers
 --     Every       what holds of every element of a list
+--     Walked      one segment more
 --     Bezier      cut points of a curve, over its degree
 --     Outermost   the outer end of edges, and their box
---     Walked      one segment more
 pub mod Flattened
 pub mod Returns
 pub mod Counts
 pub mod Sizes
 pub mod Stores
 pub mod Every
+pub mod Walked
 mod Bezier
 mod Outermost
-mod Walked

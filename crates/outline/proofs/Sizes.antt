@@ -72,7 +72,7 @@ module _ (o : Point) (c : Curve) (near : OnGrid o) (h : Drawable c) where
       let sy : Within 8388608 (c .p3 .y) = record { size = h .p3 .y } in
       record { x = cut-size px qx rx sx d k m .size; y = cut-size py qy ry sy d k m .size }
 
-  curve-small : Every Small (curveEdges o c)
+  pub curve-small : Every Small (curveEdges o c)
   curve-small =
       either (eqb (c .degree) 1)
       (λ e. rw (curve-line o c (eqb-true _ _ e)) (edge-small o (c .p3) near (h .p3)))
@@ -93,7 +93,7 @@ curve-drawable m c h = record {
   p3 = placed-grid m (c .p3) (h .p3);
 }
 
-line-placed : (m : FixedMatrix) (e : Point) → Placed m e → CurvePlaced m (lineTo e)
+pub line-placed : (m : FixedMatrix) (e : Point) → Placed m e → CurvePlaced m (lineTo e)
 line-placed m e h = record { some = omega arith; most = omega arith; p1 = h; p2 = h; p3 = h }
 
 shaped-degree : (c : Curve) → Shaped c → (1 ≤ c .degree) × (c .degree ≤ 3)
@@ -146,7 +146,7 @@ module _ (m : FixedMatrix) (ss cs : List ℕ) (limited : Limited m) where
       by true h k = k
       by false h k = h
 
-  drawn-placed : (i n : ℕ) → i < n → faultTo m ss cs n .code ≡ 0
+  pub drawn-placed : (i n : ℕ) → i < n → faultTo m ss cs n .code ≡ 0
       → CurvePlaced m (drawnBy (walkTo ss cs i .pen) (getD ss i 0) (curveAt cs (walkTo ss cs i) (getD ss i 0)))
   drawn-placed i n l e = by (leb (number (getD ss i 0)) 2) (line-placed m _ (pen-placed i n (omega arith) e .start)) (curve-placed i n l e)
     where

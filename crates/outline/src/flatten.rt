@@ -48,7 +48,14 @@ pub fn flatten(
 }
 
 // The edges of a segment with that byte and those points go after the n that are there. The number of edges then.
-fn store_segment(m: FixedMatrix, edges: &mut [i32], n: usize, pen: Pen, byte: u8, c: Curve) -> usize
+pub fn store_segment(
+    m: FixedMatrix,
+    edges: &mut [i32],
+    n: usize,
+    pen: Pen,
+    byte: u8,
+    c: Curve,
+) -> usize
     requires { ⌜ n * 4 + 64 ≤ length (now edges) ⌝ }
     requires { ⌜ Limited m × (PenPlaced m pen × CurvePlaced m c) ⌝ }
     ensures { λ r. ⌜ now (edges .exit) ≡ putEdges (now (edges .entry)) n (drawnEdges m pen (drawnBy pen byte c)) ⌝ }
@@ -63,7 +70,7 @@ fn store_segment(m: FixedMatrix, edges: &mut [i32], n: usize, pen: Pen, byte: u8
 }
 
 // The edge back to the start of the subpath.
-fn store_closing(m: FixedMatrix, edges: &mut [i32], n: usize, pen: Pen) -> usize
+pub fn store_closing(m: FixedMatrix, edges: &mut [i32], n: usize, pen: Pen) -> usize
     requires { ⌜ n * 4 + 3 < length (now edges) ⌝ }
     requires { ⌜ Limited m × PenPlaced m pen ⌝ }
     ensures { λ r. ⌜ now (edges .exit) ≡ putEdges (now (edges .entry)) n (drawnEdges m pen (lineTo (pen .start))) ⌝ }

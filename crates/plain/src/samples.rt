@@ -25,7 +25,7 @@ fn wind(scratch: &[i32], n: usize, x: i32, y: i32) -> i32
 }
 
 // 1 where the winding number is inside: odd, or, by the non-zero rule, not zero.
-fn one_if_inside(nonzero: bool, w: i32) -> usize
+pub fn one_if_inside(nonzero: bool, w: i32) -> usize
     ensures { λ r. ⌜ (r ≡ oneIf (insideBy nonzero w)) × (r ≤ 1) ⌝ }
 {
     if nonzero {

@@ -1,4 +1,6 @@
 pub mod Single
+pub mod Summed
+pub mod Held
 pub mod Refusals
 pub mod Drawn
 pub mod Chain

@@ -24,6 +24,7 @@ use Rattle.engine.specs.Rows.{MaskForScene}
 use Rattle.render.specs.declared.Refusal.{Refusal}
 use Rattle.render.specs.Answers.{Mask, maskWrong, maskBytes}
 use Rattle.render.proofs.Refusals.{MaskFits, lent-passes, lent-fine}
+use Rattle.render.proofs.Draws.{sooner-draw, demanded-draw, fault-draw}
 use Rattle.reason.specs.declared.Line.{Line}
 use Rattle.reason.specs.declared.Start.{Start}
 use Rattle.reason.specs.Explanations.{noLine, bareLine, lentFault, pixelFault, sceneLine, refusedStart, acceptedStart, startOf, lineAnswer}
@@ -77,6 +78,19 @@ module _ (s : List ℕ) (m : Mask) (x y : ℕ) where
       let fits = not-true _ (demanded (not (maskWrong m (w * h))) (fault unsupportedImageFormat 64 0) (refuses unsupportedImageFormat refl) (q .0)) in
       let inside = both (ltb x w) (ltb y h) (demanded (ltb x w && ltb y h) (fault illegalArgument 64 0) (refuses illegalArgument refl) (q .1)) in
       record { scene = p .0; mask = mask-fits w h m x y fits; across = ltb-true x w (inside .0); up = ltb-true y h (inside .1) }
+
+  -- its draw number
+  pub fault-number : pixelFault s m x y .draw ≤ 64
+  unfolding pixelFault lentFault
+  fault-number =
+      let w = widthOf s in
+      let h = heightOf s in
+      let fits : Bool = not (maskWrong m (w * h)) in
+      let inside : Bool = ltb x w && ltb y h in
+      let masked = fault unsupportedImageFormat 64 0 in
+      let pixel = fault illegalArgument 64 0 in
+      sooner-draw (sceneFault (m .lent) s) (lentFault w h m x y) (fault-draw (m .lent) s)
+      (λ _. sooner-draw (demand fits masked) (demand inside pixel) (demanded-draw fits masked (omega arith)) (λ _. demanded-draw inside pixel (omega arith)))
 
   module _ (r : Ready s m x y) where
     lent-asked : (i : ℕ) → i < countOf s → usesMask (drawOf s i) ≡ true → m .lent ≡ true

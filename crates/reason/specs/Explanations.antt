@@ -1,11 +1,12 @@
 -- Why a pixel has its colour: a line for each draw, in order, from the premultiplied background on (paper 02, P9).
 use Prim.Native.Nat.{ℕ, zero, suc, _*_}
 use mathlib.Core.List.{List}
-use mathlib.Core.Bool.{Bool, false, cond, not, _&&_}
+use mathlib.Core.Bool.{Bool, cond, not, _&&_}
 use lib.Dec.{eqb, ltb}
 use Rattle.codes.specs.Codes.{acceptedCode, illegalArgument, unsupportedImageFormat}
 use Rattle.color.specs.declared.Pixel.{Pixel}
 use Rattle.color.specs.Channels.{premultiplied}
+use Rattle.coverage.specs.Winding.{oneIf}
 use Rattle.coverage.specs.Scissors.{inScissors}
 use Rattle.scene.specs.declared.Fault.{Fault}
 use Rattle.scene.specs.Layout.{noDraw}
@@ -39,20 +40,20 @@ noPixel = record { r = 0; g = 0; b = 0; a = 0 }
 
 -- of a draw that does not cover the pixel
 abbrev pub bareLine : ℕ → Pixel → Pixel → Line
-bareLine kind before after = record { kind = kind; before = before; after = after; k = 0; masked = false; mask = 0; paint = noPixel }
+bareLine kind before after = record { kind = kind; before = before; after = after; k = 0; masked = 0; mask = 0; paint = noPixel }
 
 -- scissoring is on, and the pixel in no scissor
 unfoldable pub outsideScissors : List ℕ → ℕ → ℕ → Bool
 outsideScissors d x y = scissoring d && not (inScissors (scissorsOf d) (scissorCount d) x y)
 
--- of a draw that covers it: k, whether the draw uses the mask, m (255 where it does not), and the paint's premultiplied bytes as blended
+-- of a draw that covers it: k, 1 if the draw uses the mask and 0 if not, m (255 where it does not), and the paint's premultiplied bytes as blended
 unfoldable pub coveredLine : ℕ → List ℕ → (ℕ → ℕ → ℕ) → ℕ → ℕ → Pixel → Line
 coveredLine edition d mask x y p = record {
   kind = covered;
   before = p;
   after = drawStep edition d mask x y p;
   k = drawCoverage edition d x y;
-  masked = usesMask d;
+  masked = oneIf (usesMask d);
   mask = drawMask d mask x y;
   paint = drawPaint d x y;
 }

@@ -6,6 +6,7 @@ use mathlib.Core.Bool.{cond}
 use lib.ListN.{getD}
 use Rattle.color.specs.declared.Pixel.{Pixel}
 use Rattle.blend.specs.PorterDuff.{composite}
+use Rattle.coverage.specs.Winding.{oneIf}
 use Rattle.scene.specs.Blocks.{drawOf}
 use Rattle.scene.specs.Header.{widthOf, editionOf}
 use Rattle.scene.specs.Fields.{blendOf, usesMask}
@@ -31,7 +32,7 @@ lineBy d k m x y p = record {
   before = p;
   after = composite (blendOf d) k m (drawPaint d x y) p;
   k = k;
-  masked = usesMask d;
+  masked = oneIf (usesMask d);
   mask = m;
   paint = drawPaint d x y;
 }

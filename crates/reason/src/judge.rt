@@ -2,13 +2,14 @@
 use codes::ACCEPTED;
 use codes::ILLEGAL_ARGUMENT;
 use codes::UNSUPPORTED_IMAGE_FORMAT;
+use render::judge::mask_wrong;
 use scene::Fault;
 use scene::layout::NO_DRAW;
 ghost use mathlib.Core.Path.{_≡_};
 ghost use Prim.Native.Nat.{_<_};
 ghost use Rattle.scene.specs.Layout.{noDraw};
 ghost use Rattle.scene.specs.Faults as Faults;
-ghost use Rattle.render.specs.Answers.{maskOf, maskWrong};
+ghost use Rattle.render.specs.Answers.{maskOf};
 ghost use Rattle.reason.specs.Explanations.{pixelFault, lentFault};
 
 // The pixel (x, y) of a scene, with a mask or none.
@@ -44,13 +45,6 @@ fn judge_lent(width: usize, height: usize, masked: bool, mask: &[u8], x: usize, 
         return at_start(ILLEGAL_ARGUMENT);
     }
     at_start(ACCEPTED)
-}
-
-// Whether a mask is lent that has not a byte for each pixel.
-fn mask_wrong(masked: bool, mask: &[u8], pixels: usize) -> bool
-    ensures { λ r. ⌜ r ≡ maskWrong (maskOf masked (now (mask .entry))) pixels ⌝ }
-{
-    masked && mask.len() != pixels
 }
 
 // A fault that is in no draw, with the offset 0; none, where all passes.

@@ -4,11 +4,13 @@
 //     judge     whether the scene, the mask and the pixel pass
 //     lines     the draw's bytes, its byte of the mask, and the line
 //     samples   the scissors and k at one pixel
+//     windings  the winding numbers of its samples
 //     paints    the paint at one pixel
 pub mod judge;
 mod lines;
 mod paints;
 mod samples;
+mod windings;
 
 use crate::judge::judge_pixel;
 use crate::lines::bare;
@@ -30,24 +32,26 @@ pub const UNCOVERED: u32 = 2;
 
 pub const COVERED: u32 = 3;
 
-// What a draw does at a pixel: the kind of the line, the pixel before the draw and after it. Where it is covered also k, whether the draw uses the mask,
-// the mask's byte, which is 255 where it does not, and the paint's premultiplied bytes as blended.
+// What a draw does at a pixel: the kind of the line, the pixel before the draw and after it. Where it is covered also k, 1 if the draw uses the mask and 0
+// if not, the mask's byte, which is 255 where it does not, and the paint's premultiplied bytes as blended.
+#[repr(C)]
 pub struct Line {
     pub kind: u32,
     pub before: Pixel,
     pub after: Pixel,
-    pub k: u8,
-    pub masked: bool,
-    pub mask: u8,
+    pub k: u32,
+    pub masked: u32,
+    pub mask: u32,
     pub paint: Pixel,
 }
 
 // How an explanation begins: a refusal's code, 0 for none, its draw number and its offset in the file; the number of draws, and the pixel before the first.
+#[repr(C)]
 pub struct Start {
     pub code: u32,
-    pub draw: usize,
+    pub draw: u32,
     pub offset: usize,
-    pub draws: usize,
+    pub draws: u32,
     pub pixel: Pixel,
 }
 
@@ -59,7 +63,7 @@ pub fn begin(scene: &[u8], masked: bool, mask: &[u8], x: usize, y: usize) -> Sta
     if f.code != ACCEPTED {
         return Start {
             code: f.code,
-            draw: f.draw,
+            draw: f.draw as u32,
             offset: f.offset,
             draws: 0,
             pixel: Pixel {
@@ -72,9 +76,9 @@ pub fn begin(scene: &[u8], masked: bool, mask: &[u8], x: usize, y: usize) -> Sta
     }
     Start {
         code: ACCEPTED,
-        draw: NO_DRAW,
+        draw: NO_DRAW as u32,
         offset: 0,
-        draws: scene::header::count(scene),
+        draws: scene::header::count(scene) as u32,
         pixel: scene::header::background(scene).premultiplied(),
     }
 }

@@ -16,6 +16,7 @@ ghost use Rattle.scene.specs.Header.{widthOf, heightOf, countOf};
 ghost use Rattle.scene.specs.Fields.{usesMask};
 ghost use Rattle.scene.specs.Accepted.{AcceptedFields, AcceptedDraw, AcceptedScene};
 ghost use Rattle.engine.specs.Rows.{MaskForScene};
+ghost use Rattle.coverage.specs.Winding.{oneIf};
 ghost use Rattle.reason.specs.Explanations.{bareLine};
 ghost use Rattle.reason.specs.Lines.{LineWith, SceneLine, byteFor, lineBy};
 
@@ -75,7 +76,7 @@ pub fn bare(kind: u32, before: Pixel) -> Line
         before,
         after: before,
         k: 0,
-        masked: false,
+        masked: 0,
         mask: 0,
         paint: Pixel {
             r: 0,
@@ -98,9 +99,16 @@ fn covered_line(d: &[u8], k: u8, m: u8, x: usize, y: usize, before: Pixel) -> Li
         kind: COVERED,
         before,
         after: blend::step::composite_pixel(mode, k, m, paint, before),
-        k,
-        masked: scene::fields::uses_mask(d),
-        mask: m,
+        k: k as u32,
+        masked: one_if(scene::fields::uses_mask(d)),
+        mask: m as u32,
         paint,
     }
+}
+
+// 1 for yes, 0 for no.
+fn one_if(yes: bool) -> u32
+    ensures { λ r. ⌜ r ≡ oneIf yes ⌝ }
+{
+    if yes { 1 } else { 0 }
 }

@@ -1,8 +1,12 @@
 // The scissors and k of a draw at one pixel.
+use crate::windings::add_path;
+use plain::samples::one_if_inside;
 ghost use mathlib.Core.Path.{_≡_};
 ghost use Prim.Native.Nat.{_≤_, _<_};
 ghost use lib.ListN.{length, getD};
-ghost use Rattle.coverage.specs.Winding.{coverage};
+ghost use lib.IntN.{pos};
+ghost use Rattle.lists.specs.Lists.{total};
+ghost use Rattle.coverage.specs.Winding.{insideBy, oneIf, coverage};
 ghost use Rattle.scene.specs.Layout.{drawBytes};
 ghost use Rattle.scene.specs.Fields.{nonZeroRule, scissorCount};
 ghost use Rattle.scene.specs.Fields as Fields;
@@ -11,9 +15,12 @@ ghost use Rattle.coverage.specs.Scissors.{inScissors};
 ghost use mathlib.Core.Bool.{not};
 ghost use Rattle.engine.specs.Picture.{drawEdges};
 ghost use Rattle.reason.specs.Explanations.{outsideScissors};
+ghost use Rattle.reason.specs.Summed.{Sums};
 
-// Numbers for the edges of the longest path.
-const SCRATCH_NUMBERS: usize = 12300;
+// The samples of a pixel, and the numbers for the edges of a segment.
+const SAMPLES: usize = 16;
+
+const SEGMENT_NUMBERS: usize = 64;
 
 // Whether scissoring is on and the pixel in no scissor.
 pub fn outside_scissors(d: &[u8], x: usize, y: usize) -> bool
@@ -50,26 +57,47 @@ pub fn covered_samples(d: &[u8], edition: u32, x: usize, y: usize) -> u8
     requires { ⌜ (x < 1024) × (y < 1024) ⌝ }
     ensures { λ r. ⌜ r ≡ coverage (drawEdges edition (now (d .entry))) (nonZeroRule (now (d .entry))) x y ⌝ }
 {
-    let mut scratch = [0i32; SCRATCH_NUMBERS];
-    let mut cover = [0u8; 1];
-    count_samples(d, edition, x, y, &mut scratch, &mut cover)
+    let mut edges = [0i32; SEGMENT_NUMBERS];
+    let mut sums = [0i32; SAMPLES];
+    count_samples(d, edition, x, y, &mut edges, &mut sums)
 }
 
-// The same with a scratch for the edges and a byte for k. What these hold afterwards is free.
+// The same with a buffer for a segment's edges and a sum for each sample. What these hold afterwards is free.
 fn count_samples(
     d: &[u8],
     edition: u32,
     x: usize,
     y: usize,
-    scratch: &mut [i32],
-    cover: &mut [u8],
+    edges: &mut [i32],
+    sums: &mut [i32],
 ) -> u8
     requires { ⌜ (length (now d) ≡ drawBytes) × AcceptedDraw edition (now d) ⌝ }
-    requires { ⌜ (x < 1024) × (y < 1024) × (12300 ≤ length (now scratch)) × (length (now cover) ≡ 1) ⌝ }
+    requires { ⌜ (x < 1024) × (y < 1024) × (64 ≤ length (now edges)) × Sums (now sums) 0 ⌝ }
     ensures { λ r. ⌜ r ≡ coverage (drawEdges edition (now (d .entry))) (nonZeroRule (now (d .entry))) x y ⌝ }
 {
-    engine::edges::clear(scratch);
-    let n = engine::edges::lay_edges(scratch, d, edition);
-    coverage::coverage_row(scratch, n, x, y, cover, scene::fields::non_zero_rule(d));
-    cover[0]
+    add_path(
+        scene::fields::fixed_matrix(d),
+        scene::fields::segments(d),
+        scene::fields::segment_count(d),
+        scene::fields::coordinates(d, edition),
+        x,
+        y,
+        edges,
+        sums,
+    );
+    count_inside(sums, scene::fields::non_zero_rule(d))
+}
+
+// How many of 16 winding numbers are inside.
+fn count_inside(sums: &[i32], nonzero: bool) -> u8
+    requires { ⌜ Sums (now sums) 4096 ⌝ }
+    ensures { λ r. ⌜ r ≡ total 16 (λ j. oneIf (insideBy nonzero (getD (now (sums .entry)) j (pos 0)))) ⌝ }
+{
+    let mut k = 0;
+    let mut j = 0;
+    while j < SAMPLES {
+        k += one_if_inside(nonzero, sums[j]);
+        j += 1;
+    }
+    k as u8
 }

@@ -18,7 +18,7 @@ use Rattle.scene.specs.Faults.{fault, orFault, firstFault, demand}
 use Rattle.scene.specs.Rules.{headerRules, drawRules, inHeader, inDraw, checkFaultsFrom, checkFaults, drawFaultFrom, drawFault, sceneFaultFrom, sceneFault}
 use Rattle.scene.proofs.Accepted.{header-count}
 
-sooner-draw : (f g : Fault) → f .draw ≤ 64 → (f .code ≡ 0 → g .draw ≤ 64) → orFault f g .draw ≤ 64
+pub sooner-draw : (f g : Fault) → f .draw ≤ 64 → (f .code ≡ 0 → g .draw ≤ 64) → orFault f g .draw ≤ 64
 sooner-draw f g a b =
     either (eqb (f .code) 0)
     (λ e. subst (λ (z : Fault). z .draw ≤ 64) (sym (picked-second f g e)) (b (eqb-true _ _ e)))
@@ -30,7 +30,7 @@ sooner-draw f g a b =
     picked-first : (f g : Fault) → eqb (f .code) 0 ≡ false → orFault f g ≡ f
     picked-first f g e = rw e
 
-demanded-draw : (ok : Bool) (f : Fault) → f .draw ≤ 64 → demand ok f .draw ≤ 64
+pub demanded-draw : (ok : Bool) (f : Fault) → f .draw ≤ 64 → demand ok f .draw ≤ 64
 demanded-draw true f a = omega arith
 demanded-draw false f a = a
 

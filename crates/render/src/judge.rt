@@ -106,7 +106,7 @@ fn judge_lent(
 }
 
 // Whether a mask is lent that has not a byte for each pixel.
-fn mask_wrong(masked: bool, mask: &[u8], pixels: usize) -> bool
+pub fn mask_wrong(masked: bool, mask: &[u8], pixels: usize) -> bool
     ensures { λ r. ⌜ r ≡ maskWrong (maskOf masked (now (mask .entry))) pixels ⌝ }
 {
     masked && mask.len() != pixels

@@ -1,4 +1,5 @@
 // The C interface: include/wayramesh.h tells a C caller what these functions take and answer.
+pub mod explain;
 pub mod salvage;
 
 use blend::Composited;

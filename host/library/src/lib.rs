@@ -47,6 +47,7 @@ pub const NO_DRAW: u32 = 64;
 
 mod compare;
 mod composite;
+pub mod explain;
 mod plain;
 mod salvage;
 

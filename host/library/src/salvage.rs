@@ -4,7 +4,9 @@
 #[repr(C)]
 #[derive(Clone, Copy, Debug, PartialEq, Eq)]
 pub struct Salvaged {
+    /// 0 if the scene was written, or why not.
     pub code: u32,
+    /// How many draws were replaced.
     pub replaced: u32,
 }
 

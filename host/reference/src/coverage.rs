@@ -11,6 +11,16 @@ pub enum FillRule {
     NonZero,
 }
 
+impl FillRule {
+    /// Whether a sample with this winding number is inside.
+    pub fn holds(self, winding: i64) -> bool {
+        match self {
+            FillRule::EvenOdd => winding % 2 != 0,
+            FillRule::NonZero => winding != 0,
+        }
+    }
+}
+
 /// Pixels x to x + width - 1 and y to y + height - 1 as whole numbers; empty unless both sizes are above 0.
 #[derive(Clone, Copy, Debug)]
 pub struct Scissor {
@@ -36,18 +46,12 @@ pub fn in_scissors(scissors: Option<&[Scissor]>, x: i64, y: i64) -> bool {
 
 /// The number of samples of pixel (x, y) inside the path, 0 to 16.
 pub fn coverage(edges: &[Edge], rule: FillRule, x: i64, y: i64) -> i64 {
-    let mut inside = 0;
-    for sample_y in SAMPLES {
-        for sample_x in SAMPLES {
-            let winding = winding(edges, 256 * x + sample_x, 256 * y + sample_y);
-            let is_inside = match rule {
-                FillRule::EvenOdd => winding % 2 != 0,
-                FillRule::NonZero => winding != 0,
-            };
-            inside += i64::from(is_inside);
-        }
-    }
-    inside
+    samples(x, y).filter(|&(x, y)| rule.holds(winding(edges, x, y))).count() as i64
+}
+
+/// The samples of pixel (x, y) in surface units, row by row from the lowest.
+pub fn samples(x: i64, y: i64) -> impl Iterator<Item = (i64, i64)> {
+    SAMPLES.into_iter().flat_map(move |up| SAMPLES.map(|across| (256 * x + across, 256 * y + up)))
 }
 
 /// The edges that can count for a sample of pixel row y: the others span none of its sample rows.
@@ -58,11 +62,12 @@ pub fn edges_of_row(edges: &[Edge], y: i64) -> Vec<Edge> {
 }
 
 /// The sum over the edges that count for a sample: +1 going up, -1 going down.
-fn winding(edges: &[Edge], x: i64, y: i64) -> i64 {
-    edges.iter().map(|edge| count(edge, x, y)).sum()
+pub fn winding(edges: &[Edge], x: i64, y: i64) -> i64 {
+    edges.iter().map(|edge| counts(edge, x, y)).sum()
 }
 
-fn count(edge: &Edge, x: i64, y: i64) -> i64 {
+/// What an edge counts for a sample.
+pub fn counts(edge: &Edge, x: i64, y: i64) -> i64 {
     let upward = edge.from.y < edge.to.y;
     let (lower, upper) = if upward { (edge.from, edge.to) } else { (edge.to, edge.from) };
     if lower.y > y || upper.y <= y {

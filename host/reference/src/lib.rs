@@ -11,6 +11,7 @@ pub mod answer;
 pub mod blend;
 pub mod compare;
 pub mod coverage;
+pub mod explain;
 pub mod file;
 pub mod number;
 pub mod paint;

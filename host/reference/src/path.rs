@@ -53,7 +53,14 @@ impl Matrix {
 #[derive(Clone, Copy, Debug, PartialEq, Eq)]
 pub enum SegmentFault {
     Arc,
-    Illegal,
+    /// No command has this byte.
+    Unknown,
+    /// The coordinates have run out.
+    TooFewCoordinates,
+    /// A point of the path, a reflected one too, leaves 16 bits.
+    PointOutOfRange(Point),
+    /// A point of the path that the matrix takes too far, in surface units.
+    PointTooFar(Point),
 }
 
 #[derive(Debug)]
@@ -94,7 +101,7 @@ struct Walker<'a> {
 impl Walker<'_> {
     fn segment(&mut self, byte: u8) -> Result<(), SegmentFault> {
         if byte > 31 {
-            return Err(SegmentFault::Illegal);
+            return Err(SegmentFault::Unknown);
         }
         let relative = byte & 1 == 1;
         match byte & 0x1E {
@@ -149,14 +156,14 @@ impl Walker<'_> {
                 self.curve(&[first, second], to);
             }
             18..=24 => return Err(SegmentFault::Arc),
-            _ => return Err(SegmentFault::Illegal),
+            _ => return Err(SegmentFault::Unknown),
         }
         Ok(())
     }
 
     /// The next coordinates as they stand.
     fn take<const N: usize>(&mut self) -> Result<[i64; N], SegmentFault> {
-        let next = self.coordinates.get(self.used..self.used + N).ok_or(SegmentFault::Illegal)?;
+        let next = self.coordinates.get(self.used..self.used + N).ok_or(SegmentFault::TooFewCoordinates)?;
         self.used += N;
         Ok(std::array::from_fn(|i| i64::from(next[i])))
     }
@@ -181,13 +188,14 @@ impl Walker<'_> {
     fn allow(&self, user: Point) -> Result<(), SegmentFault> {
         let in_user_range = |v| (-32_768..=32_767).contains(&v);
         let in_surface_range = |v: i64| v.abs() <= 8_388_608;
-        let surface = self.matrix.surface_point(user);
-        if in_user_range(user.x) && in_user_range(user.y) && in_surface_range(surface.x) && in_surface_range(surface.y)
-        {
-            Ok(())
-        } else {
-            Err(SegmentFault::Illegal)
+        if !in_user_range(user.x) || !in_user_range(user.y) {
+            return Err(SegmentFault::PointOutOfRange(user));
         }
+        let surface = self.matrix.surface_point(user);
+        if !in_surface_range(surface.x) || !in_surface_range(surface.y) {
+            return Err(SegmentFault::PointTooFar(surface));
+        }
+        Ok(())
     }
 
     fn line(&mut self, to: Point) {

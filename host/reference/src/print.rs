@@ -1,8 +1,11 @@
-//! What the two programs print: a picture or a refusal, as text. The programs lend no mask; here one may be.
+//! What the programs print: a picture, an explanation or a refusal, as text. Of those that print pictures none lends a mask;
+//! here one may be lent.
 
 use std::fmt::Write;
 
 use crate::answer::{Answer, ACCEPTED, FIRST_SCENE};
+use crate::explain::{explain, Kind, Line};
+use crate::paint::Pixel;
 use crate::picture::SCRATCH_NUMBERS;
 use crate::rules;
 use crate::{draw, redraw};
@@ -54,4 +57,31 @@ pub fn picture(width: usize, surface: &[u8]) -> String {
         text.push('\n');
     }
     text
+}
+
+/// The explaining program's output for a pixel of a scene file.
+pub fn explanation(scene: &[u8], mask: Option<&[u8]>, x: u64, y: u64) -> String {
+    match explain(scene, mask, x, y) {
+        Err(fault) => format!("refused {:04x} {} offset {}\n", fault.code, fault.draw, fault.offset),
+        Ok(explained) => {
+            let lines: String = explained.lines.iter().enumerate().map(|(i, line)| explained_draw(i, line)).collect();
+            lines + &format!("pixel {}\n", hex(explained.pixel()))
+        }
+    }
+}
+
+fn explained_draw(draw: usize, line: &Line) -> String {
+    let step = format!("before {} after {}", hex(line.before), hex(line.after));
+    match line.kind {
+        Kind::Outside => format!("draw {draw} outside {step}\n"),
+        Kind::Uncovered => format!("draw {draw} uncovered {step}\n"),
+        Kind::Covered { coverage, mask, paint } => {
+            let mask = mask.map_or(String::new(), |byte| format!(" mask {byte}"));
+            format!("draw {draw} covered {step} k {coverage}{mask} paint {}\n", hex(paint))
+        }
+    }
+}
+
+fn hex([r, g, b, a]: Pixel) -> String {
+    format!("{r:02x}{g:02x}{b:02x}{a:02x}")
 }

@@ -166,7 +166,7 @@ impl Rules {
         let path = path::walk(segments, &coordinates, &fields.matrix).map_err(|(fault, segment)| DrawFault {
             code: match fault {
                 SegmentFault::Arc => UNSUPPORTED_PATH_FORMAT,
-                SegmentFault::Illegal => ILLEGAL_ARGUMENT,
+                _ => ILLEGAL_ARGUMENT,
             },
             place: draw::SEGMENTS + segment,
         })?;

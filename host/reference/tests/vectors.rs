@@ -1,5 +1,5 @@
-//! The vectors of tests/vectors: what the two programs print, what they would print if they lent a mask, and the offset
-//! of each edge case's fault.
+//! The vectors of tests/vectors: what the programs print, what they would print if they lent a mask, and the offset of each
+//! edge case's fault.
 
 use std::fs;
 use std::path::{Path, PathBuf};
@@ -67,6 +67,28 @@ fn redraws_with_a_mask() {
         let (new, mask) = (read(&old.with_extension("new")), read(&old.with_extension("mask")));
         check(&old, &print::redrawing(&read(&old), &new, Some(&mask)));
     }
+}
+
+/// A vector of explain/ asks for pixels, "? X Y", and has behind each what the program prints of it. Its scene is beside it
+/// or in draw/, and where it has a mask, that is lent.
+#[test]
+fn explanations() {
+    let mut pixels = 0;
+    for path in files("explain", "out") {
+        let beside = path.with_extension("scene");
+        let name = beside.file_name().expect("a name");
+        let scene = if beside.exists() { read(&beside) } else { read(&vectors().join("draw").join(name)) };
+        let mask = fs::read(path.with_extension("mask")).ok();
+        let text = fs::read_to_string(&path).expect("a vector");
+        for asked in text.split("? ").skip(1) {
+            let (pixel, expected) = asked.split_once('\n').expect("a line");
+            let (x, y) = pixel.split_once(' ').expect("two numbers");
+            let (x, y) = (x.parse().expect("x"), y.parse().expect("y"));
+            assert_eq!(print::explanation(&scene, mask.as_deref(), x, y), expected, "{} {pixel}", path.display());
+            pixels += 1;
+        }
+    }
+    assert_eq!(pixels, 274);
 }
 
 /// edges.txt has a line for each edge case: number, code, draw, "offset", the offset, and its name.

@@ -1,13 +1,14 @@
 -- `begin` meets its contract.
 use Prim.Native.Nat.{ℕ}
 use mathlib.Core.Path.{sym, ap, ap₂, _∙_}
+use native.Mathlib.Omega.{arith}
 use Rattle.color.specs.declared.Pixel.{Pixel}
 use Rattle.color.specs.Channels.{premultiplied}
 use Rattle.scene.specs.declared.Fault.{Fault}
 use Rattle.render.specs.Answers.{Mask, maskOf}
 use Rattle.render.proofs.Refusals.{accepted-block}
 use Rattle.reason.specs.declared.Start.{Start}
-use Rattle.reason.proofs.Refusals.{Ready, pixel-ready, start-refused, start-accepted}
+use Rattle.reason.proofs.Refusals.{Ready, pixel-ready, fault-number, start-refused, start-accepted}
 use borrow.Author.Needs.{needs}
 use Rattle.reason.proofs.begin.Statement.{statement}
 use Rattle.reason.proofs.begin.Tie as tie
@@ -23,12 +24,22 @@ ready c =
     let a = entry .args in
     pixel-ready (a .scene .now) (mask entry) (a .x) (a .y) (sym (ap (λ (f : Fault). f .code) (judged .judge-pixel .ensures)) ∙ c .if1 .left)
 
+-- a refusal's draw number
+cast-t8 : tie.Need-cast-t8
+cast-t8 c =
+    let judged = c .before .before .before in
+    let entry = judged .before .before .before in
+    let a = entry .args in
+    omega (arith, ap (λ (f : Fault). f .draw) (judged .judge-pixel .ensures), fault-number (a .scene .now) (mask entry) (a .x) (a .y))
+
 returns : tie.Need-returns
 returns c =
-    let f = c .before .before .judge-pixel in
-    let entry = c .before .before .before .before .before in
+    let branch = c .before in
+    let judged = branch .before .before in
+    let f = judged .judge-pixel in
+    let entry = judged .before .before .before in
     let a = entry .args in
-    start-refused (a .scene .now) (mask entry) (a .x) (a .y) (f .result) (f .ensures) (c .if1 .taken)
+    start-refused (a .scene .now) (mask entry) (a .x) (a .y) (f .result) (f .ensures) (branch .if1 .taken)
 
 count-requires : tie.Need-count-requires
 count-requires c κs = accepted-block (c .before .before .before .before .before .args .masked) _ (ready c .scene)
@@ -56,8 +67,11 @@ begin-spec =
     tie.close
     (tie.spec
     (λ c κs. search needs)
+    cast-t8
     returns
+    (λ c. search needs)
     count-requires
+    (λ c. omega (arith, c .count .ensures .1))
     background-requires
     (λ c κs. search needs)
     returns-2)

@@ -6,7 +6,7 @@ use Rattle.explain.proofs.printing.print_explanation.Statement.{stateme
 use Rattle.explain.proofs.printing.print_explanation.Tie as tie
 
 print-draws-requires : tie.Need-print-draws-requires
-print-draws-requires c κs = ap (λ (b : Start). b .pixel) (c .before .before .begin .ensures)
+print-draws-requires c κs = ap (λ (b : Start). b .pixel) (c .before .before .before .begin .ensures)
 
 pub print-explanation-spec : {M : Type 1} → statement M
 print-explanation-spec =
@@ -18,11 +18,13 @@ print-explanation-spec =
     (λ c κs. search needs)
     (λ c. search needs)
     (λ c κs. search needs)
+    (λ c. search needs)
     (λ c κs. search needs)
     (λ c. search needs)
     (λ c κs. search needs)
     (λ c κs. search needs)
     (λ c κs. search needs)
+    (λ c. search needs)
     (λ c. search needs)
     print-draws-requires
     (λ c κs. search needs)

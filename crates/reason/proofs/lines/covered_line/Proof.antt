@@ -14,10 +14,11 @@ composite-pixel-requires c κs = c .before .before .before .pre .1 .0
 
 returns : tie.Need-returns
 returns c =
-    let drawn = c .before in
+    let asked = c .before in
+    let drawn = asked .before in
     let mode = drawn .before in
     let painted = mode .before in
-    rw (drawn .composite-pixel .ensures, mode .blend-mode .ensures, painted .paint-at .ensures, c .uses-mask .ensures)
+    rw (drawn .composite-pixel .ensures, mode .blend-mode .ensures, painted .paint-at .ensures, c .one-if .ensures, asked .uses-mask .ensures)
 
 pub covered-line-spec : {M : Type 1} → statement M
 covered-line-spec =
@@ -26,5 +27,6 @@ covered-line-spec =
     paint-at-requires
     (λ c κs. search needs)
     composite-pixel-requires
+    (λ c κs. search needs)
     (λ c κs. search needs)
     returns)

@@ -1,46 +1,62 @@
 -- `samples::count_samples` meets its contract.
-use mathlib.Core.Path.{sym, ap₂, _∙_}
-use mathlib.Core.Bool.{Bool}
-use mathlib.Core.List.{List}
-use Rattle.path.specs.declared.Edge.{Edge}
-use Rattle.path.specs.Stored.{edgesOf}
-use Rattle.coverage.specs.Winding.{coverage}
-use Rattle.render.proofs.Refusals.{zeroed}
-use lib.ListN.{length}
-use Rattle.reason.proofs.Single.{one-number}
+use mathlib.Core.Path.{_∙_}
+use native.Mathlib.Omega.{arith}
+use Rattle.engine.proofs.Scratch.{flatten-asked}
+use Rattle.reason.proofs.Held.{path-summed, draw-counted}
 use borrow.Author.Needs.{needs}
 use Rattle.reason.proofs.samples.count_samples.Statement.{statement}
 use Rattle.reason.proofs.samples.count_samples.Tie as tie
 
-lay-edges-requires : tie.Need-lay-edges-requires
-lay-edges-requires c κs =
-    let cleared = c .before .before in
-    let entry = cleared .before .before .before .before in
-    let z = cleared .clear in
-    (entry .pre .0, zeroed (entry .args .scratch .now) (z .last .0) (z .ensures) (z .kept .0) (entry .pre .1 .2))
+fixed-matrix-requires : tie.Need-fixed-matrix-requires
+fixed-matrix-requires c κs =
+    let entry = c .before in
+    (entry .pre .0 .0, entry .pre .0 .1 .fields .matrix)
+
+add-path-requires : tie.Need-add-path-requires
+add-path-requires c κs =
+    let after-coordinates = c .before .before in
+    let after-count = after-coordinates .before in
+    let after-segments = after-count .before in
+    let after-matrix = after-segments .before in
+    let entry = after-matrix .before .before in
+    let asked = flatten-asked (entry .args .edition) (entry .args .d .now) _ _ _ _ (after-matrix .fixed-matrix .ensures) (after-segments .segments .ensures)
+    (after-coordinates .coordinates .ensures) (after-count .segment-count .ensures .0) (entry .pre .0 .1) (entry .pre .0 .0) in
+    (asked .0, (asked .1, entry .pre .1))
+
+count-inside-requires : tie.Need-count-inside-requires
+count-inside-requires c κs =
+    let added = c .before .before .before .before in
+    let after-coordinates = added .before .before .before in
+    let after-count = after-coordinates .before in
+    let entry = after-count .before .before .before .before in
+    path-summed _ _ _ _ _ _ _ _ (entry .pre .1 .3) (added .add-path .ensures)
+    (omega (arith, after-count .segment-count .ensures .0, entry .pre .0 .1 .fields .segments))
 
 returns : tie.Need-returns
 returns c =
-    let row = c .before .before .before .before in
-    let rule = row .before in
-    let laid = rule .before .before .before .before in
-    let entry = laid .before .before .before .before .before .before .before in
+    let ruled = c .before in
+    let added = ruled .before .before .before .before in
+    let after-coordinates = added .before .before .before in
+    let after-count = after-coordinates .before in
+    let after-segments = after-count .before in
+    let after-matrix = after-segments .before in
+    let entry = after-matrix .before .before in
     let a = entry .args in
-    let l = laid .lay-edges in
-    let r = row .coverage-row in
-    one-number (λ i. coverage (edgesOf (l .last .0) (l .result)) (rule .non-zero-rule .result) i (a .y)) (r .last .1 .1 .1 .1 .0)
-    (length (a .cover .now)) (a .x) (entry .pre .1 .3) (r .ensures .1)
-    ∙ ap₂ (λ (es : List Edge) (t : Bool). coverage es t (a .x) (a .y)) (l .ensures .0 .edges) (rule .non-zero-rule .ensures)
+    c .count-inside .ensures
+    ∙ draw-counted _ _ _ _ _ _ _ _ (entry .pre .1 .3) (added .add-path .ensures) (a .edition) (a .d .now) _ (after-matrix .fixed-matrix .ensures)
+    (after-segments .segments .ensures) (after-coordinates .coordinates .ensures) (after-count .segment-count .ensures .0) (ruled .non-zero-rule .ensures)
 
 pub count-samples-spec : {M : Type 1} → statement M
 count-samples-spec =
     tie.close
     (tie.spec
+    fixed-matrix-requires
     (λ c κs. search needs)
-    lay-edges-requires
     (λ c κs. search needs)
     (λ c κs. search needs)
-    (λ c. search needs)
+    add-path-requires
+    (λ c κs. search needs)
+    count-inside-requires
     (λ c. search needs)
     (λ c. search needs)
     returns)
