@@ -190,10 +190,12 @@ int main(int argc, char **argv)
     size_t surface_len = 4 * (size_t)width * height;
     uint8_t *surface = allocate(surface_len + 1);
 
-    report("draw", wayramesh_draw(old_scene.bytes, old_scene.length, mask_lent, mask.bytes, mask.length, surface,
+    /* Each answer has its code, so what the context keeps is not asked for here: examples/replay.c does. */
+    wayramesh_context context = {0};
+    report("draw", wayramesh_draw(&context, old_scene.bytes, old_scene.length, mask_lent, mask.bytes, mask.length, surface,
                                   surface_len, scratch, WAYRAMESH_SCRATCH_NUMBERS));
-    report("redraw", wayramesh_redraw(old_scene.bytes, old_scene.length, new_scene.bytes, new_scene.length, mask_lent,
-                                      mask.bytes, mask.length, surface, surface_len, scratch,
+    report("redraw", wayramesh_redraw(&context, old_scene.bytes, old_scene.length, new_scene.bytes, new_scene.length,
+                                      mask_lent, mask.bytes, mask.length, surface, surface_len, scratch,
                                       WAYRAMESH_SCRATCH_NUMBERS));
     write_pam(surface, width, height);
 

@@ -25,6 +25,7 @@ enum { DRAWS = 3, SCENE_BYTES = WAYRAMESH_SCENE_BYTES(DRAWS) };
 enum { FRAMES = 8, FIRST_COLUMN = 12, STEP = 9 };
 
 static int32_t scratch[WAYRAMESH_SCRATCH_NUMBERS];
+static wayramesh_context context;
 
 static void require(int holds, const char *what)
 {
@@ -86,7 +87,8 @@ static void make_gauge(uint8_t *bytes, int column, direction way)
 static void draw_full(const uint8_t *scene, uint8_t *surface)
 {
     wayramesh_answer answer =
-        wayramesh_draw_unmasked(scene, SCENE_BYTES, surface, SURFACE_BYTES, scratch, WAYRAMESH_SCRATCH_NUMBERS);
+        wayramesh_draw_unmasked(&context, scene, SCENE_BYTES, surface, SURFACE_BYTES, scratch,
+                                WAYRAMESH_SCRATCH_NUMBERS);
     require(answer.code == WAYRAMESH_ACCEPTED, "a full drawing");
 }
 
@@ -117,10 +119,10 @@ static wayramesh_answer show(buffer *back, const uint8_t *scene, size_t scene_le
 {
     wayramesh_answer answer;
     if (back->scene_len == 0) {
-        answer = wayramesh_draw_unmasked(scene, scene_len, back->surface, SURFACE_BYTES, scratch,
+        answer = wayramesh_draw_unmasked(&context, scene, scene_len, back->surface, SURFACE_BYTES, scratch,
                                          WAYRAMESH_SCRATCH_NUMBERS);
     } else {
-        answer = wayramesh_redraw_unmasked(back->scene, back->scene_len, scene, scene_len, back->surface,
+        answer = wayramesh_redraw_unmasked(&context, back->scene, back->scene_len, scene, scene_len, back->surface,
                                            SURFACE_BYTES, scratch, WAYRAMESH_SCRATCH_NUMBERS);
     }
     if (answer.code == WAYRAMESH_ACCEPTED) {
@@ -143,7 +145,7 @@ static void try_two_buffers(void)
         require(memcmp(back->surface, expected, SURFACE_BYTES) == 0, "a frame of two buffers");
         if (frame >= 2) {
             /* From the scene of the frame before, the needle of two frames back would stay. */
-            wayramesh_redraw_unmasked(last, SCENE_BYTES, scene, SCENE_BYTES, wrong, SURFACE_BYTES, scratch,
+            wayramesh_redraw_unmasked(&context, last, SCENE_BYTES, scene, SCENE_BYTES, wrong, SURFACE_BYTES, scratch,
                                       WAYRAMESH_SCRATCH_NUMBERS);
             require(memcmp(wrong, expected, SURFACE_BYTES) != 0, "the needle that stays");
         }
@@ -215,13 +217,14 @@ typedef struct {
     const uint8_t *scene;
     uint8_t surface[SURFACE_BYTES];
     int32_t scratch[WAYRAMESH_SCRATCH_NUMBERS];
+    wayramesh_context context;
     uint32_t code;
 } drawing;
 
 static void *draw_in_thread(void *argument)
 {
     drawing *own = argument;
-    own->code = wayramesh_draw_unmasked(own->scene, SCENE_BYTES, own->surface, SURFACE_BYTES, own->scratch,
+    own->code = wayramesh_draw_unmasked(&own->context, own->scene, SCENE_BYTES, own->surface, SURFACE_BYTES, own->scratch,
                                         WAYRAMESH_SCRATCH_NUMBERS)
                     .code;
     return NULL;
@@ -308,8 +311,8 @@ static void try_time(void)
     draw_full(scenes[0], surface);
     for (int call = 0; call < CALLS; call++) {
         double start = microseconds();
-        wayramesh_redraw_unmasked(scenes[call % 2], SCENE_BYTES, scenes[1 - call % 2], SCENE_BYTES, surface,
-                                  SURFACE_BYTES, scratch, WAYRAMESH_SCRATCH_NUMBERS);
+        wayramesh_redraw_unmasked(&context, scenes[call % 2], SCENE_BYTES, scenes[1 - call % 2], SCENE_BYTES,
+                                  surface, SURFACE_BYTES, scratch, WAYRAMESH_SCRATCH_NUMBERS);
         times[call] = microseconds() - start;
     }
     qsort(times, CALLS, sizeof times[0], ascending);

@@ -2,8 +2,9 @@
  * wayramesh.h: the C interface of Wayramesh, a verified renderer for instrument panels.
  *
  * A scene file goes in, and pixels come out. wayramesh_draw draws a scene in full. wayramesh_redraw takes a surface
- * from one scene to the next by drawing only the area in which they may differ. docs/FORMAT.md describes the scene file:
- * paper 01's, with paper 02's P8, P3, P1, P6 and P10. Further down:
+ * from one scene to the next by drawing only the area in which they may differ. wayramesh_replay does so for up to 600
+ * scenes in one call. docs/FORMAT.md describes the scene file: paper 01's, with paper 02's P8, P3, P1, P6 and P10. Further
+ * down:
  *
  *   wayramesh_draw_plain   draws in full too, by another and slower engine
  *   wayramesh_compare      says where two pictures differ
@@ -12,13 +13,13 @@
  *   wayramesh_salvage      writes a spoiled scene again
  *
  * Link with libwayramesh.a (x86-64; it needs memcpy and memset of the C library). The library allocates nothing, keeps
- * nothing between calls, and does no input or output. examples/panel.c is a whole program, and wayramesh_scene.h makes
- * scene files.
+ * nothing between calls but what a caller's wayramesh_context holds, and does no input or output. examples/panel.c is a
+ * whole program, examples/replay.c a minute of driving, and wayramesh_scene.h makes scene files.
  *
- * What is proved of the first two functions, for every input:
+ * What is proved of wayramesh_draw and wayramesh_redraw, for every input:
  *
  *   1. The call returns, and its seven numbers are those of the rules below: which calls are refused, with which code,
- *      draw and scene number, and which area an accepted one answers.
+ *      draw and scene number, and which area an accepted one answers. The context does not change them.
  *   2. After a refused call surface and scratch hold what they held. After an accepted call every number of the scratch
  *      is zero.
  *   3. After an accepted wayramesh_draw the surface holds the picture of the scene under the mask, or without one, whatever
@@ -26,6 +27,7 @@
  *   4. After an accepted wayramesh_redraw the surface holds the new scene's picture in the area that is answered, and
  *      outside it every byte that it held. If it held the old scene's picture under the same mask, or both without one, it
  *      holds the whole of the new one's.
+ *   5. The context has noted the call's code, if that is not 0 and it held 0.
  *
  * Scenes and mask are not changed. This speaks of what the buffers hold when a call has returned: while it runs, the area
  * shows the background and part of the draws, so a display that reads the surface meanwhile may show that.
@@ -34,12 +36,13 @@
  *
  *   1. Pointers. None is NULL. Each leads to as many items as its length says, and they stay there during the call. A
  *      run of length 0 is not read or written.
- *   2. Alignment. The scratch is aligned for int32_t, the list of a salvage for uint32_t. Scenes, mask, surface and the
- *      place of a salvage may lie at any address.
- *   3. Overlap. Surface and scratch overlap neither each other nor a scene nor the mask; nor do the place and the list of a
- *      salvage each other or the scene. Scenes and mask may overlap, and the two scenes of a redraw may be the same.
- *   4. Others. During a call no one else writes scenes and mask, and no one else reads or writes surface, scratch, place and
- *      list.
+ *   2. Alignment. The scratch is aligned for int32_t; context, lengths, answers and the list of a salvage are aligned for
+ *      uint32_t. Scenes, mask, surface and the place of a salvage may lie at any address.
+ *   3. Overlap. Context, surface, scratch and answers overlap neither each other nor a scene, lengths or the mask; nor do
+ *      the place and the list of a salvage each other or the scene. Scenes, lengths and mask may overlap, and the two
+ *      scenes of a redraw may be the same.
+ *   4. Others. During a call no one else writes scenes, lengths and mask, and no one else reads or writes context, surface,
+ *      scratch, answers, place and list.
  *   5. Stack. There are 32 KiB of stack free.
  *   6. Floating-point environment. Round to nearest, as C programs start (fesetround(FE_TONEAREST)), and nothing flushed
  *      to zero. In another rounding mode some colours differ by 1. A call leaves the mode as it is.
@@ -83,7 +86,8 @@ extern "C" {
 /* The call was accepted and has drawn. */
 #define WAYRAMESH_ACCEPTED 0u
 
-/* The scene's length is below 512, not a multiple of 512, or not 512 * (1 + 4 * draws). */
+/* The scene's length is below 512, not a multiple of 512, or not 512 * (1 + 4 * draws). Of a whole replay: there are more
+   than WAYRAMESH_MAX_SCENES scenes, or their lengths do not add up. */
 #define WAYRAMESH_BAD_LENGTH 0xB002u
 
 /* The check of a block is not the one of its payload and its number: a block is spoiled or out of its place. */
@@ -99,7 +103,8 @@ extern "C" {
 /* surface_len is not 4 * width * height, or mask_len of a mask that is lent is not width * height. */
 #define WAYRAMESH_UNSUPPORTED_IMAGE_FORMAT 0x1004u
 
-/* scratch_len is below WAYRAMESH_SCRATCH_NUMBERS, or place_len of a salvage is below scene_len. */
+/* scratch_len is below WAYRAMESH_SCRATCH_NUMBERS, place_len of a salvage is below scene_len, or there are too few places for
+   the answers of a replay. */
 #define WAYRAMESH_OUT_OF_MEMORY 0x1002u
 
 /* The numbers that a scratch must have at least; more do no harm. */
@@ -114,6 +119,28 @@ extern "C" {
 
 /* The number in wayramesh_answer.draw that stands for no draw. */
 #define WAYRAMESH_NO_DRAW 64u
+
+/* The most scenes of a replay, and the numbers of an answer. */
+#define WAYRAMESH_MAX_SCENES 600u
+#define WAYRAMESH_ANSWER_NUMBERS 7u
+
+/* ---- The context ---- */
+
+/*
+ * What keeps the first code other than 0 of the calls that it is lent to, until it is asked for. It belongs to the caller:
+ * begin with {0}, and lend it to calls of one thread at a time. Draws, redraws and replays note their codes.
+ */
+typedef struct wayramesh_context {
+    uint32_t code;
+} wayramesh_context;
+
+/*
+ * Answers the first code other than 0 of the calls since the context was last asked, or since it was {0}; 0 if all were
+ * accepted. Asking sets it to 0. This is proved for every sequence of calls.
+ */
+uint32_t wayramesh_take_code(wayramesh_context *context);
+
+/* ---- Drawing ---- */
 
 /*
  * What a call answers.
@@ -143,6 +170,7 @@ typedef struct wayramesh_answer {
 /*
  * Draws a scene in full, with a mask or none.
  *
+ *   context               Notes the code that is answered.
  *   scene, scene_len      The scene file. Any bytes may be given: those that are no scene are refused.
  *   mask_lent             0 if no mask is lent, whatever the run holds and however long it is; any other number if one is.
  *   mask, mask_len        The mask, a byte for each pixel: that of pixel (x, y) is at y * width + x. Draws with flag bit 3
@@ -159,23 +187,26 @@ typedef struct wayramesh_answer {
  * scene that the format allows, 64 draws of 2,048 edges each over 1,024 by 1,024 pixels, takes more than a second, and
  * less with more scratch (docs/SPEED.md).
  */
-wayramesh_answer wayramesh_draw(const uint8_t *scene, size_t scene_len,
+wayramesh_answer wayramesh_draw(wayramesh_context *context,
+                                const uint8_t *scene, size_t scene_len,
                                 uint32_t mask_lent, const uint8_t *mask, size_t mask_len,
                                 uint8_t *surface, size_t surface_len,
                                 int32_t *scratch, size_t scratch_len);
 
 /* The same without a mask. */
-static inline wayramesh_answer wayramesh_draw_unmasked(const uint8_t *scene, size_t scene_len,
+static inline wayramesh_answer wayramesh_draw_unmasked(wayramesh_context *context,
+                                                       const uint8_t *scene, size_t scene_len,
                                                        uint8_t *surface, size_t surface_len,
                                                        int32_t *scratch, size_t scratch_len)
 {
-    return wayramesh_draw(scene, scene_len, 0, scene, 0, surface, surface_len, scratch, scratch_len);
+    return wayramesh_draw(context, scene, scene_len, 0, scene, 0, surface, surface_len, scratch, scratch_len);
 }
 
 /*
  * Redraws a surface that holds the picture of the old scene, so that it holds that of the new one, both under one mask or
  * none.
  *
+ *   context               Notes the code that is answered.
  *   old, old_len          The scene file that the surface was drawn from.
  *   new_scene, new_len    The scene file to show next, of the same width and height. The two may be the same bytes in
  *                         memory.
@@ -190,19 +221,72 @@ static inline wayramesh_answer wayramesh_draw_unmasked(const uint8_t *scene, siz
  * area still ends up as the new picture's, and the rest stays as it was. After a refusal the surface still holds what it
  * held, and the next call may go on from the same old scene.
  */
-wayramesh_answer wayramesh_redraw(const uint8_t *old, size_t old_len,
+wayramesh_answer wayramesh_redraw(wayramesh_context *context,
+                                  const uint8_t *old, size_t old_len,
                                   const uint8_t *new_scene, size_t new_len,
                                   uint32_t mask_lent, const uint8_t *mask, size_t mask_len,
                                   uint8_t *surface, size_t surface_len,
                                   int32_t *scratch, size_t scratch_len);
 
 /* The same without a mask. */
-static inline wayramesh_answer wayramesh_redraw_unmasked(const uint8_t *old, size_t old_len,
+static inline wayramesh_answer wayramesh_redraw_unmasked(wayramesh_context *context,
+                                                         const uint8_t *old, size_t old_len,
                                                          const uint8_t *new_scene, size_t new_len,
                                                          uint8_t *surface, size_t surface_len,
                                                          int32_t *scratch, size_t scratch_len)
 {
-    return wayramesh_redraw(old, old_len, new_scene, new_len, 0, old, 0, surface, surface_len, scratch, scratch_len);
+    return wayramesh_redraw(context, old, old_len, new_scene, new_len, 0, old, 0, surface, surface_len, scratch, scratch_len);
+}
+
+/* ---- Many scenes in one call ---- */
+
+/*
+ * Shows scenes one after the other: each is redrawn from the one accepted last, or drawn in full while there is none.
+ *
+ *   context               Notes the call's own code if that is not 0, else its scenes' in order: it keeps the first that is
+ *                         not 0.
+ *   scenes, scenes_len    The scene files one behind another.
+ *   lengths, lengths_len  The bytes of each, in order; lengths_len is the number of scenes, from 0 to WAYRAMESH_MAX_SCENES.
+ *                         They add up to scenes_len, as whole numbers: no sum wraps. A length may be 0, which is a scene of
+ *                         no bytes.
+ *   mask_lent, mask, mask_len
+ *                         As in wayramesh_draw, one mask for all scenes.
+ *   surface, surface_len, scratch, scratch_len
+ *                         As in wayramesh_draw.
+ *   answers, answers_len  Where WAYRAMESH_ANSWER_NUMBERS numbers go for each scene, in order: those of wayramesh_answer, as
+ *                         its own call would answer them. Places behind the last scene's are not written.
+ *
+ * Answers WAYRAMESH_BAD_LENGTH if there are more than WAYRAMESH_MAX_SCENES scenes or the lengths do not add up; else
+ * WAYRAMESH_OUT_OF_MEMORY if answers_len is below WAYRAMESH_ANSWER_NUMBERS for each scene. Such a call writes nothing but
+ * the context. Any other answers WAYRAMESH_ACCEPTED, whatever its scenes' codes are.
+ *
+ * It is proved, for every input, that the call returns, and that surface, scratch and answers are those of the calls of
+ * wayramesh_draw and wayramesh_redraw made one by one. A refused scene changes neither the picture nor which scene was
+ * accepted last. Afterwards the surface holds the full drawing of the scene accepted last, and every number of the scratch
+ * is zero; if none was accepted, surface and scratch hold what they held.
+ *
+ * While no scene was accepted, a scene of another size than the surface's is refused WAYRAMESH_UNSUPPORTED_IMAGE_FORMAT;
+ * afterwards one of another size than the scene accepted last WAYRAMESH_ILLEGAL_ARGUMENT. A replay takes as long as its
+ * calls, less the rules of the old scene of each redraw: no scene is judged twice.
+ */
+uint32_t wayramesh_replay(wayramesh_context *context,
+                          const uint8_t *scenes, size_t scenes_len,
+                          const uint32_t *lengths, size_t lengths_len,
+                          uint32_t mask_lent, const uint8_t *mask, size_t mask_len,
+                          uint8_t *surface, size_t surface_len,
+                          int32_t *scratch, size_t scratch_len,
+                          uint32_t *answers, size_t answers_len);
+
+/* The same without a mask. */
+static inline uint32_t wayramesh_replay_unmasked(wayramesh_context *context,
+                                                 const uint8_t *scenes, size_t scenes_len,
+                                                 const uint32_t *lengths, size_t lengths_len,
+                                                 uint8_t *surface, size_t surface_len,
+                                                 int32_t *scratch, size_t scratch_len,
+                                                 uint32_t *answers, size_t answers_len)
+{
+    return wayramesh_replay(context, scenes, scenes_len, lengths, lengths_len, 0, scenes, 0, surface, surface_len, scratch,
+                            scratch_len, answers, answers_len);
 }
 
 /* ---- The plain engine ---- */

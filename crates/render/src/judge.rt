@@ -9,7 +9,8 @@ ghost use mathlib.Core.Path.{_≡_};
 ghost use Prim.Native.Nat.{_≤_, _<_};
 ghost use lib.ListN.{length};
 ghost use Rattle.scene.specs.Layout.{blockBytes, noDraw};
-ghost use Rattle.render.specs.Answers.{maskOf, maskWrong, refuse, sceneRefusal, lentRefusal, sizeRefusal, drawRefusal, redrawRefusal};
+ghost use Rattle.render.specs.Answers.{maskOf, maskWrong, refuse, sceneRefusal, lentRefusal, sizeRefusal};
+ghost use Rattle.render.specs.Answers.{drawRefusal, redrawRefusal, Accepted};
 
 // Enough scratch.
 pub const SCRATCH_NUMBERS: usize = 12300;
@@ -47,6 +48,21 @@ pub fn judge_redraw(
     if old_broken.code != ACCEPTED {
         return old_broken;
     }
+    judge_redraw_from(old, new, masked, mask, surface, scratch)
+}
+
+// A redraw whose old scene was judged before.
+pub fn judge_redraw_from(
+    old: &[u8],
+    new: &[u8],
+    masked: bool,
+    mask: &[u8],
+    surface: usize,
+    scratch: usize,
+) -> Refusal
+    requires { ⌜ Accepted (maskOf masked (now mask)) (now old) ⌝ }
+    ensures { λ r. ⌜ r ≡ redrawRefusal (now (old .entry)) (now (new .entry)) (maskOf masked (now (mask .entry))) surface scratch ⌝ }
+{
     let new_broken = judge_scene(masked, new, 1);
     if new_broken.code != ACCEPTED {
         return new_broken;
@@ -66,7 +82,7 @@ pub fn judge_redraw(
 }
 
 // The scene with that number in the call.
-fn judge_scene(masked: bool, s: &[u8], number: u32) -> Refusal
+pub fn judge_scene(masked: bool, s: &[u8], number: u32) -> Refusal
     ensures { λ r. ⌜ r ≡ sceneRefusal masked (now (s .entry)) number ⌝ }
 {
     let f = scene::verdict::verdict(s, masked);

@@ -2,7 +2,8 @@
 pub mod judge;
 
 use crate::judge::judge_draw;
-use crate::judge::judge_redraw;
+use crate::judge::judge_redraw_from;
+use crate::judge::judge_scene;
 use codes::ACCEPTED;
 use rect::Rect;
 use scene::layout::NO_DRAW;
@@ -11,7 +12,7 @@ ghost use mathlib.Core.Bool.{cond};
 ghost use lib.ListN.{length};
 ghost use Rattle.rect.specs.Rects.{On};
 ghost use Rattle.render.specs.Answers.{maskOf, noMask, refusedAnswer, acceptedAnswer, drawAnswer, drawSurface, drawScratch};
-ghost use Rattle.render.specs.Answers.{redrawAnswer, redrawSurface, redrawScratch};
+ghost use Rattle.render.specs.Answers.{redrawAnswer, redrawSurface, redrawScratch, Accepted};
 
 // Why a call is refused: its code, 0 for none, the draw number and the scene number.
 pub struct Refusal {
@@ -105,7 +106,38 @@ pub fn redraw(
         ≡ redrawScratch (now (old .entry)) (now (new .entry)) (maskOf masked (now (mask .entry))) (length (now (surface .entry))) (now (scratch .entry))
         ⌝ }
 {
-    let f = judge_redraw(old, new, masked, mask, surface.len(), scratch.len());
+    let f = judge_scene(masked, old, 0);
+    if f.code != ACCEPTED {
+        return refused(f);
+    }
+    redraw_from(old, new, masked, mask, surface, scratch)
+}
+
+// The same from a scene that was judged before, so that it is not judged again.
+pub fn redraw_from(
+    old: &[u8],
+    new: &[u8],
+    masked: bool,
+    mask: &[u8],
+    surface: &mut [u8],
+    scratch: &mut [i32],
+) -> Answer
+    requires { ⌜ Accepted (maskOf masked (now mask)) (now old) ⌝ }
+    ensures { λ r. ⌜
+        r
+        ≡ redrawAnswer (now (old .entry)) (now (new .entry)) (maskOf masked (now (mask .entry)))
+        (length (now (surface .entry))) (length (now (scratch .entry)))
+        ⌝ }
+    ensures { λ _. ⌜
+        now (surface .exit)
+        ≡ redrawSurface (now (old .entry)) (now (new .entry)) (maskOf masked (now (mask .entry))) (now (surface .entry)) (length (now (scratch .entry)))
+        ⌝ }
+    ensures { λ _. ⌜
+        now (scratch .exit)
+        ≡ redrawScratch (now (old .entry)) (now (new .entry)) (maskOf masked (now (mask .entry))) (length (now (surface .entry))) (now (scratch .entry))
+        ⌝ }
+{
+    let f = judge_redraw_from(old, new, masked, mask, surface.len(), scratch.len());
     if f.code != ACCEPTED {
         return refused(f);
     }

@@ -3,7 +3,7 @@
 
 use std::time::{Duration, Instant};
 
-use library::Mask;
+use library::{Context, Mask};
 use scene::{Blend, Draw, Path, Scene};
 
 use crate::stages::Versions;
@@ -51,7 +51,8 @@ fn nanoseconds(scene: &Scene, budget: Duration) -> f64 {
     let begin = Instant::now();
     while begin.elapsed() < budget {
         for (version, least) in [(&versions.framed, &mut framed), (&versions.hidden, &mut hidden)] {
-            let (answer, time) = timed(|| library::draw(version, Mask::NONE, &mut surface, &mut scratch));
+            let (answer, time) =
+                timed(|| library::draw(&mut Context::default(), version, Mask::NONE, &mut surface, &mut scratch));
             assert_eq!(answer.code, 0);
             *least = time.min(*least);
         }
@@ -71,8 +72,13 @@ mod tests {
             for (quarters, coverage) in [(QUARTERS, 16), (QUARTERS / 2, 8)] {
                 let scene = scene(mode, quarters);
                 let mut surface = vec![0; scene.surface_bytes()];
-                let answer =
-                    library::draw(&scene.bytes(), Mask::NONE, &mut surface, &mut vec![0; library::SCRATCH_NUMBERS]);
+                let answer = library::draw(
+                    &mut Context::default(),
+                    &scene.bytes(),
+                    Mask::NONE,
+                    &mut surface,
+                    &mut vec![0; library::SCRATCH_NUMBERS],
+                );
                 assert_eq!(answer.code, 0);
                 let source = library::Pixel::from([115, 64, 13, 128]);
                 let expected = (0..DRAWS).fold(library::Pixel::from([20, 40, 80, 128]), |below, _| {

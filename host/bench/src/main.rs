@@ -7,19 +7,20 @@
 //! The buffers are not cleared between calls. A redraw's time includes the rules on both scenes, a full drawing's those on
 //! one. Then come the stages of the full drawing of the first frame. The other parts are `paints`, a full drawing in each
 //! kind of paint, `blending`, blended pixels alone, `masks`, a lamp under masks, `plain`, the plain engine beside the quick one,
-//! and `compare`.
+//! `compare`, and `replay`, a minute of the panel in one call and call by call.
 #![forbid(unsafe_code)]
 
 mod blending;
 mod compare;
 mod masks;
 mod plain;
+mod replay;
 mod stages;
 mod workloads;
 
 use std::time::{Duration, Instant};
 
-use library::Mask;
+use library::{Context, Mask};
 use scene::PaintType;
 use stages::Versions;
 use workloads::Workload;
@@ -55,6 +56,9 @@ fn main() {
     }
     if wanted("compare") {
         compare::print(budget);
+    }
+    if wanted("replay") {
+        replay::print(budget);
     }
 }
 
@@ -95,7 +99,8 @@ fn print_paints(budget: Duration) {
     let begin = Instant::now();
     while begin.elapsed() < budget {
         for ((_, scene), best) in dials.iter().zip(&mut best) {
-            let (answer, time) = timed(|| library::draw(scene, Mask::NONE, &mut surface, &mut scratch));
+            let (answer, time) =
+                timed(|| library::draw(&mut Context::default(), scene, Mask::NONE, &mut surface, &mut scratch));
             assert_eq!(answer.code, 0);
             *best = time.min(*best);
         }
@@ -121,19 +126,29 @@ fn whole_calls(workload: &Workload, budget: Duration) -> Times {
     let begin = Instant::now();
     while times.full.len() < 4 || begin.elapsed() < budget {
         for (from, to) in [(0, 1), (1, 0)] {
-            let (answer, time) = timed(|| library::draw(&frames[from], Mask::NONE, &mut surface, &mut scratch));
+            let (answer, time) =
+                timed(|| library::draw(&mut Context::default(), &frames[from], Mask::NONE, &mut surface, &mut scratch));
             assert_eq!(answer.code, 0, "{}", workload.name);
             times.full.push(time);
             let whole = f64::from(answer.width) * f64::from(answer.height);
-            let (answer, time) =
-                timed(|| library::redraw(&frames[from], &frames[to], Mask::NONE, &mut surface, &mut scratch));
+            let (answer, time) = timed(|| {
+                library::redraw(
+                    &mut Context::default(),
+                    &frames[from],
+                    &frames[to],
+                    Mask::NONE,
+                    &mut surface,
+                    &mut scratch,
+                )
+            });
             assert_eq!(answer.code, 0, "{}", workload.name);
             times.redraw.push(time);
             times.area = f64::from(answer.width) * f64::from(answer.height) / whole;
         }
     }
     let shown = surface.clone();
-    assert_eq!(library::draw(&frames[0], Mask::NONE, &mut surface, &mut scratch).code, 0, "{}", workload.name);
+    let answer = library::draw(&mut Context::default(), &frames[0], Mask::NONE, &mut surface, &mut scratch);
+    assert_eq!(answer.code, 0, "{}", workload.name);
     assert!(surface == shown, "{}: the redraw left another picture than the full drawing", workload.name);
     times
 }
@@ -147,7 +162,8 @@ fn print_stages(workload: &Workload, budget: Duration) {
     let begin = Instant::now();
     let mut turns = 0;
     while turns < 4 || begin.elapsed() < budget {
-        let (answer, time) = timed(|| library::draw(&versions.full, Mask::NONE, &mut surface, &mut []));
+        let (answer, time) =
+            timed(|| library::draw(&mut Context::default(), &versions.full, Mask::NONE, &mut surface, &mut []));
         assert_eq!(answer.code, library::OUT_OF_MEMORY, "{}", workload.name);
         judged = judged.min(time);
         for (scene, least) in [
@@ -157,7 +173,8 @@ fn print_stages(workload: &Workload, budget: Duration) {
             (&versions.hidden, &mut hidden),
             (&versions.full, &mut full),
         ] {
-            let (answer, time) = timed(|| library::draw(scene, Mask::NONE, &mut surface, &mut scratch));
+            let (answer, time) =
+                timed(|| library::draw(&mut Context::default(), scene, Mask::NONE, &mut surface, &mut scratch));
             assert_eq!(answer.code, 0, "{}", workload.name);
             *least = time.min(*least);
         }

@@ -2,7 +2,7 @@
 
 use std::time::{Duration, Instant};
 
-use library::Mask;
+use library::{Context, Mask};
 use scene::{Draw, PaintType, Path, Scene, Stop};
 
 use crate::timed;
@@ -23,7 +23,8 @@ pub fn print(budget: Duration) {
                 Some(bytes) => (&scenes[1], Mask::of(bytes)),
                 None => (&scenes[0], Mask::NONE),
             };
-            let (answer, time) = timed(|| library::draw(scene, mask, &mut surface, &mut scratch));
+            let (answer, time) =
+                timed(|| library::draw(&mut Context::default(), scene, mask, &mut surface, &mut scratch));
             assert_eq!(answer.code, 0);
             *best = time.min(*best);
         }
@@ -75,7 +76,13 @@ mod tests {
     fn the_masks_count() {
         let drawn = |scene: &Scene, mask: Mask| {
             let mut surface = vec![0; scene.surface_bytes()];
-            let answer = library::draw(&scene.bytes(), mask, &mut surface, &mut vec![0; library::SCRATCH_NUMBERS]);
+            let answer = library::draw(
+                &mut Context::default(),
+                &scene.bytes(),
+                mask,
+                &mut surface,
+                &mut vec![0; library::SCRATCH_NUMBERS],
+            );
             assert_eq!(answer.code, 0);
             surface
         };

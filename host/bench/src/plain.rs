@@ -2,7 +2,7 @@
 
 use std::time::Duration;
 
-use library::Mask;
+use library::{Context, Mask};
 
 use crate::{timed, workloads};
 
@@ -18,7 +18,8 @@ pub fn print(budget: Duration) {
     let mut quick = Duration::MAX;
     let mut spent = Duration::ZERO;
     while spent < budget {
-        let (answer, time) = timed(|| library::draw(scene, Mask::NONE, &mut quick_surface, &mut scratch));
+        let (answer, time) =
+            timed(|| library::draw(&mut Context::default(), scene, Mask::NONE, &mut quick_surface, &mut scratch));
         assert_eq!(answer.code, 0);
         quick = quick.min(time);
         spent += time;

@@ -76,14 +76,21 @@ pub fn dial(paint: PaintType, side: u16, transformed: bool) -> Scene {
 
 #[cfg(test)]
 mod tests {
-    use library::Mask;
+    use library::{Context, Mask};
 
     /// With no scratch a call gets as far as the scratch only if its scenes are accepted.
     #[test]
     fn the_frames_are_accepted() {
         for workload in super::all() {
             let [old, new] = &workload.frames;
-            let answer = library::redraw(old, new, Mask::NONE, &mut vec![0; workload.surface_bytes], &mut []);
+            let answer = library::redraw(
+                &mut Context::default(),
+                old,
+                new,
+                Mask::NONE,
+                &mut vec![0; workload.surface_bytes],
+                &mut [],
+            );
             assert_eq!(answer.code, library::OUT_OF_MEMORY, "{}", workload.name);
         }
     }

@@ -105,7 +105,7 @@ impl Buffers {
         }
     }
 
-    fn lent_mask(&self) -> Option<&[u8]> {
+    pub fn lent_mask(&self) -> Option<&[u8]> {
         (self.mask_lent != 0).then_some(&self.mask[..])
     }
 }
@@ -150,10 +150,15 @@ pub fn compare(name: &str, call: Call, buffers: &Buffers) -> (library::Answer, B
     let mut surface = Guarded::new(&buffers.surface, 0x5A, (shift + 7) % 16);
     let mut scratch = Guarded::new(&buffers.scratch, 0x5A5A_5A5A, shift % 4);
     let (first, last) = (scenes[0].content(), scenes[scenes.len() - 1].content());
+    // A context that keeps nothing yet, or a code that no call gives. The plain engine has none.
+    let kept = if shift % 2 == 0 { 0 } else { 7 };
+    let mut context = library::Context { code: kept };
     let answer = match call {
-        Call::Draw(_) => library::draw(first, mask, surface.content_mut(), scratch.content_mut()),
+        Call::Draw(_) => library::draw(&mut context, first, mask, surface.content_mut(), scratch.content_mut()),
         Call::DrawPlain(_) => library::draw_plain(first, mask, surface.content_mut(), scratch.content_mut()),
-        Call::Redraw(..) => library::redraw(first, last, mask, surface.content_mut(), scratch.content_mut()),
+        Call::Redraw(..) => {
+            library::redraw(&mut context, first, last, mask, surface.content_mut(), scratch.content_mut())
+        }
     };
 
     let check = |what: &str, holds: bool| {
@@ -162,7 +167,8 @@ pub fn compare(name: &str, call: Call, buffers: &Buffers) -> (library::Answer, B
             panic!("{name}: {what} (library {answer:?}, reference {expected_answer:?})");
         }
     };
-    check("the answer differs", numbers(answer) == expected_numbers(expected_answer));
+    check("the answer differs", numbers(answer) == reference::replay::numbers(expected_answer));
+    check("the context differs", context.code == if kept == 0 { expected_answer.code } else { kept });
     let difference = first_difference(surface.content(), &expected.surface);
     check(&format!("the surface differs, first at byte {difference:?}"), difference.is_none());
     let difference = first_difference(scratch.content(), &expected.scratch);
@@ -183,11 +189,8 @@ pub fn compare(name: &str, call: Call, buffers: &Buffers) -> (library::Answer, B
     (answer, Buffers { mask_lent: buffers.mask_lent, mask: buffers.mask.clone(), surface, scratch })
 }
 
-fn numbers(answer: library::Answer) -> [u32; 7] {
-    [answer.code, answer.draw, answer.scene, answer.x, answer.y, answer.width, answer.height]
-}
-
-fn expected_numbers(answer: reference::Answer) -> [u32; 7] {
+/// The seven numbers of an answer.
+pub fn numbers(answer: library::Answer) -> [u32; 7] {
     [answer.code, answer.draw, answer.scene, answer.x, answer.y, answer.width, answer.height]
 }
 

@@ -8,7 +8,7 @@ use std::process::Command;
 use differential::{compiled_example, rounds};
 use generate::{masks, scenes, Random};
 use library::explain::{self, Line, COVERED, NO_LINE, OUTSIDE, UNCOVERED};
-use library::{Mask, Pixel, SCRATCH_NUMBERS};
+use library::{Context, Mask, Pixel, SCRATCH_NUMBERS};
 use reference::explain::Kind;
 use reference::print;
 use scene::Scene;
@@ -48,7 +48,8 @@ fn as_given(line: &reference::explain::Line) -> Line {
 /// of line was met, and how many had a mask's byte.
 fn every_pixel(name: &str, bytes: &[u8], mask: Option<&[u8]>, width: u32, height: u32) -> [usize; 5] {
     let mut surface = vec![0x5A; 4 * width as usize * height as usize];
-    let drawn = library::draw(bytes, mask_of(mask), &mut surface, &mut vec![-1; SCRATCH_NUMBERS]);
+    let drawn =
+        library::draw(&mut Context::default(), bytes, mask_of(mask), &mut surface, &mut vec![-1; SCRATCH_NUMBERS]);
     assert_eq!(drawn.code, 0, "{name}");
     let mut met = [0; 5];
     for (i, stored) in surface.chunks(4).enumerate() {

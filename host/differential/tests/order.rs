@@ -4,7 +4,7 @@
 use differential::rounds;
 use generate::orders::{order, reordered, scattered};
 use generate::{masks, scenes, Random};
-use library::{Mask, SCRATCH_NUMBERS};
+use library::{Context, Mask, SCRATCH_NUMBERS};
 use order::{judge, Turned, Verdict};
 use reference::rules;
 use scene::Scene;
@@ -14,7 +14,7 @@ fn drawn(random: &mut Random, scene: &Scene, mask: Mask) -> Vec<u8> {
     let mut surface = vec![0; scene.surface_bytes()];
     random.fill_bytes(&mut surface);
     let mut scratch = vec![-1; SCRATCH_NUMBERS];
-    assert_eq!(library::draw(&scene.bytes(), mask, &mut surface, &mut scratch).code, 0);
+    assert_eq!(library::draw(&mut Context::default(), &scene.bytes(), mask, &mut surface, &mut scratch).code, 0);
     surface
 }
 
@@ -34,7 +34,7 @@ fn boxes(scene: &Scene) -> Vec<[u32; 4]> {
     let area = |draw: &scene::Draw| {
         let (mut surface, mut scratch) = (vec![0; scene.surface_bytes()], vec![0; SCRATCH_NUMBERS]);
         let (old, new) = (with(vec![draw.clone()]), with(Vec::new()));
-        let answer = library::redraw(&old, &new, Mask::of(&bytes), &mut surface, &mut scratch);
+        let answer = library::redraw(&mut Context::default(), &old, &new, Mask::of(&bytes), &mut surface, &mut scratch);
         assert_eq!(answer.code, 0);
         [answer.x, answer.y, answer.width, answer.height]
     };

@@ -3,7 +3,7 @@
 
 use std::arch::asm;
 
-use library::Mask;
+use library::{Context, Mask};
 use reference::picture::SCRATCH_NUMBERS;
 use scene::{Draw, Path, Scene};
 
@@ -29,7 +29,7 @@ fn set_rounding(mode: u32) {
 fn drawn(scene: &[u8], mode: u32) -> ([u8; 4], u32) {
     let (mut surface, mut scratch) = ([0; 4], vec![0; SCRATCH_NUMBERS]);
     set_rounding(mode);
-    let answer = library::draw(scene, Mask::NONE, &mut surface, &mut scratch);
+    let answer = library::draw(&mut Context::default(), scene, Mask::NONE, &mut surface, &mut scratch);
     let after = control() & ROUNDING;
     set_rounding(NEAREST);
     assert_eq!(answer.code, 0);

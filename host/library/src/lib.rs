@@ -49,11 +49,13 @@ mod compare;
 mod composite;
 pub mod explain;
 mod plain;
+mod replay;
 mod salvage;
 
 pub use compare::{compare, Comparison};
 pub use composite::{composite, Composited, Pixel};
 pub use plain::draw_plain;
+pub use replay::{replay, ANSWER_NUMBERS, MOST_SCENES};
 pub use salvage::{salvage, Salvaged};
 
 /// The mask of a call, a byte for each pixel. With 0 in `lent` there is none, whatever the bytes are; with any other number
@@ -76,11 +78,30 @@ impl<'a> Mask<'a> {
     }
 }
 
+/// What keeps the first code other than 0 of the calls that it is lent to, until it is asked for.
+#[repr(C)]
+#[derive(Clone, Copy, Debug, Default, PartialEq, Eq)]
+pub struct Context {
+    /// That code, or 0.
+    pub code: u32,
+}
+
+impl Context {
+    /// The first code other than 0 since it was last asked for; asking sets 0.
+    pub fn take_code(&mut self) -> u32 {
+        // SAFETY: the context is lent for the call, and the function asks no more.
+        unsafe { ffi::wayramesh_take_code(self) }
+    }
+}
+
 mod ffi {
-    use super::Answer;
+    use super::{Answer, Context};
 
     extern "C" {
+        pub fn wayramesh_take_code(context: *mut Context) -> u32;
+
         pub fn wayramesh_draw(
+            context: *mut Context,
             scene: *const u8,
             scene_len: usize,
             mask_lent: u32,
@@ -93,6 +114,7 @@ mod ffi {
         ) -> Answer;
 
         pub fn wayramesh_redraw(
+            context: *mut Context,
             old: *const u8,
             old_len: usize,
             new: *const u8,
@@ -110,11 +132,12 @@ mod ffi {
 
 /// Draws a scene in full.
 #[must_use = "a call may be refused"]
-pub fn draw(scene: &[u8], mask: Mask, surface: &mut [u8], scratch: &mut [i32]) -> Answer {
-    // SAFETY: each pointer comes with its slice's length. Surface and scratch overlap no other slice; scene and mask are
-    // only read. The function asks no more.
+pub fn draw(context: &mut Context, scene: &[u8], mask: Mask, surface: &mut [u8], scratch: &mut [i32]) -> Answer {
+    // SAFETY: each pointer comes with its slice's length. Context, surface and scratch overlap nothing else; scene and mask
+    // are only read. The function asks no more.
     unsafe {
         ffi::wayramesh_draw(
+            context,
             scene.as_ptr(),
             scene.len(),
             mask.lent,
@@ -130,10 +153,18 @@ pub fn draw(scene: &[u8], mask: Mask, surface: &mut [u8], scratch: &mut [i32]) -
 
 /// Redraws a surface from the old scene to the new, both with the same mask.
 #[must_use = "a call may be refused"]
-pub fn redraw(old: &[u8], new: &[u8], mask: Mask, surface: &mut [u8], scratch: &mut [i32]) -> Answer {
+pub fn redraw(
+    context: &mut Context,
+    old: &[u8],
+    new: &[u8],
+    mask: Mask,
+    surface: &mut [u8],
+    scratch: &mut [i32],
+) -> Answer {
     // SAFETY: as in `draw`; the two scenes are only read and may overlap.
     unsafe {
         ffi::wayramesh_redraw(
+            context,
             old.as_ptr(),
             old.len(),
             new.as_ptr(),

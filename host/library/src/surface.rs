@@ -2,7 +2,7 @@
 
 use std::fmt;
 
-use crate::{draw, redraw, Area, Mask, Refusal, SCRATCH_NUMBERS};
+use crate::{draw, redraw, Area, Context, Mask, Refusal, SCRATCH_NUMBERS};
 
 /// The greatest width and height.
 pub const MAX_SIDE: u32 = 1_024;
@@ -34,6 +34,7 @@ pub struct Surface {
     scratch: Vec<i32>,
     mask: Option<Vec<u8>>,
     shown: Option<Vec<u8>>,
+    context: Context,
 }
 
 /// A size that no surface has, or bytes that are no mask of its size.
@@ -64,7 +65,8 @@ impl Surface {
             return Err(BadSize);
         }
         let pixels = vec![0; 4 * width as usize * height as usize];
-        Ok(Surface { width, height, pixels, scratch: vec![0; SCRATCH_NUMBERS], mask: None, shown: None })
+        let (scratch, context) = (vec![0; SCRATCH_NUMBERS], Context::default());
+        Ok(Surface { width, height, pixels, scratch, mask: None, shown: None, context })
     }
 
     /// A surface of the size that a scene file names.
@@ -98,8 +100,8 @@ impl Surface {
     pub fn show(&mut self, scene: &[u8]) -> Result<Area, Refusal> {
         let mask = self.mask.as_deref().map_or(Mask::NONE, Mask::of);
         let answer = match &self.shown {
-            Some(old) => redraw(old, scene, mask, &mut self.pixels, &mut self.scratch),
-            None => draw(scene, mask, &mut self.pixels, &mut self.scratch),
+            Some(old) => redraw(&mut self.context, old, scene, mask, &mut self.pixels, &mut self.scratch),
+            None => draw(&mut self.context, scene, mask, &mut self.pixels, &mut self.scratch),
         };
         let area = answer.result()?;
         self.shown = Some(scene.to_vec());
@@ -109,9 +111,14 @@ impl Surface {
     /// Draws a scene in full, whatever is shown.
     pub fn draw(&mut self, scene: &[u8]) -> Result<Area, Refusal> {
         let mask = self.mask.as_deref().map_or(Mask::NONE, Mask::of);
-        let area = draw(scene, mask, &mut self.pixels, &mut self.scratch).result()?;
+        let area = draw(&mut self.context, scene, mask, &mut self.pixels, &mut self.scratch).result()?;
         self.shown = Some(scene.to_vec());
         Ok(area)
+    }
+
+    /// The first code other than 0 of all that was shown and drawn since it was last asked for; asking sets 0.
+    pub fn take_code(&mut self) -> u32 {
+        self.context.take_code()
     }
 
     /// The scene file that is shown.

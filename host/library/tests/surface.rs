@@ -3,7 +3,7 @@
 use std::fs;
 use std::path::Path;
 
-use wayramesh::{compare, composite, draw, Area, Code, Mask, Pixel, Refusal, Surface, SCRATCH_NUMBERS};
+use wayramesh::{compare, composite, draw, Area, Code, Context, Mask, Pixel, Refusal, Surface, SCRATCH_NUMBERS};
 use wayramesh_scene::{file_offset, seal, Draw, Scene};
 
 fn repository() -> std::path::PathBuf {
@@ -52,7 +52,7 @@ fn under_a_mask() {
     let area = surface.show(&new).expect("a redraw");
     assert!(!area.is_empty() && area.width < 1_024);
     let mut expected = vec![0; surface.pixels().len()];
-    let answer = draw(&new, Mask::of(&mask), &mut expected, &mut vec![0; SCRATCH_NUMBERS]);
+    let answer = draw(&mut Context::default(), &new, Mask::of(&mask), &mut expected, &mut vec![0; SCRATCH_NUMBERS]);
     assert!(answer.result().is_ok() && surface.pixels() == expected);
     // Without it the next scene is drawn in full, and refused: the surface shows what it did.
     surface.set_mask(None).expect("no mask");

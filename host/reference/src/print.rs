@@ -1,5 +1,5 @@
-//! What the programs print: a picture, an explanation or a refusal, as text. Of those that print pictures none lends a mask;
-//! here one may be lent.
+//! What the programs print: a picture, an explanation, a replay's answers or a refusal, as text. Of those that print pictures
+//! none lends a mask; here one may be lent.
 
 use std::fmt::Write;
 
@@ -7,8 +7,9 @@ use crate::answer::{Answer, ACCEPTED, FIRST_SCENE};
 use crate::explain::{explain, Kind, Line};
 use crate::paint::Pixel;
 use crate::picture::SCRATCH_NUMBERS;
+use crate::replay::ANSWER_NUMBERS;
 use crate::rules;
-use crate::{draw, redraw};
+use crate::{draw, redraw, replay, Context};
 
 /// The drawing program's output for a scene file.
 pub fn drawing(scene: &[u8], mask: Option<&[u8]>) -> String {
@@ -33,6 +34,30 @@ pub fn redrawing(old: &[u8], new: &[u8], mask: Option<&[u8]>) -> String {
         return refusal_of_redraw(&answer, answer.scene);
     }
     format!("{} {} {} {}\n{}", answer.x, answer.y, answer.width, answer.height, picture(first.width as usize, &surface))
+}
+
+/// The replay program's output: the code of the whole, a line for each scene, what a context keeps, and the picture that is
+/// shown at the end. The surface has the size of the first scene that passes the scene rules.
+pub fn replaying(scenes: &[Vec<u8>]) -> String {
+    let size = scenes.iter().find_map(|scene| rules::scene(scene, false).ok()).map(|scene| (scene.width, scene.height));
+    let (width, height) = size.unwrap_or((0, 0));
+    let lengths: Vec<u32> = scenes.iter().map(|scene| scene.len() as u32).collect();
+    let mut surface = vec![0; 4 * width as usize * height as usize];
+    let mut answers = vec![0; ANSWER_NUMBERS * scenes.len()];
+    let mut context = Context::default();
+    let mut scratch = vec![0; SCRATCH_NUMBERS];
+    let code = replay(&mut context, &scenes.concat(), &lengths, None, &mut surface, &mut scratch, &mut answers);
+    let answers = if code == ACCEPTED { answers } else { Vec::new() };
+    let mut text = format!("code {code:04x}\n");
+    for a in answers.chunks(ANSWER_NUMBERS) {
+        writeln!(text, "{:04x} {} {} {} {} {} {}", a[0], a[1], a[2], a[3], a[4], a[5], a[6])
+            .expect("a string takes all");
+    }
+    writeln!(text, "context {:04x}", context.take()).expect("a string takes all");
+    if let Some(last) = answers.chunks(ANSWER_NUMBERS).rposition(|answer| answer[0] == ACCEPTED) {
+        write!(text, "last {last}\n{}", picture(width as usize, &surface)).expect("a string takes all");
+    }
+    text
 }
 
 fn refusal_of_redraw(answer: &Answer, scene: u32) -> String {

@@ -91,6 +91,23 @@ fn explanations() {
     assert_eq!(pixels, 274);
 }
 
+/// replay/N-0.scene, N-1.scene, .. in order, and N.out.
+#[test]
+fn replays() {
+    let printed = files("replay", "out");
+    assert_eq!(printed.len(), 12);
+    for out in printed {
+        let number = out.file_stem().expect("a name").to_string_lossy().into_owned();
+        let scenes: Vec<Vec<u8>> = (0..)
+            .map(|i| out.with_file_name(format!("{number}-{i}.scene")))
+            .take_while(|path| path.exists())
+            .map(|path| read(&path))
+            .collect();
+        assert!(!scenes.is_empty());
+        check(&out, &print::replaying(&scenes));
+    }
+}
+
 /// edges.txt has a line for each edge case: number, code, draw, "offset", the offset, and its name.
 #[test]
 fn faults_of_the_edge_cases() {

@@ -1,0 +1,2 @@
+-- Laws of the context: the first code of several, and sequences of calls.
+pub mod Codes
