@@ -11,6 +11,8 @@
  *   wayramesh_composite    is the blending step on one pixel
  *   wayramesh_explain      says why a pixel has its colour, or where in a refused file the rules were broken
  *   wayramesh_salvage      writes a spoiled scene again
+ *   wayramesh_identity     is the library's version and the hash of its sources
+ *   wayramesh_checksum     is a checksum for self-tests
  *
  * Link with libwayramesh.a (x86-64; it needs memcpy and memset of the C library). The library allocates nothing, keeps
  * nothing between calls but what a caller's wayramesh_context holds, and does no input or output. examples/panel.c is a
@@ -56,6 +58,12 @@
 
 #include <stddef.h>
 #include <stdint.h>
+
+/* The version of this header; wayramesh_identity answers that of the library. */
+#define WAYRAMESH_VERSION_MAJOR 0u
+#define WAYRAMESH_VERSION_MINOR 1u
+#define WAYRAMESH_VERSION_PATCH 0u
+#define WAYRAMESH_VERSION "0.1.0"
 
 #ifdef __cplusplus
 extern "C" {
@@ -505,6 +513,7 @@ static inline wayramesh_line wayramesh_explain_draw_unmasked(const uint8_t *scen
 {
     return wayramesh_explain_draw(scene, scene_len, 0, scene, 0, x, y, draw, before);
 }
+
 /* ---- A spoiled scene written again ---- */
 
 /* The numbers of a list that has room for every draw of a scene: two for each of 64. */
@@ -543,6 +552,29 @@ typedef struct wayramesh_salvaged {
 wayramesh_salvaged wayramesh_salvage(const uint8_t *scene, size_t scene_len,
                                      uint8_t *place, size_t place_len,
                                      uint32_t *list, size_t list_len);
+
+/* ---- What the library is, and a checksum for self-tests ---- */
+
+/*
+ * What wayramesh_identity answers: the library's version, and the sha256 of the list of its sources, by which a release's
+ * sheet names the archive. A panel can show it and a log can hold it; the version must be this header's.
+ */
+typedef struct wayramesh_known {
+    uint32_t major;
+    uint32_t minor;
+    uint32_t patch;
+    uint8_t source[32];
+} wayramesh_known;
+
+/* The version and source hash of the library that is linked. */
+wayramesh_known wayramesh_identity(void);
+
+/*
+ * The CRC-32 of bytes, as zlib and Ethernet have it, of any number of them: 0 of none. A panel that draws a scene at its
+ * start and compares the checksum of the surface with the one that the release's sheet gives for it has tested memory,
+ * processor and library together. It is proved equal to its definition.
+ */
+uint32_t wayramesh_checksum(const uint8_t *bytes, size_t bytes_len);
 
 #ifdef __cplusplus
 }

@@ -1,6 +1,7 @@
 // The C interface: include/wayramesh.h tells a C caller what these functions take and answer. Each draw, redraw and replay notes its code in the context.
 pub mod calls;
 pub mod explain;
+pub mod release;
 pub mod salvage;
 
 use blend::Composited;

@@ -1,0 +1,86 @@
+// Version and source hash of the library: written by tests/identity, which says of what the hash is.
+ghost use mathlib.Core.Path.{_≡_};
+ghost use Rattle.identity.specs.Identity.{identityOf};
+
+// The version's three numbers, and the 32 bytes of the source hash.
+#[repr(C)]
+pub struct Identity {
+    pub major: u32,
+    pub minor: u32,
+    pub patch: u32,
+    pub s0: u8,
+    pub s1: u8,
+    pub s2: u8,
+    pub s3: u8,
+    pub s4: u8,
+    pub s5: u8,
+    pub s6: u8,
+    pub s7: u8,
+    pub s8: u8,
+    pub s9: u8,
+    pub s10: u8,
+    pub s11: u8,
+    pub s12: u8,
+    pub s13: u8,
+    pub s14: u8,
+    pub s15: u8,
+    pub s16: u8,
+    pub s17: u8,
+    pub s18: u8,
+    pub s19: u8,
+    pub s20: u8,
+    pub s21: u8,
+    pub s22: u8,
+    pub s23: u8,
+    pub s24: u8,
+    pub s25: u8,
+    pub s26: u8,
+    pub s27: u8,
+    pub s28: u8,
+    pub s29: u8,
+    pub s30: u8,
+    pub s31: u8,
+}
+
+// What the library is.
+pub fn of_sources() -> Identity
+    ensures { λ r. ⌜ r ≡ identityOf ⌝ }
+{
+    Identity {
+        major: 0,
+        minor: 1,
+        patch: 0,
+        s0: 78,
+        s1: 174,
+        s2: 241,
+        s3: 195,
+        s4: 228,
+        s5: 223,
+        s6: 155,
+        s7: 52,
+        s8: 53,
+        s9: 144,
+        s10: 68,
+        s11: 30,
+        s12: 187,
+        s13: 205,
+        s14: 98,
+        s15: 114,
+        s16: 52,
+        s17: 228,
+        s18: 150,
+        s19: 145,
+        s20: 143,
+        s21: 210,
+        s22: 80,
+        s23: 228,
+        s24: 60,
+        s25: 143,
+        s26: 227,
+        s27: 161,
+        s28: 120,
+        s29: 224,
+        s30: 56,
+        s31: 95,
+    }
+}
