@@ -42,6 +42,13 @@ fn small_panel() {
     draw_and_redraw("panel-small.scene", "panel-small-next.scene", &rubbish(256 * 150));
 }
 
+/// The scene of a dial from an SVG editor.
+#[test]
+fn dial() {
+    let (answer, _) = compare("dial", Call::Draw(&file("dial.scene")), &rubbish(240 * 240));
+    assert_eq!(answer.code, 0);
+}
+
 /// From day to night, between editions.
 #[test]
 fn panel_at_night() {

@@ -1,14 +1,11 @@
 //! The rules of the scene file, judged on the fields before anything is written.
 
-use crate::path::{CLOSE, CUBIC, HORIZONTAL, LINE, MOVE, QUAD, RELATIVE, SMOOTH_CUBIC, SMOOTH_QUAD, VERTICAL};
+use crate::path::{coordinates_of, HORIZONTAL, MOVE, RELATIVE, SMOOTH_CUBIC, SMOOTH_QUAD, VERTICAL};
+use crate::place::{most_coordinates, MOST_DRAWS, MOST_SCISSORS, MOST_SEGMENTS, MOST_STOPS};
 use crate::{Draw, Error, Fault, PaintType, Path, Scene};
 
 const MOST_PIXELS: u16 = 1_024;
 const LAST_EDITION: u16 = 1;
-pub(crate) const MOST_DRAWS: usize = 64;
-pub(crate) const MOST_SEGMENTS: usize = 128;
-const MOST_SCISSORS: usize = 4;
-const MOST_STOPS: usize = 32;
 
 const MOST_SCALE: f32 = 256.0;
 const MOST_SHIFT: f32 = 32_768.0;
@@ -88,7 +85,7 @@ impl Draw {
 impl Path {
     fn judge_counts(&self, edition: u16) -> Result<(), Fault> {
         require(self.segments.len() <= MOST_SEGMENTS, Fault::TooManySegments)?;
-        let taken = self.segments.iter().map(|&segment| taken(segment)).sum::<Option<usize>>();
+        let taken = self.segments.iter().map(|&segment| coordinates_of(segment)).sum::<Option<usize>>();
         require(taken == Some(self.coordinates.len()), Fault::BadSegment)?;
         require(self.coordinates.len() <= most_coordinates(edition), Fault::TooManyCoordinates)
     }
@@ -98,23 +95,6 @@ impl Path {
         let mut pen = Pen { matrix, ..Pen::default() };
         let mut coordinates = self.coordinates.iter().map(|&coordinate| i64::from(coordinate));
         self.segments.iter().all(|&segment| pen.walk(segment, &mut coordinates))
-    }
-}
-
-/// How many coordinates a draw of an edition has places for.
-pub(crate) fn most_coordinates(edition: u16) -> usize {
-    (crate::DRAW_BYTES - crate::first_coordinate(edition)) / 2
-}
-
-/// How many coordinates a segment takes; none if there is no such segment.
-fn taken(segment: u8) -> Option<usize> {
-    match segment & !RELATIVE {
-        CLOSE => Some(0),
-        HORIZONTAL | VERTICAL => Some(1),
-        MOVE | LINE | SMOOTH_QUAD => Some(2),
-        QUAD | SMOOTH_CUBIC => Some(4),
-        CUBIC => Some(6),
-        _ => None,
     }
 }
 
@@ -141,7 +121,7 @@ impl Pen {
             HORIZONTAL => points.push((origin.0 + next(), self.current.1)),
             VERTICAL => points.push((self.current.0, origin.1 + next())),
             _ => {
-                for _ in 0..taken(segment).unwrap_or(0) / 2 {
+                for _ in 0..coordinates_of(segment).unwrap_or(0) / 2 {
                     points.push((origin.0 + next(), origin.1 + next()));
                 }
             }

@@ -24,9 +24,11 @@
 
 pub mod canvas;
 mod error;
+pub mod fields;
 pub mod font;
 mod judge;
 pub mod path;
+pub mod place;
 pub mod shape;
 pub mod stroke;
 
@@ -35,8 +37,10 @@ pub use path::Path;
 
 /// The bytes of a block: 508 of payload, then its check.
 pub const BLOCK: usize = 512;
-const PAYLOAD: usize = 508;
-const DRAW_BLOCKS: usize = 4;
+/// The bytes of a block before its check.
+pub const PAYLOAD: usize = 508;
+/// The blocks of a draw.
+pub const DRAW_BLOCKS: usize = 4;
 /// The joined payloads of a draw.
 pub const DRAW_BYTES: usize = PAYLOAD * DRAW_BLOCKS;
 
@@ -251,12 +255,15 @@ impl Draw {
     ///
     /// If the layout has no places for what the draw has.
     pub fn bytes(&self, edition: u16) -> [u8; DRAW_BYTES] {
-        assert!(self.scissors.len() <= 4, "the layout has four scissors");
+        assert!(self.scissors.len() <= place::MOST_SCISSORS, "the layout has four scissors");
         let radial = self.paint == PaintType::Radial;
-        assert!(self.stops.len() + usize::from(radial) <= 32, "the layout has 32 stops, a radial draw 31");
+        assert!(
+            self.stops.len() + usize::from(radial) <= place::MOST_STOPS,
+            "the layout has 32 stops, a radial draw 31"
+        );
         let segments = &self.path.segments;
         let coordinates = &self.path.coordinates;
-        assert!(segments.len() <= 128, "the layout has 128 segments");
+        assert!(segments.len() <= place::MOST_SEGMENTS, "the layout has 128 segments");
         let first_coordinate = first_coordinate(edition);
         assert!(
             first_coordinate + 2 * coordinates.len() <= DRAW_BYTES,
@@ -273,29 +280,29 @@ impl Draw {
         for (i, number) in numbers.iter().enumerate() {
             put(&mut bytes, 2 * i, &number.to_le_bytes());
         }
-        bytes[8] = segments.len() as u8;
-        bytes[9] = self.scissors.len() as u8;
-        bytes[10] = self.stops.len() as u8;
-        put_floats(&mut bytes, 12, &self.matrix);
-        put_floats(&mut bytes, 36, &self.color);
-        put_floats(&mut bytes, 52, &self.linear);
+        bytes[place::SEGMENT_COUNT] = segments.len() as u8;
+        bytes[place::SCISSOR_COUNT] = self.scissors.len() as u8;
+        bytes[place::STOP_COUNT] = self.stops.len() as u8;
+        put_floats(&mut bytes, place::MATRIX, &self.matrix);
+        put_floats(&mut bytes, place::COLOR, &self.color);
+        put_floats(&mut bytes, place::LINEAR, &self.linear);
         for (i, scissor) in self.scissors.iter().enumerate() {
             let numbers = [scissor.x, scissor.y, scissor.width, scissor.height];
             for (j, number) in numbers.iter().enumerate() {
-                put(&mut bytes, 68 + 16 * i + 4 * j, &number.to_le_bytes());
+                put(&mut bytes, place::SCISSORS + place::SCISSOR_BYTES * i + 4 * j, &number.to_le_bytes());
             }
         }
         if radial {
-            put_floats(&mut bytes, 132, &self.radial);
+            put_floats(&mut bytes, place::RADIAL, &self.radial);
         }
-        let first_stop = if radial { 152 } else { 132 };
+        let first_stop = place::STOPS + if radial { place::STOP_BYTES } else { 0 };
         for (i, stop) in self.stops.iter().enumerate() {
-            put_floats(&mut bytes, first_stop + 20 * i, &[stop.offset]);
-            put_floats(&mut bytes, first_stop + 4 + 20 * i, &stop.color);
+            put_floats(&mut bytes, first_stop + place::STOP_BYTES * i, &[stop.offset]);
+            put_floats(&mut bytes, first_stop + place::STOP_BYTES * i + 4, &stop.color);
         }
-        put(&mut bytes, 772, segments);
+        put(&mut bytes, place::SEGMENTS, segments);
         if edition == 1 {
-            put_floats(&mut bytes, 900, &self.transformation);
+            put_floats(&mut bytes, place::SCALES, &self.transformation);
         }
         for (i, coordinate) in coordinates.iter().enumerate() {
             put(&mut bytes, first_coordinate + 2 * i, &coordinate.to_le_bytes());
@@ -316,6 +323,17 @@ pub fn first_coordinate(edition: u16) -> usize {
 /// The offset in a file of a place in a draw's joined payloads.
 pub fn file_offset(draw: usize, place: usize) -> usize {
     BLOCK * (1 + DRAW_BLOCKS * draw + place / PAYLOAD) + place % PAYLOAD
+}
+
+/// The joined payloads of a draw, as far as a file has them; what is missing is zero.
+pub fn draw_payload(file: &[u8], draw: usize) -> Vec<u8> {
+    let mut bytes = vec![0; DRAW_BYTES];
+    for (place, payload) in (0..).step_by(PAYLOAD).zip(bytes.chunks_mut(PAYLOAD)) {
+        let there = file.get(file_offset(draw, place)..).unwrap_or(&[]);
+        let length = there.len().min(PAYLOAD);
+        payload[..length].copy_from_slice(&there[..length]);
+    }
+    bytes
 }
 
 /// Writes the check of every whole block anew.

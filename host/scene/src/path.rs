@@ -22,6 +22,18 @@ pub const SMOOTH_QUAD: u8 = 14;
 /// A cubic curve that goes on without a kink: its second control, then its end.
 pub const SMOOTH_CUBIC: u8 = 16;
 
+/// How many coordinates a segment byte takes; none if it is not in the format's table.
+pub fn coordinates_of(byte: u8) -> Option<usize> {
+    match byte & !RELATIVE {
+        CLOSE => Some(0),
+        MOVE | LINE | SMOOTH_QUAD => Some(2),
+        HORIZONTAL | VERTICAL => Some(1),
+        QUAD | SMOOTH_CUBIC => Some(4),
+        CUBIC => Some(6),
+        _ => None,
+    }
+}
+
 /// A path as the file holds it. Each method appends a segment with absolute coordinates and returns the path.
 #[derive(Clone, Debug, Default, PartialEq, Eq)]
 pub struct Path {

@@ -1,6 +1,6 @@
 //! Shapes in pixels of a canvas, written as paths in sixteenths of a pixel.
 
-use crate::judge::{most_coordinates, MOST_SEGMENTS};
+use crate::place::{most_coordinates, MOST_SEGMENTS};
 use crate::stroke::{self, Line};
 use crate::{font, Fault, FillRule, Path};
 

@@ -16,7 +16,7 @@ pub const FAILED: i32 = 2;
 
 /// The arguments. With `--help` among them the help is printed and the program ends.
 pub fn arguments(help: &str) -> Vec<String> {
-    let arguments: Vec<String> = env::args().skip(1).collect();
+    let arguments: Vec<String> = env::args_os().skip(1).map(|word| word.to_string_lossy().into_owned()).collect();
     if arguments.iter().any(|argument| argument == "--help" || argument == "-h") {
         write("-", help.as_bytes());
         process::exit(0);
