@@ -134,6 +134,11 @@ module _ (mode n x y : ℕ) (mask : ℕ → ℕ) (b row ramp r : List ℕ) (s : 
   unfolding shadeAt
   solid-row p e o = o ∙ rw (e, first-of b n)
 
+  pub gradient-blended : (g : TintedGradient) → s ≡ Gradient g → r ≡ compositeRow mode (take n b) mask (λ i. gradientTinted g ramp (x + i) y) row
+      → r ≡ compositeRow mode (take n b) mask (λ i. shadeAt s ramp (x + i) y) row
+  unfolding shadeAt
+  gradient-blended g e o = o ∙ rw e
+
   -- the paint's pixels come from q
   pub painted-row : (q rest : List ℕ) (m : ℕ) → n ≤ length b → length q ≡ m - n → q ≡ run n (λ i. shadeAt s ramp (x + i) y)
       → r ≡ compositeRow mode (take (n - 0) (drop 0 (take n b ++ (q ++ rest)))) mask (pixelIn (take (m - n) (drop n (take n b ++ (q ++ rest))))) row

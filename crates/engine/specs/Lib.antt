@@ -2,3 +2,4 @@
 pub mod Picture
 pub mod Unclamped
 pub mod Rows
+pub mod Spans

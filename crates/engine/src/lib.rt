@@ -4,6 +4,7 @@
 //     edges    the draw's path as edges in the scratch
 //     decode   the rest of the draw, decoded once: rule, scissors, blend mode, and its paint with its ramp and its colour transformation
 //     rows     row after row: the coverage of each pixel, its paint, and both blended into the surface
+//     spans    a gradient's row, made only where it is covered, or blended as a plain colour where it has one
 //
 // What a stage computes is in a crate of its own: `scene` reads the fields, `outline` makes the edges and their box, `coverage` counts a
 // row's samples, `paint` colours a row, `transform` gives it other colours, `blend` stores it.
@@ -11,6 +12,7 @@ pub mod decode;
 pub mod draws;
 pub mod edges;
 pub mod rows;
+pub mod spans;
 
 use color::Pixel;
 use paint::AnyGradient;

@@ -6,6 +6,7 @@ use crate::Tint;
 use crate::TintedGradient;
 use crate::decode::shade;
 use crate::decode::style;
+use crate::spans::shade_gradient;
 use paint::build::RAMP_NUMBERS;
 use raster::Range;
 use raster::Target;
@@ -265,7 +266,7 @@ fn paint_row(ramp: &[u32], paints: &mut [u8], shade: Shade, strip: Strip)
 }
 
 // The same of a gradient: its colours, and then the colour transformation of all of them.
-fn gradient_row(ramp: &[u32], paints: &mut [u8], g: TintedGradient, strip: Strip)
+pub fn gradient_row(ramp: &[u32], paints: &mut [u8], g: TintedGradient, strip: Strip)
     requires { ⌜ HeldGradient (g .gradient) (now ramp) ⌝ }
     requires { ⌜ OnSurface strip × (length (now paints) ≡ strip .length * 4) ⌝ }
     ensures { λ _. ⌜ now (paints .exit) ≡ run (strip .length) (λ i. gradientTinted g (now (ramp .entry)) (strip .x + i) (strip .y)) ⌝ }
@@ -290,7 +291,7 @@ fn tint_row(row: &mut [u8], tint: Tint, n: usize)
     }
 }
 
-// The same without a mask. A plain colour is blended as it is.
+// The same without a mask. A plain colour is blended as it is, a gradient is made where the row is covered.
 fn shade_plain(row: &mut [u8], ramp: &[u32], buffer: &mut [u8], style: Style, strip: Strip)
     requires { ⌜ Shaded (style .shade) (now ramp) ⌝ }
     requires { ⌜ OnSurface strip × (length (now row) ≡ strip .length * 4) × (length (now buffer) ≡ strip .length * 5) ⌝ }
@@ -302,15 +303,13 @@ fn shade_plain(row: &mut [u8], ramp: &[u32], buffer: &mut [u8], style: Style, st
         ⌝ }
 {
     let n = strip.length;
-    let m = n * 5;
     let shade = style.shade;
     match shade {
         Shade::Solid(p) => {
             blend::composite_run(style.mode, &buffer[0..n], p, row);
         }
         Shade::Gradient(g) => {
-            gradient_row(ramp, &mut buffer[n..m], g, strip);
-            blend::composite_row(style.mode, &buffer[0..n], &buffer[n..m], row);
+            shade_gradient(row, ramp, buffer, style.mode, g, strip);
         }
     }
 }

@@ -1,0 +1,43 @@
+-- A gradient of one colour along a row: its first pixel is all of its paint.
+use mathlib.Core.Path.{_≡_, ap, _∙_}
+use mathlib.Core.List.{List, _++_}
+use Prim.Native.Nat.{ℕ, _+_, _-_, _≤_}
+use native.Mathlib.Omega.{arith}
+use lib.ListN.{length, getD, take, drop}
+use Rattle.color.specs.declared.Pixel.{Pixel}
+use Rattle.raster.specs.Surface.{run, pixelIn}
+use Rattle.raster.proofs.Pixels.{run-at}
+use Rattle.raster.proofs.Runs.{run-same}
+use Rattle.blend.specs.PorterDuff.{compositeOn}
+use Rattle.blend.specs.Rows.{compositeRow}
+use Rattle.paint.specs.declared.AnyGradient.{AnyGradient}
+use Rattle.paint.specs.declared.AnyGradient.the-variants.{Linear}
+use Rattle.paint.specs.declared.LinearGradient.{LinearGradient}
+use Rattle.paint.specs.Paints.{gradientColor}
+use Rattle.paint.specs.Buffers.{stopsIn}
+use Rattle.paint.proofs.Slope.{one-t}
+use Rattle.engine.specs.declared.TintedGradient.{TintedGradient}
+use Rattle.engine.specs.Rows.{tintedBy, gradientTinted}
+use Rattle.engine.specs.Spans.{Level}
+use Rattle.engine.proofs.RowLaws.{cover-part, paint-part}
+
+-- points with one x
+pub level-linear : (g : AnyGradient) (l : LinearGradient) (ramp : List ℕ) → g ≡ Linear l → l .points .x0 ≡ l .points .x1 → Level g ramp
+level-linear g l ramp e h =
+    rw e (λ x u y. ap (gradientColor (l .spread) (l .premultiply) (stopsIn ramp (l .count))) (one-t (l .points) h x u y))
+
+-- the pixel p that is made behind the coverage is the paint of each
+pub level-row : (mode n m x y : ℕ) (b q rest row r ramp : List ℕ) (g : TintedGradient) (p : Pixel) → Level (g .gradient) ramp → n ≤ length b
+    → length q ≡ m - n → q ≡ run 1 (λ i. gradientTinted g ramp (x + i) y)
+    → p ≡ pixelIn (take (m - n) (drop n (take n b ++ (q ++ rest)))) 0
+    → r ≡ compositeRow mode (take (n - 0) (drop 0 (take n b ++ (q ++ rest)))) (λ i. 255) (λ i. p) row
+    → r ≡ compositeRow mode (take n b) (λ i. 255) (λ i. gradientTinted g ramp (x + i) y) row
+level-row mode n m x y b q rest row r ramp g p level room long o made u =
+    let all : (i : ℕ) → p ≡ gradientTinted g ramp (x + i) y = λ i.
+    made
+    ∙ ap (λ (z : List ℕ). pixelIn z 0) (paint-part b q rest n m room long ∙ o)
+    ∙ run-at 1 (λ i. gradientTinted g ramp (x + i) y) 0 (omega arith)
+    ∙ ap (tintedBy (g .tint)) (level (x + 0) (x + i) y) in
+    u
+    ∙ rw (cover-part b q rest n room)
+    (run-same (length (take n b)) _ _ (λ i k. ap (λ (z : Pixel). compositeOn mode (getD (take n b) i 0) 255 z (pixelIn row i)) (all i)))
