@@ -110,7 +110,7 @@ int main(void)
                                               scratch, WAYRAMESH_SCRATCH_NUMBERS, answers,
                                               FRAMES * WAYRAMESH_ANSWER_NUMBERS);
     int accepted = 0;
-    for (int i = 0; code == WAYRAMESH_ACCEPTED && i < FRAMES; i++) {
+    for (size_t i = 0; code == WAYRAMESH_ACCEPTED && i < FRAMES; i++) {
         accepted += answers[WAYRAMESH_ANSWER_NUMBERS * i] == WAYRAMESH_ACCEPTED;
     }
     printf("replay %04x: %d frames, %d accepted\n", code, FRAMES, accepted);

@@ -6,6 +6,8 @@
  * scenes in one call. docs/FORMAT.md describes the scene file: paper 01's, with paper 02's P8, P3, P1, P6 and P10. Further
  * down:
  *
+ *   wayramesh_redraw_regions, wayramesh_redraw_planned, wayramesh_plan
+ *                          redraw in several small rectangles, the caller's or the library's own
  *   wayramesh_draw_plain   draws in full too, by another and slower engine
  *   wayramesh_compare      says where two pictures differ
  *   wayramesh_composite    is the blending step on one pixel
@@ -38,13 +40,13 @@
  *
  *   1. Pointers. None is NULL. Each leads to as many items as its length says, and they stay there during the call. A
  *      run of length 0 is not read or written.
- *   2. Alignment. The scratch is aligned for int32_t; context, lengths, answers and the list of a salvage are aligned for
- *      uint32_t. Scenes, mask, surface and the place of a salvage may lie at any address.
- *   3. Overlap. Context, surface, scratch and answers overlap neither each other nor a scene, lengths or the mask; nor do
- *      the place and the list of a salvage each other or the scene. Scenes, lengths and mask may overlap, and the two
- *      scenes of a redraw may be the same.
- *   4. Others. During a call no one else writes scenes, lengths and mask, and no one else reads or writes context, surface,
- *      scratch, answers, place and list.
+ *   2. Alignment. Scratch and rectangles are aligned for int32_t; context, lengths, answers and the list of a salvage are
+ *      aligned for uint32_t. Scenes, mask, surface and the place of a salvage may lie at any address.
+ *   3. Overlap. Context, surface, scratch and answers overlap neither each other nor a scene, lengths, rectangles or the
+ *      mask; nor do the place and the list of a salvage each other or the scene. Scenes, lengths, rectangles and mask may
+ *      overlap, and the two scenes of a redraw may be the same.
+ *   4. Others. During a call no one else writes scenes, lengths, rectangles and mask, and no one else reads or writes
+ *      context, surface, scratch, answers, place and list.
  *   5. Stack. There are 32 KiB of stack free.
  *   6. Floating-point environment. Round to nearest, as C programs start (fesetround(FE_TONEAREST)), and nothing flushed
  *      to zero. In another rounding mode some colours differ by 1. A call leaves the mode as it is.
@@ -89,6 +91,7 @@ extern "C" {
  *   the surface                                                           WAYRAMESH_UNSUPPORTED_IMAGE_FORMAT
  *   the mask, if one is lent                                              WAYRAMESH_UNSUPPORTED_IMAGE_FORMAT
  *   the scratch                                                           WAYRAMESH_OUT_OF_MEMORY
+ *   (then the rectangles that are proposed for a redraw by them           WAYRAMESH_ILLEGAL_ARGUMENT)
  */
 
 /* The call was accepted and has drawn. */
@@ -101,8 +104,8 @@ extern "C" {
 /* The check of a block is not the one of its payload and its number: a block is spoiled or out of its place. */
 #define WAYRAMESH_BAD_CHECKSUM 0xB001u
 
-/* A field, float, segment or coordinate breaks a rule, a matrix is flat, a draw asks for a mask where none is lent, or the
-   two scenes of a redraw differ in width or height. */
+/* A field, float, segment or coordinate breaks a rule, a matrix is flat, a draw asks for a mask where none is lent, the
+   two scenes of a redraw differ in width or height, or a proposal of rectangles is rejected. */
 #define WAYRAMESH_ILLEGAL_ARGUMENT 0x1001u
 
 /* A segment is an arc. */
@@ -318,6 +321,129 @@ static inline wayramesh_answer wayramesh_draw_plain_unmasked(const uint8_t *scen
                                                              int32_t *scratch, size_t scratch_len)
 {
     return wayramesh_draw_plain(scene, scene_len, 0, scene, 0, surface, surface_len, scratch, scratch_len);
+}
+
+/* ---- A redraw by several rectangles ---- */
+
+/* The greatest number of rectangles, and of numbers, in a proposal that is accepted. */
+#define WAYRAMESH_MAX_RECTANGLES 4u
+#define WAYRAMESH_MAX_RECTANGLE_NUMBERS 16u
+
+/*
+ * Redraws as wayramesh_redraw does, but in rectangles that the caller proposes: where a needle at the left and a lamp at the
+ * right change, two small rectangles are drawn and not all that lies between them.
+ *
+ *   rectangles, rectangles_len
+ *                         The proposal: x, y, width and height for each rectangle, aligned for int32_t. Any numbers may be
+ *                         given, and any length, which counts numbers and not rectangles. The proposal is accepted exactly if
+ *                         it has 1 to WAYRAMESH_MAX_RECTANGLES rectangles and none in part; each has a width and a height
+ *                         above 0 and lies in the surface; no two share a pixel; and each pixel of the old and the new box of
+ *                         every changed draw is in one of them, or, if the background changed, each pixel of the surface.
+ *   the others            As in wayramesh_redraw.
+ *
+ * A rejected proposal is refused with WAYRAMESH_ILLEGAL_ARGUMENT, WAYRAMESH_NO_DRAW and scene 0, after every check of
+ * wayramesh_redraw. x, y, width and height of the answer are the smallest rectangle that holds those of the proposal. It is
+ * proved, as for wayramesh_redraw, that the call returns with these numbers; that a refused call changes neither surface nor
+ * scratch and an accepted one leaves the scratch zero; and that after an accepted one the surface holds the new scene's
+ * picture in the rectangles, and outside them every byte that it held: if it held the old scene's picture, it holds the whole
+ * of the new one's.
+ */
+wayramesh_answer wayramesh_redraw_regions(wayramesh_context *context,
+                                          const uint8_t *old, size_t old_len,
+                                          const uint8_t *new_scene, size_t new_len,
+                                          uint32_t mask_lent, const uint8_t *mask, size_t mask_len,
+                                          const int32_t *rectangles, size_t rectangles_len,
+                                          uint8_t *surface, size_t surface_len,
+                                          int32_t *scratch, size_t scratch_len);
+
+/* The same without a mask. */
+static inline wayramesh_answer wayramesh_redraw_regions_unmasked(wayramesh_context *context,
+                                                                 const uint8_t *old, size_t old_len,
+                                                                 const uint8_t *new_scene, size_t new_len,
+                                                                 const int32_t *rectangles, size_t rectangles_len,
+                                                                 uint8_t *surface, size_t surface_len,
+                                                                 int32_t *scratch, size_t scratch_len)
+{
+    return wayramesh_redraw_regions(context, old, old_len, new_scene, new_len, 0, old, 0, rectangles, rectangles_len,
+                                    surface, surface_len, scratch, scratch_len);
+}
+
+/* ---- A redraw by rectangles that the library plans ---- */
+
+/*
+ * Redraws as wayramesh_redraw does, but in one to four rectangles that the library plans: the area is cut at columns and rows
+ * where most pixels are saved. The arguments are those of wayramesh_redraw, and so are the refusals and their order. It is
+ * proved, as for wayramesh_redraw, that the call returns; that a refused call changes neither surface nor scratch and an
+ * accepted one leaves the scratch zero; that a plan keeps to all rules of a proposal (wayramesh_redraw_regions), lies in the
+ * area of wayramesh_redraw and, if the background is the same and a column or row of that area touches no changed draw's box,
+ * has at least two rectangles and leaves such a column or row untouched; and that after an accepted call the surface holds the
+ * new scene's picture in the rectangles, and outside them every byte that it held. Where the area is empty nothing is planned:
+ * the call answers 0 with area 0, 0, 0, 0 and writes no byte of the surface.
+ */
+wayramesh_answer wayramesh_redraw_planned_only(const uint8_t *old, size_t old_len,
+                                               const uint8_t *new_scene, size_t new_len,
+                                               uint32_t mask_lent, const uint8_t *mask, size_t mask_len,
+                                               uint8_t *surface, size_t surface_len,
+                                               int32_t *scratch, size_t scratch_len);
+
+/* The same, with its code noted in a context. */
+static inline wayramesh_answer wayramesh_redraw_planned(wayramesh_context *context,
+                                                        const uint8_t *old, size_t old_len,
+                                                        const uint8_t *new_scene, size_t new_len,
+                                                        uint32_t mask_lent, const uint8_t *mask, size_t mask_len,
+                                                        uint8_t *surface, size_t surface_len,
+                                                        int32_t *scratch, size_t scratch_len)
+{
+    wayramesh_answer answer = wayramesh_redraw_planned_only(old, old_len, new_scene, new_len, mask_lent, mask, mask_len,
+                                                            surface, surface_len, scratch, scratch_len);
+    if (context->code == WAYRAMESH_ACCEPTED) {
+        context->code = answer.code;
+    }
+    return answer;
+}
+
+/* The same without a mask. */
+static inline wayramesh_answer wayramesh_redraw_planned_unmasked(wayramesh_context *context,
+                                                                 const uint8_t *old, size_t old_len,
+                                                                 const uint8_t *new_scene, size_t new_len,
+                                                                 uint8_t *surface, size_t surface_len,
+                                                                 int32_t *scratch, size_t scratch_len)
+{
+    return wayramesh_redraw_planned(context, old, old_len, new_scene, new_len, 0, old, 0,
+                                    surface, surface_len, scratch, scratch_len);
+}
+
+/* What wayramesh_plan answers: code, draw and scene as in wayramesh_answer, and how many rectangles were written. */
+typedef struct wayramesh_planning {
+    uint32_t code;
+    uint32_t draw;
+    uint32_t scene;
+    uint32_t count;
+} wayramesh_planning;
+
+/*
+ * Writes the rectangles of such a plan: x, y, width and height for each.
+ *
+ *   rectangles, rectangles_len
+ *                         The place for them, aligned for int32_t, of WAYRAMESH_MAX_RECTANGLE_NUMBERS numbers or more. It
+ *                         overlaps neither a scene nor the mask, and no one else reads or writes it during the call. The
+ *                         first 4 * count numbers are written, and no other.
+ *   the others            As in wayramesh_redraw. No surface and no scratch is lent.
+ *
+ * The checks are those of wayramesh_redraw but for surface and scratch; then a place of fewer numbers is refused with
+ * WAYRAMESH_OUT_OF_MEMORY, WAYRAMESH_NO_DRAW and scene 0. A refused call writes nothing and has the count 0.
+ */
+wayramesh_planning wayramesh_plan(const uint8_t *old, size_t old_len,
+                                  const uint8_t *new_scene, size_t new_len,
+                                  uint32_t mask_lent, const uint8_t *mask, size_t mask_len,
+                                  int32_t *rectangles, size_t rectangles_len);
+
+/* The same without a mask. */
+static inline wayramesh_planning wayramesh_plan_unmasked(const uint8_t *old, size_t old_len,
+                                                         const uint8_t *new_scene, size_t new_len,
+                                                         int32_t *rectangles, size_t rectangles_len)
+{
+    return wayramesh_plan(old, old_len, new_scene, new_len, 0, old, 0, rectangles, rectangles_len);
 }
 
 /* ---- Two pictures compared ---- */

@@ -34,7 +34,7 @@ fn box_at(s: &[u8], i: usize, scratch: &mut [i32], width: usize, height: usize) 
 }
 
 // Whether draw i is changed.
-fn is_changed(old: &[u8], new: &[u8], i: usize) -> bool
+pub fn is_changed(old: &[u8], new: &[u8], i: usize) -> bool
     requires { ⌜ AcceptedScene (now old) × AcceptedScene (now new) ⌝ }
     ensures { λ r. ⌜ r ≡ changedAt (now (old .entry)) (now (new .entry)) i ⌝ }
 {
@@ -82,7 +82,7 @@ fn grow(
 }
 
 // The number of draws of the scene that has more.
-fn most_draws(old: &[u8], new: &[u8]) -> usize
+pub fn most_draws(old: &[u8], new: &[u8]) -> usize
     requires { ⌜ AcceptedScene (now old) × AcceptedScene (now new) ⌝ }
     ensures { λ r. ⌜ r ≡ max (countOf (now (old .entry))) (countOf (now (new .entry))) ⌝ }
 {
@@ -114,7 +114,7 @@ fn changed_boxes(old: &[u8], new: &[u8], scratch: &mut [i32], width: usize, heig
     a
 }
 
-fn same_background(old: &[u8], new: &[u8]) -> bool
+pub fn same_background(old: &[u8], new: &[u8]) -> bool
     requires { ⌜ AcceptedScene (now old) × AcceptedScene (now new) ⌝ }
     ensures { λ r. ⌜ r ≡ sameBackground (now (old .entry)) (now (new .entry)) ⌝ }
 {

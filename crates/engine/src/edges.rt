@@ -56,3 +56,19 @@ pub fn draw_bounds(scratch: &mut [i32], d: &[u8], edition: u32, width: usize, he
     clear_edges(scratch, n);
     b
 }
+
+// The same without the scratch.
+pub fn lone_bounds(d: &[u8], edition: u32, width: usize, height: usize) -> Rect
+    requires { ⌜ (length (now d) ≡ drawBytes) × AcceptedDraw edition (now d) ⌝ }
+    requires { ⌜ (width ≤ 1024) × (height ≤ 1024) ⌝ }
+    ensures { λ r. ⌜ r ≡ boxOf width height (drawEdges edition (now (d .entry))) ⌝ }
+{
+    outline::extent::path_bounds(
+        scene::fields::fixed_matrix(d),
+        scene::fields::segments(d),
+        scene::fields::segment_count(d),
+        scene::fields::coordinates(d, edition),
+        width,
+        height,
+    )
+}

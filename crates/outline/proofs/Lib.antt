@@ -8,6 +8,7 @@
 --     Walked      one segment more
 --     Bezier      cut points of a curve, over its degree
 --     Outermost   the outer end of edges, and their box
+--     Merged      one edge in place of many, the box the same
 pub mod Flattened
 pub mod Returns
 pub mod Counts
@@ -17,3 +18,4 @@ pub mod Every
 pub mod Walked
 mod Bezier
 mod Outermost
+mod Merged

@@ -58,7 +58,7 @@ pub within-some : (n : ℕ) (z : ℤ) (m : ℕ) → leZ z (pos 0) ≡ false → 
 within-some n z m e h = rw e (sym h)
 
 -- the box where there are edges
-abbrev boxFrom : ℕ → ℕ → List Edge → Rect
+abbrev pub boxFrom : ℕ → ℕ → List Edge → Rect
 boxFrom width height es = record {
   x0 = within width (floorDiv (outerOf false false es) 256);
   y0 = within height (floorDiv (outerOf false true es) 256);
@@ -66,7 +66,7 @@ boxFrom width height es = record {
   y1 = within height (floorDiv (outerOf true true es) 256 +ℤ pos 1);
 }
 
-some-box : (width height : ℕ) (es : List Edge) → 0 < length es → boxOf width height es ≡ boxFrom width height es
+pub some-box : (width height : ℕ) (es : List Edge) → 0 < length es → boxOf width height es ≡ boxFrom width height es
 unfolding boxOf
 some-box width height [] h = absurd (not-suc-le-zero h)
 some-box width height (e ∷ es) h = refl

@@ -1,6 +1,6 @@
 -- Edges stored in a run of numbers: they are read back, and nothing else changes.
-use mathlib.Core.Path.{_≡_, refl, sym, ap, _∙_}
-use mathlib.Core.List.{List, [], _∷_, _++_}
+use mathlib.Core.Path.{_≡_, refl, sym, ap, ap₂, _∙_}
+use mathlib.Core.List.{List, [], _∷_, _++_, append-assoc, append-nil}
 use mathlib.Core.Bool.{true, false, _&&_}
 use Prim.Native.Nat.{ℕ, zero, suc, _+_, _*_, _≤_, _<_}
 use native.Mathlib.Nat.{not-suc-le-zero, suc-add, add-suc, add-zero}
@@ -8,7 +8,8 @@ use native.Mathlib.Omega.{arith}
 use lib.ListN.{getD, set, length, drop, length-append, length-set}
 use lib.IntN.{ℤ, pos}
 use lib.Seq.{drop-set-lt}
-use Rattle.lists.proofs.Laws.{four-before, four-each, tab-ext}
+use Rattle.lists.specs.Lists.{tab}
+use Rattle.lists.proofs.Laws.{four-before, four-each, tab-ext, upto-same}
 use Rattle.path.specs.declared.Point.{Point}
 use Rattle.path.specs.declared.Edge.{Edge}
 use Rattle.path.specs.Curves.{equal, edge, edgeBetween}
@@ -26,7 +27,7 @@ edge-kept l n e k m =
     let h3 : k * 4 + 3 < n * 4 = omega arith in
     simp four-before
 
-edge-put : (l : List ℤ) (n : ℕ) (e : Edge) → n * 4 + 3 < length l → edgeAt (putEdge l n e) n ≡ e
+pub edge-put : (l : List ℤ) (n : ℕ) (e : Edge) → n * 4 + 3 < length l → edgeAt (putEdge l n e) n ≡ e
 edge-put l n e h =
     let f = four-each l (n * 4) (e .x0) (e .y0) (e .x1) (e .y1) (pos 0) h in
     rw (f .0, f .1, f .2, f .3)
@@ -82,6 +83,20 @@ pub puts-read : (es : List Edge) (l : List ℤ) → length es * 4 ≤ length l �
 puts-read es l h =
     sym (tab-ext nowhere es (length es) (edgeAt (putEdges l 0 es)) refl
     (λ k m. sym (ap (edgeAt (putEdges l 0 es)) (omega arith) ∙ puts-at es l 0 k (omega arith) m)))
+
+-- n edges, and others after them
+tab-more : (m n : ℕ) (f : ℕ → Edge) → tab (n + m) f ≡ tab n f ++ tab m (λ k. f (n + k))
+tab-more zero n f = ap (λ (k : ℕ). tab k f) (add-zero n) ∙ sym (append-nil (tab n f))
+tab-more (suc m) n f =
+    ap (λ (k : ℕ). tab k f) (add-suc n m) ∙ ap (λ (es : List Edge). es ++ (f (n + m) ∷ [])) (tab-more m n f)
+    ∙ append-assoc (tab n f) (tab m (λ k. f (n + k))) (f (n + m) ∷ [])
+
+pub puts-after : (es : List Edge) (l : List ℤ) (n : ℕ) → (n + length es) * 4 ≤ length l → edgesOf (putEdges l n es) (n + length es) ≡ edgesOf l n ++ es
+puts-after es l n h =
+    let q = putEdges l n es in
+    tab-more (length es) n (edgeAt q)
+    ∙ ap₂ _++_ (upto-same n (λ k. edgeAt q k ∷ []) (λ k. edgeAt l k ∷ []) (λ k m. ap (λ (e : Edge). e ∷ []) (puts-kept es l n k m)))
+    (sym (tab-ext nowhere es (length es) (λ k. edgeAt q (n + k)) refl (λ k m. sym (puts-at es l n k h m))))
 
 -- what stands after them
 put-drop : (l : List ℤ) (i n : ℕ) (e : Edge) → i * 4 + 3 < n → drop n (putEdge l i e) ≡ drop n l

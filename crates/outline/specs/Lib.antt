@@ -1,2 +1,3 @@
 -- The definitions that contracts cite. A reviewer of the paper need not read them.
 pub mod Asked
+pub mod Alike

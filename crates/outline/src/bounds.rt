@@ -89,7 +89,7 @@ fn end_of(greater: bool, axis: bool, e: Edge) -> i32
 }
 
 // The outer end of all edges.
-fn outer_end(edges: &[i32], n: usize, greater: bool, axis: bool) -> i32
+pub fn outer_end(edges: &[i32], n: usize, greater: bool, axis: bool) -> i32
     requires { ⌜ (0 < n) × (n * 4 ≤ length (now edges)) ⌝ }
     ensures { λ r. ⌜ r ≡ outerOf greater axis (edgesOf (now (edges .entry)) n) ⌝ }
 {

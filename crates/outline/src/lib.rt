@@ -1,6 +1,7 @@
 // Outlines: the edges of a path, written to a lent run of numbers, and their bounds.
 pub mod bounds;
 pub mod curve;
+pub mod extent;
 pub mod flatten;
 pub mod store;
 

@@ -6,6 +6,7 @@ ghost use mathlib.Core.Bool.{not};
 ghost use lib.Dec.{eqb};
 ghost use lib.ListN.{length};
 ghost use Rattle.render.specs.Answers.{maskOf, drawAnswer, drawSurface, drawScratch, redrawAnswer, redrawSurface, redrawScratch};
+ghost use Rattle.regions.specs.Answers.{regionsAnswer, regionsSurface, regionsScratch};
 ghost use Rattle.playback.specs.Replay.{replayAnswer, replaySurface, replayScratch, replayAnswers};
 
 // Draws a scene in full. A mask is lent where lent is not 0.
@@ -53,6 +54,35 @@ pub fn redraw(
         ⌝ }
 {
     render::redraw(old, new, lent != 0, mask, surface, scratch)
+}
+
+// Redraws, in the proposed rectangles, from the old scene to the new. A mask, for both scenes, is lent where lent is not 0.
+pub fn redraw_regions(
+    old: &[u8],
+    new: &[u8],
+    lent: u32,
+    mask: &[u8],
+    rectangles: &[i32],
+    surface: &mut [u8],
+    scratch: &mut [i32],
+) -> Answer
+    ensures { λ r. ⌜
+        r
+        ≡ regionsAnswer (now (old .entry)) (now (new .entry)) (maskOf (not (eqb lent 0)) (now (mask .entry))) (now (rectangles .entry))
+        (length (now (surface .entry))) (length (now (scratch .entry)))
+        ⌝ }
+    ensures { λ _. ⌜
+        now (surface .exit)
+        ≡ regionsSurface (now (old .entry)) (now (new .entry)) (maskOf (not (eqb lent 0)) (now (mask .entry))) (now (rectangles .entry))
+        (now (surface .entry)) (length (now (scratch .entry)))
+        ⌝ }
+    ensures { λ _. ⌜
+        now (scratch .exit)
+        ≡ regionsScratch (now (old .entry)) (now (new .entry)) (maskOf (not (eqb lent 0)) (now (mask .entry))) (now (rectangles .entry))
+        (length (now (surface .entry))) (now (scratch .entry))
+        ⌝ }
+{
+    regions::redraw_regions(old, new, lent != 0, mask, rectangles, surface, scratch)
 }
 
 // Replays scenes one behind another. A mask, for all scenes, is lent where lent is not 0.

@@ -1,6 +1,7 @@
 // The C interface: include/wayramesh.h tells a C caller what these functions take and answer. Each draw, redraw and replay notes its code in the context.
 pub mod calls;
 pub mod explain;
+pub mod planned;
 pub mod release;
 pub mod salvage;
 
@@ -16,6 +17,7 @@ ghost use lib.ListN.{length};
 ghost use Rattle.context.specs.Context.{noted, fresh};
 ghost use Rattle.blend.specs.PorterDuff.{compositeAnswer};
 ghost use Rattle.difference.specs.Compare.{compareAnswer};
+ghost use Rattle.regions.specs.Answers.{regionsAnswer, regionsSurface, regionsScratch};
 ghost use Rattle.render.specs.Answers.{maskOf, drawAnswer, drawSurface, drawScratch, redrawAnswer, redrawSurface, redrawScratch};
 ghost use Rattle.playback.specs.Replay.{replayAnswer, replaySurface, replayScratch, replayAnswers};
 
@@ -74,6 +76,38 @@ pub extern "C" fn wayramesh_redraw(
         ⌝ }
 {
     let answer = calls::redraw(old, new, lent, mask, surface, scratch);
+    context::note(context, answer.code);
+    answer
+}
+
+// Redraws, in the proposed rectangles, from the old scene to the new. A mask, for both scenes, is lent where lent is not 0.
+#[no_mangle]
+pub extern "C" fn wayramesh_redraw_regions(
+    context: &mut Context,
+    old: &[u8],
+    new: &[u8],
+    lent: u32,
+    mask: &[u8],
+    rectangles: &[i32],
+    surface: &mut [u8],
+    scratch: &mut [i32],
+) -> Answer
+    ensures { λ r. ⌜
+        (r
+        ≡ regionsAnswer (now (old .entry)) (now (new .entry)) (maskOf (not (eqb lent 0)) (now (mask .entry))) (now (rectangles .entry))
+        (length (now (surface .entry))) (length (now (scratch .entry))))
+        × ((now (surface .exit)
+        ≡ regionsSurface (now (old .entry)) (now (new .entry)) (maskOf (not (eqb lent 0)) (now (mask .entry))) (now (rectangles .entry))
+        (now (surface .entry)) (length (now (scratch .entry))))
+        × ((now (scratch .exit)
+        ≡ regionsScratch (now (old .entry)) (now (new .entry)) (maskOf (not (eqb lent 0)) (now (mask .entry))) (now (rectangles .entry))
+        (length (now (surface .entry))) (now (scratch .entry)))
+        × (now (context .exit)
+        ≡ noted (now (context .entry)) (regionsAnswer (now (old .entry)) (now (new .entry)) (maskOf (not (eqb lent 0)) (now (mask .entry)))
+        (now (rectangles .entry)) (length (now (surface .entry))) (length (now (scratch .entry))) .code))))
+        ⌝ }
+{
+    let answer = calls::redraw_regions(old, new, lent, mask, rectangles, surface, scratch);
     context::note(context, answer.code);
     answer
 }

@@ -7,13 +7,15 @@
 //! The buffers are not cleared between calls. A redraw's time includes the rules on both scenes, a full drawing's those on
 //! one. Then come the stages of the full drawing of the first frame. The other parts are `paints`, a full drawing in each
 //! kind of paint, `blending`, blended pixels alone, `masks`, a lamp under masks, `plain`, the plain engine beside the quick one,
-//! `compare`, and `replay`, a minute of the panel in one call and call by call.
+//! `plans`, a redraw in one area and in planned rectangles, `compare`, and `replay`, a minute of the panel in one call and call
+//! by call.
 #![forbid(unsafe_code)]
 
 mod blending;
 mod compare;
 mod masks;
 mod plain;
+mod plans;
 mod replay;
 mod stages;
 mod workloads;
@@ -53,6 +55,9 @@ fn main() {
     }
     if wanted("plain") {
         plain::print(budget);
+    }
+    if wanted("plans") {
+        plans::print(budget);
     }
     if wanted("compare") {
         compare::print(budget);

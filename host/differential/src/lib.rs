@@ -1,5 +1,6 @@
 //! Calls the proved library and the reference on the same input and compares all that they leave: the answer, every
-//! byte of the surface, every number of the scratch, the scenes, the mask, and guards round each of them.
+//! byte of the surface, every number of the scratch, the scenes, the mask, the proposed rectangles, and guards round
+//! each of them.
 #![forbid(unsafe_code)]
 
 use std::fmt::Debug;
@@ -110,20 +111,28 @@ impl Buffers {
     }
 }
 
-/// The scenes of a call.
+/// A call: its scenes, and the rectangles that are proposed for a redraw by them.
 #[derive(Clone, Copy)]
 pub enum Call<'a> {
     Draw(&'a [u8]),
     /// By the plain engine.
     DrawPlain(&'a [u8]),
     Redraw(&'a [u8], &'a [u8]),
+    Regions(&'a [u8], &'a [u8], &'a [i32]),
 }
 
 impl Call<'_> {
     fn scenes(&self) -> Vec<&[u8]> {
         match self {
             Call::Draw(scene) | Call::DrawPlain(scene) => vec![scene],
-            Call::Redraw(old, new) => vec![old, new],
+            Call::Redraw(old, new) | Call::Regions(old, new, _) => vec![old, new],
+        }
+    }
+
+    fn rectangles(&self) -> &[i32] {
+        match self {
+            Call::Regions(_, _, rectangles) => rectangles,
+            _ => &[],
         }
     }
 }
@@ -139,6 +148,9 @@ pub fn compare(name: &str, call: Call, buffers: &Buffers) -> (library::Answer, B
             reference::draw(scene, lent, &mut expected.surface, &mut expected.scratch)
         }
         Call::Redraw(old, new) => reference::redraw(old, new, lent, &mut expected.surface, &mut expected.scratch),
+        Call::Regions(old, new, rectangles) => {
+            reference::redraw_regions(old, new, lent, rectangles, &mut expected.surface, &mut expected.scratch)
+        }
     };
 
     // The lengths decide the shift, so that a case fails the same way again.
@@ -147,17 +159,21 @@ pub fn compare(name: &str, call: Call, buffers: &Buffers) -> (library::Answer, B
         call.scenes().iter().enumerate().map(|(i, scene)| Guarded::new(scene, 0xA5, (shift + 3 * i) % 16)).collect();
     let guarded_mask = Guarded::new(&buffers.mask, 0xC3, (shift + 11) % 16);
     let mask = library::Mask { lent: buffers.mask_lent, bytes: guarded_mask.content() };
+    let rectangles = Guarded::new(call.rectangles(), 0x3C3C_3C3C, (shift + 1) % 4);
     let mut surface = Guarded::new(&buffers.surface, 0x5A, (shift + 7) % 16);
     let mut scratch = Guarded::new(&buffers.scratch, 0x5A5A_5A5A, shift % 4);
     let (first, last) = (scenes[0].content(), scenes[scenes.len() - 1].content());
+    let (lent_surface, lent_scratch) = (surface.content_mut(), scratch.content_mut());
     // A context that keeps nothing yet, or a code that no call gives. The plain engine has none.
     let kept = if shift % 2 == 0 { 0 } else { 7 };
     let mut context = library::Context { code: kept };
     let answer = match call {
-        Call::Draw(_) => library::draw(&mut context, first, mask, surface.content_mut(), scratch.content_mut()),
-        Call::DrawPlain(_) => library::draw_plain(first, mask, surface.content_mut(), scratch.content_mut()),
-        Call::Redraw(..) => {
-            library::redraw(&mut context, first, last, mask, surface.content_mut(), scratch.content_mut())
+        Call::Draw(_) => library::draw(&mut context, first, mask, lent_surface, lent_scratch),
+        Call::DrawPlain(_) => library::draw_plain(first, mask, lent_surface, lent_scratch),
+        Call::Redraw(..) => library::redraw(&mut context, first, last, mask, lent_surface, lent_scratch),
+        Call::Regions(..) => {
+            let rectangles = rectangles.content();
+            library::redraw_regions(&mut context, first, last, mask, rectangles, lent_surface, lent_scratch)
         }
     };
 
@@ -168,7 +184,8 @@ pub fn compare(name: &str, call: Call, buffers: &Buffers) -> (library::Answer, B
         }
     };
     check("the answer differs", numbers(answer) == reference::replay::numbers(expected_answer));
-    check("the context differs", context.code == if kept == 0 { expected_answer.code } else { kept });
+    let noted = if matches!(call, Call::DrawPlain(_)) { 0 } else { expected_answer.code };
+    check("the context differs", context.code == if kept == 0 { noted } else { kept });
     let difference = first_difference(surface.content(), &expected.surface);
     check(&format!("the surface differs, first at byte {difference:?}"), difference.is_none());
     let difference = first_difference(scratch.content(), &expected.scratch);
@@ -178,6 +195,7 @@ pub fn compare(name: &str, call: Call, buffers: &Buffers) -> (library::Answer, B
     for (guarded, scene) in scenes.iter().zip(call.scenes()) {
         check("a scene was written", guarded.content() == scene && guarded.guards_hold());
     }
+    check("a rectangle was written", rectangles.content() == call.rectangles() && rectangles.guards_hold());
     check("the mask was written", guarded_mask.content() == buffers.mask && guarded_mask.guards_hold());
     if answer.code == 0 {
         check("an accepted call left the scratch not zero", scratch.content().iter().all(|&number| number == 0));

@@ -5,6 +5,7 @@
 //! - [`masks`]: random masks for them.
 //! - [`orders`]: scenes of small draws, and their draws in another order.
 //! - [`places`]: blocks of a sound file out of place.
+//! - [`proposals`]: rectangles proposed for a redraw, good and bad.
 //! - [`rules`]: both sides of every rule, with the answer that the paper gives.
 //! - [`transforms`]: random colour transformations for scenes of edition 1.
 //! - [`steps`]: calls of the blending step alone, on any bytes.
@@ -15,6 +16,7 @@ pub mod masks;
 pub mod orders;
 pub mod paths;
 pub mod places;
+pub mod proposals;
 pub mod radial;
 pub mod random;
 pub mod rules;

@@ -10,51 +10,62 @@ use crate::rules::{self, Draw, Scene};
 /// A refused call changes nothing. An accepted one leaves the new scene's picture in the area, every byte outside
 /// as it was, and the scratch all zero. One mask, or none, is lent for both scenes.
 pub fn redraw(old: &[u8], new: &[u8], mask: Option<&[u8]>, surface: &mut [u8], scratch: &mut [i32]) -> Answer {
-    let old = match rules::scene(old, mask.is_some()) {
-        Ok(scene) => scene,
-        Err(fault) => return fault.answer(FIRST_SCENE),
+    let (old, new) = match check(old, new, mask, surface, scratch) {
+        Ok(scenes) => scenes,
+        Err(refusal) => return refusal,
     };
-    let new = match rules::scene(new, mask.is_some()) {
-        Ok(scene) => scene,
-        Err(fault) => return fault.answer(NEW_SCENE),
-    };
-    if (old.width, old.height) != (new.width, new.height) {
-        return Answer::refused(ILLEGAL_ARGUMENT, NO_DRAW, NEW_SCENE);
-    }
-    if let Err(refusal) = check_buffers(&new, mask, surface, scratch) {
-        return refusal;
-    }
     let damage = damage(&old, &new);
     store(&new, mask, damage, surface);
     scratch.fill(0);
     Answer::accepted(damage)
 }
 
-/// The area to redraw between two scenes of one size; all zero where it is empty. Between editions every draw is changed.
+/// All checks of a redraw, in their order; the two scenes if they pass.
+pub(crate) fn check(
+    old: &[u8],
+    new: &[u8],
+    mask: Option<&[u8]>,
+    surface: &[u8],
+    scratch: &[i32],
+) -> Result<(Scene, Scene), Answer> {
+    let old = rules::scene(old, mask.is_some()).map_err(|fault| fault.answer(FIRST_SCENE))?;
+    let new = rules::scene(new, mask.is_some()).map_err(|fault| fault.answer(NEW_SCENE))?;
+    if (old.width, old.height) != (new.width, new.height) {
+        return Err(Answer::refused(ILLEGAL_ARGUMENT, NO_DRAW, NEW_SCENE));
+    }
+    check_buffers(&new, mask, surface, scratch)?;
+    Ok((old, new))
+}
+
+/// The area to redraw between two scenes of one size; all zero where it is empty.
 pub fn damage(old: &Scene, new: &Scene) -> Rectangle {
     if old.background != new.background {
         return whole(new);
     }
+    changed_boxes(old, new).into_iter().reduce(Bounds::join).map_or(Rectangle::default(), Bounds::rectangle)
+}
+
+/// The boxes, old and new, of the changed draws, those without a pixel left out. Between editions every draw is changed.
+pub(crate) fn changed_boxes(old: &Scene, new: &Scene) -> Vec<Bounds> {
     let count = old.draws.len().max(new.draws.len());
     let changed = (0..count)
         .map(|i| (old.draws.get(i), new.draws.get(i)))
         .filter(|(o, n)| old.edition != new.edition || o.map(|draw| &draw.bytes) != n.map(|draw| &draw.bytes));
-    let boxes = changed.flat_map(|(o, n)| [o, n]).flatten().filter_map(|draw| bounds(draw, new.width, new.height));
-    boxes.reduce(Bounds::join).map_or(Rectangle::default(), Bounds::rectangle)
+    changed.flat_map(|(o, n)| [o, n]).flatten().filter_map(|draw| bounds(draw, new.width, new.height)).collect()
 }
 
 /// A box of pixels, both ends included.
 #[derive(Clone, Copy, Debug)]
 pub struct Bounds {
-    left: i64,
-    right: i64,
-    bottom: i64,
-    top: i64,
+    pub(crate) left: i64,
+    pub(crate) right: i64,
+    pub(crate) bottom: i64,
+    pub(crate) top: i64,
 }
 
 impl Bounds {
     /// The smallest box round both.
-    fn join(self, other: Bounds) -> Bounds {
+    pub fn join(self, other: Bounds) -> Bounds {
         Bounds {
             left: self.left.min(other.left),
             right: self.right.max(other.right),

@@ -108,6 +108,32 @@ fn replays() {
     }
 }
 
+/// regions/NAME.out has two lines for each proposal: `? X,Y,W,H ..`, and what the call answers.
+#[test]
+fn redraws_by_rectangles() {
+    let mut proposals = 0;
+    for path in files("regions", "out") {
+        let (old, new) = (read(&path.with_extension("old")), read(&path.with_extension("new")));
+        let bytes = rules::scene(&old, false).map_or(0, |scene| scene.surface_bytes());
+        let text = fs::read_to_string(&path).expect("the answers");
+        let lines: Vec<&str> = text.lines().collect();
+        for pair in lines.chunks(2) {
+            let numbers = pair[0].strip_prefix("? ").expect("a proposal").split(|c| c == ',' || c == ' ');
+            let proposal: Vec<i32> =
+                numbers.filter(|word| !word.is_empty()).map(|word| word.parse().expect("a number")).collect();
+            let (mut surface, mut scratch) = (vec![0; bytes], vec![1; 12_300]);
+            let answer = reference::redraw_regions(&old, &new, None, &proposal, &mut surface, &mut scratch);
+            let said = match answer.code {
+                0 => format!("accepted {} {} {} {}", answer.x, answer.y, answer.width, answer.height),
+                code => format!("refused {code:04x} {} {}", answer.draw, answer.scene),
+            };
+            assert_eq!(said, pair[1], "{} {}", path.display(), pair[0]);
+            proposals += 1;
+        }
+    }
+    assert_eq!(proposals, 216);
+}
+
 /// edges.txt has a line for each edge case: number, code, draw, "offset", the offset, and its name.
 #[test]
 fn faults_of_the_edge_cases() {

@@ -1,5 +1,6 @@
--- `wayramesh_draw` meets its contract: a walk of its steps. Each slice goes to `draw` for good, and the context to `note`, at its own lifetime,
--- share and name: no borrow is opened. All that the proof knows of the two is that they meet their contracts. Written by tools/noted-walk.
+-- `wayramesh_draw` meets its contract: a walk of its steps.
+-- Each slice goes to `draw` for good, and the context to `note`, at its own lifetime, share and name: no borrow is opened.
+-- All that the proof knows of the two is that they meet their contracts. Written by tools/noted-walk.
 use mathlib.Core.Path.{_≡_, refl, sym, ap, subst, _∙_}
 use Prim.Native.Nat.{ℕ, _<_, _^_}
 use mathlib.Core.List.{[], _∷_, List}

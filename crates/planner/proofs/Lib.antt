@@ -1,0 +1,11 @@
+pub mod Parts
+pub mod Tiling
+pub mod Lines
+pub mod Searches
+pub mod Puts
+pub mod Splits
+pub mod Numbers
+pub mod Collected
+pub mod Plans
+pub mod Redrawing
+pub mod Answering
