@@ -100,6 +100,12 @@ pub fn offset(draw: usize, place: usize) -> usize {
     BLOCK * (first_block(draw) + place / PAYLOAD) + place % PAYLOAD
 }
 
+/// The place in a draw's joined payloads of an offset in the file; none for a check, and for what is not the draw's.
+pub fn place(draw: usize, offset: usize) -> Option<usize> {
+    let block = (offset / BLOCK).checked_sub(first_block(draw)).filter(|&block| block < BLOCKS_OF_A_DRAW)?;
+    Some(PAYLOAD * block + offset % BLOCK).filter(|_| offset % BLOCK < PAYLOAD)
+}
+
 /// The sum of the payload's words and the sum of each times its number from 1, both begun at the block's number and
 /// reduced.
 pub fn checksum(block: usize, payload: &[u8]) -> (u16, u16) {

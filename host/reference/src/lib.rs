@@ -26,6 +26,7 @@ pub mod replay;
 pub mod rules;
 pub mod salvage;
 pub mod transform;
+pub mod words;
 
 pub use answer::{Answer, Fault, Rectangle};
 pub use picture::draw;

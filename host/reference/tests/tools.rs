@@ -26,12 +26,16 @@ fn run(program: &str, arguments: &[&str], input: &[u8]) -> (i32, String, String)
 
 const DRAW: &str = env!("CARGO_BIN_EXE_reference-draw");
 const REDRAW: &str = env!("CARGO_BIN_EXE_reference-redraw");
+const REPLAY: &str = env!("CARGO_BIN_EXE_reference-replay");
 
 #[test]
 fn help() {
-    for (program, usage) in
-        [(DRAW, "usage: reference-draw SCENE [MASK]\n"), (REDRAW, "usage: reference-redraw OLD NEW [MASK]\n")]
-    {
+    let programs = [
+        (DRAW, "usage: reference-draw SCENE [MASK]\n"),
+        (REDRAW, "usage: reference-redraw OLD NEW [MASK]\n"),
+        (REPLAY, "usage: reference-replay SCENE ..\n"),
+    ];
+    for (program, usage) in programs {
         for arguments in [&["--help"][..], &["x", "-h"]] {
             let (status, output, errors) = run(program, arguments, b"");
             assert!(status == 0 && output.starts_with(usage) && output.lines().count() > 3 && errors.is_empty());
@@ -60,4 +64,12 @@ fn statuses() {
     assert_eq!(run(REDRAW, &[red, two_by_one], b""), (1, "refused 1001 64 1\n".to_string(), String::new()));
     assert_eq!(run(REDRAW, &["-", red], &bytes), (1, "refused 1001 64 1\n".to_string(), String::new()));
     assert_eq!(run(REDRAW, &[red, "no such file"], b"").0, 2);
+
+    let (status, output, errors) = run(REPLAY, &[red, "-"], &std::fs::read(blue).expect("a scene"));
+    assert!(
+        status == 0 && output.starts_with("code 0000\n0000 64 0 0 0 4 4\n0000 64 0 0 0 3 3\n") && errors.is_empty()
+    );
+    let (status, output, errors) = run(REPLAY, &[red, two_by_one], b"");
+    assert!(status == 1 && output.contains("\n1001 64 1 0 0 0 0\ncontext 1001\nlast 0\n") && errors.is_empty());
+    assert_eq!(run(REPLAY, &[red, "no such file"], b"").0, 2);
 }

@@ -24,7 +24,6 @@
 
 pub mod canvas;
 mod error;
-pub mod fields;
 pub mod font;
 mod judge;
 pub mod path;

@@ -114,22 +114,33 @@ fn what_the_rules_refuse() {
         let message = &errors(&text)[0].2;
         assert!(message.ends_with(words), "{message}");
     };
-    refused("matrix 257 0 0 1 0 0", 8, "sx of the matrix has to be finite and at most 256 in size");
-    refused("matrix 1 0 0 1 0 -32769", 18, "ty of the matrix has to be finite and at most 32,768 in size");
-    let flat = "be part of a matrix that is not flat: sx times sy is not shx times shy, in whole 65,536ths";
-    refused("matrix 1 1 1 1 0 0", 8, flat);
-    refused("color 0 0 bits:7fc00000 1", 11, "blue of the color has to be no NaN");
-    refused("linear 0 0 4097 0", 12, "x1 of the linear gradient has to be finite and at most 4,096 in size");
-    refused("stop 0 1 1 1 bits:7fc00000", 14, "alpha of stop 0 has to be no NaN");
-    refused("flags transform", 7, "flag word has to have bit 4, the transformation, in edition 1 only");
-    refused("flags bit5 mask", 12, "flag word has to have no bit above 4");
-    refused("blend 0x2005", 7, "has to be 0x2000 Src, 0x2001 SrcOver, 0x2002 DstOver, 0x2003 SrcIn or 0x2004 DstIn");
-    refused("segment 18", 9, "segment 1 has to be no arc, as 18 is");
-    refused("segment 40", 9, "segment 1 has to be a byte of the table of segments, as 40 is not");
-    refused("M 32767 0 l 1 0", 11, "at most 32,768 pixels from the origin on either axis");
-    refused("bytes 11 01", 10, "byte behind the counts has to be zero");
-    refused("bytes 68 00 00 01", 16, "x of scissor 0 has to be zero, as the scissor is not used");
-    refused("bytes 1000 07", 12, "coordinate 50 has to be zero, as no segment takes it");
+    let scales = "the matrix's sx, shy, shx, sy are finite and at most 256 in size";
+    refused("matrix 257 0 0 1 0 0", 8, &format!("the matrix's sx is 257 (bytes 00 80 80 43); {scales}"));
+    refused("matrix 1 0 0 1 0 -32769", 18, "the matrix's tx, ty are finite and at most 32768 in size");
+    refused("matrix 1 1 1 1 0 0", 8, "a draw with segments has no flat matrix: sx·sy − shx·shy is not 0");
+    let blue = "the colour's B is NaN (bytes 00 00 c0 7f); the colour's R, G, B, A are numbers: a NaN is none";
+    refused("color 0 0 bits:7fc00000 1", 11, blue);
+    refused("linear 0 0 4097 0", 12, "the linear gradient's x0, y0, x1, y1 are finite and at most 4096 in size");
+    refused("stop 0 1 1 1 bits:7fc00000", 14, "stop 0's offset, R, G, B, A are numbers: a NaN is none");
+    let transformed = "the flag word is 0x0010; flag bit 4, the colour transformation, is for edition 1";
+    refused("flags transform", 7, transformed);
+    refused("flags bit5 mask", 12, "the flag word is 0x0028; flag bits 5 to 15 are 0");
+    let blends = "0x2000 Src, 0x2001 SrcOver, 0x2002 DstOver, 0x2003 SrcIn, 0x2004 DstIn";
+    refused("blend 0x2005", 7, &format!("the blend mode is 0x2005; the blend mode is one of {blends}"));
+    let arc = "segment 1 is byte 18, absolute small counter-clockwise arc; arcs, bytes 18 to 25, are not drawn";
+    refused("segment 18", 9, arc);
+    refused("segment 40", 9, "segment 1 is byte 40; a segment byte is 0 to 17; 18 to 25 are arcs, all others nothing");
+    let far =
+        "segment 2 is byte 5, relative line, with the point (32768, 0); every point of a path, a reflected one too, \
+               stays in -32,768 to 32,767";
+    refused("M 32767 0 l 1 0", 11, far);
+    refused("bytes 11 01", 10, "byte 11 of the draw is 1 (0x01); byte 11 of a draw is zero");
+    let scissor = "a byte of the unused scissor 0's x (65536) is 1 (0x01); behind the 0 scissors that are used every byte is zero";
+    refused("bytes 68 00 00 01", 16, scissor);
+    let coordinate =
+        "a byte of the unused coordinate 50 (7) is 7 (0x07); behind the last coordinate that the path takes every \
+                      byte is zero";
+    refused("bytes 1000 07", 12, coordinate);
     assert_eq!(places("size 8 1025"), [(1, 8)]);
     assert_eq!(places("size 8 8\nedition 2"), [(2, 9)]);
     assert_eq!(places("size 8 8\nbytes 12 01"), [(2, 10)]);

@@ -47,7 +47,7 @@ fn there_and_back() {
 #[test]
 fn a_refused_scene() {
     let wide = Scene::new(1_025, 1, [0; 4]).bytes();
-    let words = "refused 1001, offset 0: width has to be 1 to 1,024";
+    let words = "refused 1001, offset 0: the width is 1025; the width is from 1 to 1,024";
     let written = run(TO_TEXT, &["-"], &wide);
     assert_eq!(written.status.code(), Some(1));
     assert!(String::from_utf8_lossy(&written.stdout).starts_with(&format!("size 1025 1 // {words}\n")));

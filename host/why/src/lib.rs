@@ -6,7 +6,6 @@
 #![forbid(unsafe_code)]
 
 pub mod fault;
-pub mod names;
 pub mod story;
 pub mod swatch;
 

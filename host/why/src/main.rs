@@ -1,22 +1,19 @@
 //! Says why a pixel of a scene has its colour: `why --help`.
 
-use std::process::ExitCode;
-use std::{env, fs};
-
 use why::Question;
 
-const USAGE: &str = "usage: why [--color | --no-color] SCENE X Y [MASK]";
-
 const HELP: &str = "\
+usage: why [--color | --no-color] SCENE X Y [MASK]
+
 Says why the pixel (X, Y) of a scene file has its colour: what each draw does there, in order, from the background on.
-Row 0 is the lowest. MASK is a file with a byte for each pixel, row by row, for draws that ask for one.
-Of a scene that the rules refuse it says where the file breaks which rule.
+Row 0 is the lowest. MASK is a file with a byte for each pixel, row by row, for draws that ask for one. A file named - is
+standard input. Of a scene that the rules refuse it says where the file breaks which rule.
 
   --color      with swatches, for a terminal with 24-bit colours; without the option, on a terminal that has a COLORTERM
   --no-color   without
 
-Leaves 0 where the pixel is explained, 1 where the scene, the mask or the pixel is refused, 2 where a file cannot be
-read or an argument is wrong.
+It ends with 0 where the pixel is explained, with 1 where the scene, the mask or the pixel is refused, and with 2 where a
+file cannot be read or an argument is wrong.
 ";
 
 /// The arguments, taken apart.
@@ -25,66 +22,43 @@ struct Arguments {
     words: Vec<String>,
 }
 
-fn main() -> ExitCode {
-    let arguments = match arguments() {
-        Ok(arguments) => arguments,
-        Err(wrong) => {
-            eprintln!("why: {wrong}\n{USAGE}");
-            return ExitCode::from(2);
-        }
+fn main() {
+    let Arguments { swatches, words } = arguments();
+    let (scene, x, y, mask) = match &words[..] {
+        [scene, x, y] => (scene, x, y, None),
+        [scene, x, y, mask] => (scene, x, y, Some(mask)),
+        _ => tool::usage(HELP),
     };
-    if arguments.words == ["--help"] {
-        println!("{USAGE}\n\n{HELP}");
-        return ExitCode::SUCCESS;
-    }
-    match answer(&arguments) {
-        Ok((text, refused)) => {
-            print!("{text}");
-            ExitCode::from(u8::from(refused))
-        }
-        Err(wrong) => {
-            eprintln!("why: {wrong}");
-            ExitCode::from(2)
-        }
+    let (x, y) = (number(x), number(y));
+    let (bytes, mask) = (tool::read(scene), mask.map(|mask| tool::read(mask)));
+    let question = Question { scene: &bytes, mask: mask.as_deref(), x, y };
+    let (text, refused) = question.answer(scene, swatches.unwrap_or_else(terminal::shows_colors));
+    tool::write("-", text.as_bytes());
+    if refused {
+        std::process::exit(tool::REFUSED);
     }
 }
 
-fn arguments() -> Result<Arguments, String> {
+fn arguments() -> Arguments {
     let mut arguments = Arguments { swatches: None, words: Vec::new() };
-    for word in env::args_os().skip(1) {
-        let word = word.into_string().map_err(|word| format!("{} is not a text", word.to_string_lossy()))?;
+    for word in tool::arguments(HELP) {
         match word.as_str() {
             "--color" => arguments.swatches = Some(true),
             "--no-color" => arguments.swatches = Some(false),
-            "-h" | "--help" => return Ok(Arguments { swatches: None, words: vec!["--help".to_string()] }),
-            option if option.starts_with("--") => return Err(format!("{option} is no option")),
+            option if option.starts_with("--") => tool::fail(&format!("{option} is no option")),
             _ => arguments.words.push(word),
         }
     }
-    match arguments.words.len() {
-        3 | 4 => Ok(arguments),
-        _ => Err("a scene and two numbers are needed, and at most a mask besides".to_string()),
-    }
-}
-
-/// The answer, and whether it is a refusal; or what is wrong with the arguments.
-fn answer(arguments: &Arguments) -> Result<(String, bool), String> {
-    let words = &arguments.words;
-    let read = |path: &String| fs::read(path).map_err(|error| format!("{path}: {error}"));
-    let scene = read(&words[0])?;
-    let mask = words.get(3).map(read).transpose()?;
-    let question = Question { scene: &scene, mask: mask.as_deref(), x: number(&words[1])?, y: number(&words[2])? };
-    let swatches = arguments.swatches.unwrap_or_else(terminal::shows_colors);
-    Ok(question.answer(&words[0], swatches))
+    arguments
 }
 
 /// A whole number; one too long for 64 bits is outside every picture, as the largest is.
-fn number(text: &str) -> Result<i64, String> {
+fn number(text: &str) -> i64 {
     let digits = text.strip_prefix('-').unwrap_or(text);
     if digits.is_empty() || !digits.bytes().all(|byte| byte.is_ascii_digit()) {
-        return Err(format!("{text} is not a number"));
+        tool::fail(&format!("{text} is not a number"));
     }
-    Ok(text.parse().unwrap_or(if text.starts_with('-') { i64::MIN } else { i64::MAX }))
+    text.parse().unwrap_or(if text.starts_with('-') { i64::MIN } else { i64::MAX })
 }
 
 mod terminal {

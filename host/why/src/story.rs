@@ -10,8 +10,10 @@ use reference::number::u16_at;
 use reference::path::Edge;
 use reference::rules::{self, Draw, Scene};
 
+use reference::words::names;
+
 use crate::swatch::pixel;
-use crate::{names, Question};
+use crate::Question;
 
 /// What the lines say of the pixel, from the background on.
 pub fn told(question: &Question, name: &str, background: Pixel, lines: &[Line], swatches: bool) -> String {

@@ -6,6 +6,7 @@ use std::path::{Path, PathBuf};
 use generate::{damage, rules, scenes, Random};
 use library::explain;
 use library::Mask;
+use reference::words::Broken;
 use why::{fault, Question};
 
 fn vectors() -> PathBuf {
@@ -17,7 +18,7 @@ fn question<'a>(scene: &'a [u8], mask: Option<&'a [u8]>) -> Question<'a> {
 }
 
 /// The broken rule of a refused scene, which has words; none where it is accepted.
-fn broken(name: &str, scene: &[u8], mask: Option<&[u8]>) -> Option<fault::Broken> {
+fn broken(name: &str, scene: &[u8], mask: Option<&[u8]>) -> Option<Broken> {
     let refusal = explain::explain(scene, mask.map_or(Mask::NONE, Mask::of), 0, 0);
     if refusal.code == 0 {
         return None;
@@ -51,67 +52,15 @@ fn every_edge_case_has_words() {
     assert_eq!(refused, 163);
 }
 
-/// Words of every rule. A part of each must be told of some scene.
-const RULES: [&str; 36] = [
-    "has a block of 512 bytes at least",
-    "a whole number of blocks",
-    "as block 0 says",
-    "the two sums of its payload",
-    "the width is from",
-    "the height is from",
-    "at most 64 draws",
-    "the edition is 0",
-    "bytes 12 to 507 of block 0",
-    "flag bits 5 to 15",
-    "is for edition 1",
-    "asks for a mask, and none is lent",
-    "the blend mode is one of",
-    "the paint type is one of",
-    "the spread is one of",
-    "at most 128 segments",
-    "at most 4 scissors",
-    "at most 32 stops",
-    "at most 31 stops of a radial draw",
-    "byte 11 of a draw",
-    "sx, shy, shx, sy are finite and at most 256",
-    "tx, ty are finite and at most 32768",
-    "the colour's R, G, B, A are numbers",
-    "x0, y0, x1, y1 are finite and at most 4096",
-    "scissors that are used",
-    "cx, cy, fx, fy, r are finite and at most 1024",
-    "the focal point lies inside",
-    "offset, R, G, B, A are numbers",
-    "stops that are used",
-    "the colour transformation's bias of R, G, B, A are numbers",
-    "no flat matrix",
-    "arcs, bytes 18 to 25",
-    "a segment byte is 0 to 17",
-    "this segment needs one more",
-    "stays in -32,768 to 32,767",
-    "at most 8,388,608 in size",
-];
-
 /// Both sides of every rule, in both editions, with a mask and without one.
 #[test]
 fn every_rule_has_words() {
-    let mut told = Vec::new();
     for (mask_lent, edition) in [(false, 0), (false, 1), (true, 0), (true, 1)] {
         for case in rules::cases(mask_lent, edition) {
             let mask = mask_lent.then(|| mask_for(&case.bytes));
             let found = broken(&case.name, &case.bytes, mask.as_deref());
             assert_eq!(found.is_some(), case.fault.is_some(), "{}", case.name);
-            told.extend(found.map(|found| found.rule));
         }
-    }
-    for rule in RULES {
-        assert!(told.iter().any(|told| told.contains(rule)), "no scene breaks it: {rule}");
-    }
-    for told in told {
-        let behind = told.starts_with("behind the ");
-        assert!(
-            behind || RULES.iter().any(|rule| told.contains(rule)) || told.contains("scale of R"),
-            "not listed: {told}"
-        );
     }
 }
 

@@ -130,8 +130,8 @@ fn wrong_arguments() {
     complains(&[&scene, "0", "-"], "- is not a number");
     complains(&["/nowhere.scene", "0", "0"], "/nowhere.scene: ");
     complains(&[&scene, "0", "0", "/nowhere.mask"], "/nowhere.mask: ");
-    assert_eq!(why(&["--help"]).status.code(), Some(0));
-    assert!(String::from_utf8_lossy(&why(&["--help"]).stdout).contains("usage: why"));
+    let help = why(&["--help"]);
+    assert!(help.status.success() && help.stdout.starts_with(b"usage: why "));
     assert_eq!(why(&[&scene, "99999999999999999999999", "0"]).status.code(), Some(1));
     assert_eq!(why(&[&scene, "-1", "0"]).status.code(), Some(1));
 }

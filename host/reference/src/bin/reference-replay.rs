@@ -1,23 +1,24 @@
-//! The replay program by the reference: shows scene files one after the other, and prints answers, context and picture.
+//! The replay program by the reference.
 
-use std::io::Write;
-use std::{env, fs, io, process};
+const HELP: &str = "\
+usage: reference-replay SCENE ..
+
+Shows scene files one after the other by the reference, and prints the code of the whole, seven numbers for each scene, the
+first code other than 0, and the picture that is shown at the end.
+
+A file named - is standard input. It ends with 1 if the whole or a scene is refused; a file that cannot be read is told on
+standard error and ends with 2.
+";
 
 fn main() {
-    let paths: Vec<String> = env::args().skip(1).collect();
-    if paths.is_empty() {
-        eprintln!("usage: reference-replay SCENE ..");
-        process::exit(2);
+    let names = tool::arguments(HELP);
+    if names.is_empty() {
+        tool::usage(HELP);
     }
-    let read = |path: &String| {
-        fs::read(path).unwrap_or_else(|e| {
-            eprintln!("{path}: {e}");
-            process::exit(2);
-        })
-    };
-    let scenes: Vec<Vec<u8>> = paths.iter().map(read).collect();
-    if let Err(error) = io::stdout().write_all(reference::print::replaying(&scenes).as_bytes()) {
-        eprintln!("{error}");
-        process::exit(2);
+    let scenes: Vec<Vec<u8>> = names.iter().map(|name| tool::read(name)).collect();
+    let text = reference::print::replaying(&scenes);
+    tool::write("-", text.as_bytes());
+    if !text.contains("\ncontext 0000\n") {
+        std::process::exit(tool::REFUSED);
     }
 }

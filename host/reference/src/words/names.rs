@@ -1,4 +1,4 @@
-//! Names of the numbers in a scene file.
+//! Names of codes and of the numbers in a scene file.
 
 /// A code, by OpenVG's name for it or ours.
 pub fn code(code: u32) -> &'static str {
