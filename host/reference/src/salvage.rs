@@ -49,8 +49,8 @@ pub fn printed(scene: &[u8]) -> String {
     }
 }
 
-/// The empty draw as draw `index` of a file, with fresh checks.
-fn write_empty(file: &mut [u8], index: usize) {
+/// Writes the empty draw as draw `index` of a file, with fresh checks.
+pub fn write_empty(file: &mut [u8], index: usize) {
     let mut bytes = [0; file::DRAW_BYTES];
     for (at, number) in EMPTY {
         bytes[at..at + 2].copy_from_slice(&number.to_le_bytes());

@@ -27,7 +27,7 @@ pub fn told(question: &Question, name: &str, refusal: &Explanation) -> String {
 }
 
 /// Where the fault is.
-fn place(question: &Question, refusal: &Explanation) -> String {
+pub fn place(question: &Question, refusal: &Explanation) -> String {
     let (draw, offset) = (refusal.draw, refusal.offset);
     if refusal.code == BAD_LENGTH {
         return "the file's length".to_string();
