@@ -147,7 +147,8 @@ typedef struct wayramesh_context {
 
 /*
  * Answers the first code other than 0 of the calls since the context was last asked, or since it was {0}; 0 if all were
- * accepted. Asking sets it to 0. This is proved for every sequence of calls.
+ * accepted. Asking sets it to 0. This is proved for every sequence of calls; that a call notes its code is proved of all but
+ * wayramesh_redraw_planned, which is an inline function of this header and notes it in C.
  */
 uint32_t wayramesh_take_code(wayramesh_context *context);
 
