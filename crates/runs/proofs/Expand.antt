@@ -1,182 +1,160 @@
--- What runs expand to.
+-- What runs expand to, one more run, a longer run.
 use mathlib.Core.Path.{_≡_, refl, sym, ap, ap₂, subst, _∙_}
-use mathlib.Core.List.{List, [], _∷_, _++_, append-assoc, append-nil}
+use mathlib.Core.List.{List, [], _∷_, _++_, append-assoc}
 use mathlib.Core.Logic.{⊎-elim}
-use Prim.Native.Nat.{ℕ, zero, suc, _+_, _-_, _*_, _≤_, _<_}
+use Prim.Native.Nat.{ℕ, zero, suc, _+_, _-_, _*_, _/_, _%_, _≤_, _<_}
 use native.Mathlib.Nat.{eq-or-lt-of-le, le-of-suc-le-suc, not-suc-le-zero}
-use native.Mathlib.Numerals.{add-one}
 use native.Mathlib.Omega.{arith}
 use native.Mathlib.Decide.{ℕ-discrete}
-use lib.ListN.{length, getD, set, replicate, length-append, length-replicate, length-set, getD-replicate, replicate-append-replicate, List·getD-append}
-use lib.Seq.{getD-append-add, getD-set-same, getD-set-other, set-out}
+use lib.ListN.{length, getD, set, replicate, length-append, length-replicate, getD-replicate, replicate-append-replicate, List·getD-append}
+use lib.Seq.{getD-append-add, getD-set-same, getD-set-other}
 use borrow.Author.Count.{below-more}
 use Rattle.lists.specs.Lists.{upto, tab}
 use Rattle.lists.proofs.Laws.{upto-same, upto-more, tab-length, tab-at, tab-ext}
-use Rattle.runs.specs.Runs.{expand, Runs}
+use Rattle.runs.specs.Runs.{endOf, startOf, levelOf, expand, Runs}
 
 one-more : (j : ℕ) → j + 1 ≡ suc j
 one-more j = omega arith
 
-module _ (starts : List ℕ) (n : ℕ) (rises : (j : ℕ) → j < n → getD starts j 0 < getD starts (j + 1) 0) where
-  next : (j : ℕ) → j < n → getD starts j 0 < getD starts (suc j) 0
-  next j h = subst (λ (k : ℕ). getD starts j 0 < getD starts k 0) (one-more j) (rises j h)
-
-  pub starts-rise : (i j : ℕ) → i ≤ j → j ≤ n → getD starts i 0 ≤ getD starts j 0
+module _ (runs : List ℕ) (n : ℕ) (rises : (j : ℕ) → j < n → startOf runs j < endOf runs j) where
+  pub starts-rise : (i j : ℕ) → i ≤ j → j ≤ n → startOf runs i ≤ startOf runs j
   starts-rise i zero a b = let e : i ≡ 0 = omega arith in rw e (omega arith)
   starts-rise i (suc j) a b =
       ⊎-elim (λ e. rw e (omega arith))
-      (λ l. omega (arith, starts-rise i j (le-of-suc-le-suc l) (omega arith), next j (omega arith)))
+      (λ l. omega (arith, starts-rise i j (le-of-suc-le-suc l) (omega arith), rises j (omega arith)))
       (eq-or-lt-of-le a)
 
-  pub starts-few : (j : ℕ) → j ≤ n → j ≤ getD starts j 0
+  starts-few : (j : ℕ) → j ≤ n → j ≤ startOf runs j
   starts-few zero h = omega arith
-  starts-few (suc j) h = omega (arith, starts-few j (omega arith), next j (omega arith))
+  starts-few (suc j) h = omega (arith, starts-few j (omega arith), rises j (omega arith))
 
-  module _ (ks : List ℕ) (first : getD starts 0 0 ≡ 0) where
-    pub expand-length : (m : ℕ) → m ≤ n → length (expand starts ks m) ≡ getD starts m 0
-    expand-length zero h = sym first
-    expand-length (suc m) h =
-        length-append (expand starts ks m) (replicate (getD starts (m + 1) 0 - getD starts m 0) (getD ks m 0))
-        ∙ ap₂ (λ (a b : ℕ). a + b) (expand-length m (omega arith)) (length-replicate (getD starts (m + 1) 0 - getD starts m 0) (getD ks m 0))
-        ∙ ap (λ (b : ℕ). getD starts m 0 + (b - getD starts m 0)) (ap (λ (k : ℕ). getD starts k 0) (one-more m))
-        ∙ rest (getD starts m 0) (getD starts (suc m) 0) (next m (omega arith))
-      where
-        rest : (a b : ℕ) → a < b → a + (b - a) ≡ b
-        rest a b h = omega arith
+  expand-length : (m : ℕ) → m ≤ n → length (expand runs m) ≡ startOf runs m
+  expand-length zero h = refl
+  expand-length (suc m) h =
+      length-append (expand runs m) (replicate (endOf runs m - startOf runs m) (levelOf runs m))
+      ∙ ap₂ (λ (a b : ℕ). a + b) (expand-length m (omega arith)) (length-replicate (endOf runs m - startOf runs m) (levelOf runs m))
+      ∙ rest (startOf runs m) (endOf runs m) (rises m (omega arith))
+    where
+      rest : (a b : ℕ) → a < b → a + (b - a) ≡ b
+      rest a b h = omega arith
 
-    -- k of a pixel of run j
-    pub expand-at : (m : ℕ) → m ≤ n → (j i : ℕ) → j < m → getD starts j 0 ≤ i → i < getD starts (j + 1) 0 → getD (expand starts ks m) i 0 ≡ getD ks j 0
-    expand-at zero h j i l a b = absurd (not-suc-le-zero l)
-    expand-at (suc m) h j i l a b = ⊎-elim here (λ k. before k (expand-at m (omega arith) j i k a b)) (eq-or-lt-of-le (le-of-suc-le-suc l))
-      where
-        here : j ≡ m → getD (expand starts ks (suc m)) i 0 ≡ getD ks j 0
-        here e =
-            ap (λ (k : ℕ). getD (expand starts ks (suc m)) k 0) at
-            ∙ getD-append-add (expand starts ks m) (replicate (getD starts (m + 1) 0 - getD starts m 0) (getD ks m 0)) (i - getD starts m 0) 0
-            ∙ getD-replicate (getD starts (m + 1) 0 - getD starts m 0) (i - getD starts m 0) (getD ks m 0) 0 (within (getD starts m 0) (getD starts (m + 1) 0) low high)
-            ∙ ap (λ (k : ℕ). getD ks k 0) (sym e)
-          where
-            low : getD starts m 0 ≤ i
-            low = subst (λ (k : ℕ). getD starts k 0 ≤ i) e a
+  -- k of a pixel of run j
+  expand-at : (m : ℕ) → m ≤ n → (j i : ℕ) → j < m → startOf runs j ≤ i → i < endOf runs j → getD (expand runs m) i 0 ≡ levelOf runs j
+  expand-at zero h j i l a b = absurd (not-suc-le-zero l)
+  expand-at (suc m) h j i l a b = ⊎-elim here (λ k. before k (expand-at m (omega arith) j i k a b)) (eq-or-lt-of-le (le-of-suc-le-suc l))
+    where
+      here : j ≡ m → getD (expand runs (suc m)) i 0 ≡ levelOf runs j
+      here e =
+          ap (λ (k : ℕ). getD (expand runs (suc m)) k 0) at
+          ∙ getD-append-add (expand runs m) (replicate (endOf runs m - startOf runs m) (levelOf runs m)) (i - startOf runs m) 0
+          ∙ getD-replicate (endOf runs m - startOf runs m) (i - startOf runs m) (levelOf runs m) 0 (within (startOf runs m) (endOf runs m) low high)
+          ∙ ap (λ (k : ℕ). levelOf runs k) (sym e)
+        where
+          low : startOf runs m ≤ i
+          low = subst (λ (k : ℕ). startOf runs k ≤ i) e a
 
-            high : i < getD starts (m + 1) 0
-            high = subst (λ (k : ℕ). i < getD starts (k + 1) 0) e b
+          high : i < endOf runs m
+          high = subst (λ (k : ℕ). i < endOf runs k) e b
 
-            at : i ≡ length (expand starts ks m) + (i - getD starts m 0)
-            at = omega (arith, low, expand-length m (omega arith))
+          at : i ≡ length (expand runs m) + (i - startOf runs m)
+          at = omega (arith, low, expand-length m (omega arith))
 
-            within : (s t : ℕ) → s ≤ i → i < t → i - s < t - s
-            within s t p q = omega arith
+          within : (s t : ℕ) → s ≤ i → i < t → i - s < t - s
+          within s t p q = omega arith
 
-        before : j < m → getD (expand starts ks m) i 0 ≡ getD ks j 0 → getD (expand starts ks (suc m)) i 0 ≡ getD ks j 0
-        before k q =
-            List·getD-append (expand starts ks m) (replicate (getD starts (m + 1) 0 - getD starts m 0) (getD ks m 0)) 0 i
-            (omega (arith, b, starts-rise (j + 1) m (omega arith) (omega arith), expand-length m (omega arith)))
-            ∙ q
+      before : j < m → getD (expand runs m) i 0 ≡ levelOf runs j → getD (expand runs (suc m)) i 0 ≡ levelOf runs j
+      before k q =
+          List·getD-append (expand runs m) (replicate (endOf runs m - startOf runs m) (levelOf runs m)) 0 i
+          (omega (arith, b, starts-rise (suc j) m (omega arith) (omega arith), expand-length m (omega arith)))
+          ∙ q
 
--- the runs of two pairs of lists that agree on the first n
-pub expand-same : (s t ks ls : List ℕ) (n : ℕ) → ((j : ℕ) → j ≤ n → getD s j 0 ≡ getD t j 0) → ((j : ℕ) → j < n → getD ks j 0 ≡ getD ls j 0) → expand s ks n ≡ expand t ls n
-expand-same s t ks ls n h k =
-    upto-same n (λ j. replicate (getD s (j + 1) 0 - getD s j 0) (getD ks j 0)) (λ j. replicate (getD t (j + 1) 0 - getD t j 0) (getD ls j 0))
-    (λ j l. rw (h (j + 1) (omega arith), h j (omega arith), k j l))
+-- two lists that agree on the first n runs
+starts-same : (r s : List ℕ) (n : ℕ) → ((j : ℕ) → j < n → getD r j 0 ≡ getD s j 0) → (j : ℕ) → j ≤ n → startOf r j ≡ startOf s j
+starts-same r s n h zero l = refl
+starts-same r s n h (suc j) l = ap (λ (x : ℕ). x / 32) (h j (omega arith))
 
-module _ (starts ks : List ℕ) (n w : ℕ) (r : Runs starts n w) where
-  pub runs-length : length (expand starts ks n) ≡ w
-  runs-length = expand-length starts n (r .rises) ks (r .first) n (omega arith) ∙ r .last
+expand-same : (r s : List ℕ) (n : ℕ) → ((j : ℕ) → j < n → getD r j 0 ≡ getD s j 0) → expand r n ≡ expand s n
+expand-same r s n h =
+    upto-same n (λ j. replicate (endOf r j - startOf r j) (levelOf r j)) (λ j. replicate (endOf s j - startOf s j) (levelOf s j))
+    (λ j l. rw (h j l, starts-same r s n h j (omega arith)))
+
+module _ (runs : List ℕ) (n w : ℕ) (r : Runs runs n w) where
+  pub runs-length : length (expand runs n) ≡ w
+  runs-length = expand-length runs n (r .rises) n (omega arith) ∙ r .last
 
   pub runs-few : n ≤ w
-  runs-few = omega (arith, starts-few starts n (r .rises) n (omega arith), r .last)
+  runs-few = omega (arith, starts-few runs n (r .rises) n (omega arith), r .last)
 
-  pub runs-at : (j i : ℕ) → j < n → getD starts j 0 ≤ i → i < getD starts (j + 1) 0 → getD (expand starts ks n) i 0 ≡ getD ks j 0
-  runs-at j i h = expand-at starts n (r .rises) ks (r .first) n (omega arith) j i h
+  pub runs-at : (j i : ℕ) → j < n → startOf runs j ≤ i → i < endOf runs j → getD (expand runs n) i 0 ≡ levelOf runs j
+  runs-at j i h = expand-at runs n (r .rises) n (omega arith) j i h
 
-  pub runs-within : (j : ℕ) → j ≤ n → getD starts j 0 ≤ w
-  runs-within j h = omega (arith, starts-rise starts n (r .rises) j n h (omega arith), r .last)
+  pub runs-within : (j : ℕ) → j < n → endOf runs j ≤ w
+  runs-within j h = omega (arith, starts-rise runs n (r .rises) (suc j) n (omega arith) (omega arith), r .last)
 
-  pub runs-level : (j : ℕ) → j < n → getD (expand starts ks n) (getD starts j 0) 0 ≡ getD ks j 0
-  runs-level j h = runs-at j (getD starts j 0) h (omega arith) (r .rises j h)
-
-  -- a run of its own
-  pub push-runs : (e : ℕ) → w < e → n + 1 < length starts → Runs (set starts (n + 1) e) (n + 1) e
-  push-runs e h l = record {
-    first = getD-set-other starts (n + 1) 0 e 0 (λ q. omega (arith, q)) ∙ r .first;
-    rises = below-more (λ j. getD (set starts (n + 1) e) j 0 < getD (set starts (n + 1) e) (j + 1) 0) n old new;
-    last = getD-set-same starts (n + 1) e 0 l;
+  -- a run of its own, in the place of any number
+  pub push-runs : (e k : ℕ) → k < 32 → w < e → n < length runs → Runs (set runs n (e * 32 + k)) (n + 1) e
+  push-runs e k g h l = record {
+    rises = below-more (λ j. startOf (set runs n (e * 32 + k)) j < endOf (set runs n (e * 32 + k)) j) n old new;
+    last = subst (λ (j : ℕ). startOf (set runs n (e * 32 + k)) j ≡ e) (sym (one-more n)) (rw (getD-set-same runs n (e * 32 + k) 0 l) (omega arith));
   }
     where
-      kept : (j : ℕ) → j ≤ n → getD (set starts (n + 1) e) j 0 ≡ getD starts j 0
-      kept j k = getD-set-other starts (n + 1) j e 0 (λ q. omega (arith, q))
+      kept : (j : ℕ) → j < n → getD (set runs n (e * 32 + k)) j 0 ≡ getD runs j 0
+      kept j b = getD-set-other runs n j (e * 32 + k) 0 (λ q. omega (arith, q))
 
-      old : (j : ℕ) → j < n → getD (set starts (n + 1) e) j 0 < getD (set starts (n + 1) e) (j + 1) 0
-      old j k = rw (kept j (omega arith), kept (j + 1) (omega arith)) (r .rises j k)
+      old : (j : ℕ) → j < n → startOf (set runs n (e * 32 + k)) j < endOf (set runs n (e * 32 + k)) j
+      old j b = rw (starts-same (set runs n (e * 32 + k)) runs n kept j (omega arith), kept j b) (r .rises j b)
 
-      new : getD (set starts (n + 1) e) n 0 < getD (set starts (n + 1) e) (n + 1) 0
-      new = rw (kept n (omega arith), getD-set-same starts (n + 1) e 0 l, r .last) h
+      new : startOf (set runs n (e * 32 + k)) n < endOf (set runs n (e * 32 + k)) n
+      new = rw (starts-same (set runs n (e * 32 + k)) runs n kept n (omega arith), getD-set-same runs n (e * 32 + k) 0 l, r .last) (omega arith)
 
-  pub push-expand : (e k : ℕ) → n + 1 < length starts → n < length ks
-      → expand (set starts (n + 1) e) (set ks n k) (n + 1) ≡ expand starts ks n ++ replicate (e - w) k
-  push-expand e k l m =
-      upto-more n (λ j. replicate (getD (set starts (n + 1) e) (j + 1) 0 - getD (set starts (n + 1) e) j 0) (getD (set ks n k) j 0))
-      ∙ ap₂ (λ (a b : List ℕ). a ++ b) (expand-same (set starts (n + 1) e) starts (set ks n k) ks n (λ j h. kept j h) (λ j h. getD-set-other ks n j k 0 (λ q. omega (arith, q)))) run
+  pub push-expand : (e k : ℕ) → k < 32 → n < length runs → expand (set runs n (e * 32 + k)) (n + 1) ≡ expand runs n ++ replicate (e - w) k
+  push-expand e k g l =
+      upto-more n (λ j. replicate (endOf (set runs n (e * 32 + k)) j - startOf (set runs n (e * 32 + k)) j) (levelOf (set runs n (e * 32 + k)) j))
+      ∙ ap₂ (λ (a b : List ℕ). a ++ b) (expand-same (set runs n (e * 32 + k)) runs n kept) run
     where
-      kept : (j : ℕ) → j ≤ n → getD (set starts (n + 1) e) j 0 ≡ getD starts j 0
-      kept j k = getD-set-other starts (n + 1) j e 0 (λ q. omega (arith, q))
+      kept : (j : ℕ) → j < n → getD (set runs n (e * 32 + k)) j 0 ≡ getD runs j 0
+      kept j b = getD-set-other runs n j (e * 32 + k) 0 (λ q. omega (arith, q))
 
-      run : replicate (getD (set starts (n + 1) e) (n + 1) 0 - getD (set starts (n + 1) e) n 0) (getD (set ks n k) n 0) ≡ replicate (e - w) k
-      run = rw (getD-set-same starts (n + 1) e 0 l, kept n (omega arith), r .last, getD-set-same ks n k 0 m)
+      halves : (x s : ℕ) → x ≡ e * 32 + k → s ≡ w → replicate (x / 32 - s) (x % 32) ≡ replicate (e - w) k
+      halves x s a b =
+          let c : x / 32 - s ≡ e - w = omega arith in
+          let d : x % 32 ≡ k = omega arith in
+          ap₂ (λ (m l : ℕ). replicate m l) c d
+
+      run : replicate (endOf (set runs n (e * 32 + k)) n - startOf (set runs n (e * 32 + k)) n) (levelOf (set runs n (e * 32 + k)) n) ≡ replicate (e - w) k
+      run =
+          halves (getD (set runs n (e * 32 + k)) n 0) (startOf (set runs n (e * 32 + k)) n) (getD-set-same runs n (e * 32 + k) 0 l)
+          (starts-same (set runs n (e * 32 + k)) runs n kept n (omega arith) ∙ r .last)
+
+-- the last of n + 1 runs taken away
+module _ (runs : List ℕ) (n w : ℕ) (r : Runs runs (n + 1) w) where
+  shorter : Runs runs n (startOf runs n)
+  shorter = record {
+    rises = λ j l. r .rises j (omega arith);
+    last = refl;
+  }
+
+  end : endOf runs n ≡ w
+  end = subst (λ (j : ℕ). startOf runs j ≡ w) (one-more n) (r .last)
 
   -- the last run, made longer
-  pub merge-runs : (e : ℕ) → w < e → 0 < n → n < length starts → Runs (set starts n e) n e
-  merge-runs e h z l = record {
-    first = getD-set-other starts n 0 e 0 (λ q. omega (arith, q)) ∙ r .first;
-    rises = λ j k. subst (λ (a : ℕ). a < getD (set starts n e) (j + 1) 0) (sym (kept j k)) (by j k (ℕ-discrete (j + 1) n));
-    last = getD-set-same starts n e 0 l;
-  }
+  pub merge-expand : (e k : ℕ) → k < 32 → w < e → n < length runs → levelOf runs n ≡ k
+      → expand (set runs n (e * 32 + k)) (n + 1) ≡ expand runs (n + 1) ++ replicate (e - w) k
+  merge-expand e k g h l q =
+      push-expand runs n (startOf runs n) shorter e k g l
+      ∙ ap (λ (a : ℕ). expand runs n ++ replicate a k) (sum (startOf runs n) (omega (arith, r .rises n (omega arith), end)))
+      ∙ ap (λ (t : List ℕ). expand runs n ++ t) (sym (replicate-append-replicate (w - startOf runs n) (e - w) k))
+      ∙ sym (append-assoc (expand runs n) (replicate (w - startOf runs n) k) (replicate (e - w) k))
+      ∙ ap (λ (t : List ℕ). t ++ replicate (e - w) k) (sym whole)
     where
-      kept : (j : ℕ) → j < n → getD (set starts n e) j 0 ≡ getD starts j 0
-      kept j k = getD-set-other starts n j e 0 (λ q. omega (arith, q))
-
-      by : (j : ℕ) → j < n → Dec (j + 1 ≡ n) → getD starts j 0 < getD (set starts n e) (j + 1) 0
-      by j k (yes q) =
-          subst (λ (a : ℕ). getD starts j 0 < a) (sym (ap (λ (m : ℕ). getD (set starts n e) m 0) q ∙ getD-set-same starts n e 0 l))
-          (omega (arith, r .rises j k, ap (λ (m : ℕ). getD starts m 0) q, r .last))
-      by j k (no q) = subst (λ (a : ℕ). getD starts j 0 < a) (sym (kept (j + 1) (omega arith))) (r .rises j k)
-
-  pub merge-expand : (e k : ℕ) → w < e → 0 < n → n < length starts → getD ks (n - 1) 0 ≡ k → expand (set starts n e) ks n ≡ expand starts ks n ++ replicate (e - w) k
-  merge-expand e k h z l q = subst (λ (m : ℕ). expand (set starts n e) ks m ≡ expand starts ks m ++ replicate (e - w) k) last (more ∙ joined)
-    where
-      m : ℕ
-      m = n - 1
-
-      last : m + 1 ≡ n
-      last = omega arith
-
-      kept : (j : ℕ) → j ≤ m → getD (set starts n e) j 0 ≡ getD starts j 0
-      kept j b = getD-set-other starts n j e 0 (λ q. omega (arith, q))
-
-      end : getD (set starts n e) (m + 1) 0 ≡ e
-      end = ap (λ (j : ℕ). getD (set starts n e) j 0) last ∙ getD-set-same starts n e 0 l
-
-      was : getD starts (m + 1) 0 ≡ w
-      was = ap (λ (j : ℕ). getD starts j 0) last ∙ r .last
-
-      more : expand (set starts n e) ks (m + 1) ≡ expand starts ks m ++ replicate (e - getD starts m 0) k
-      more =
-          upto-more m (λ j. replicate (getD (set starts n e) (j + 1) 0 - getD (set starts n e) j 0) (getD ks j 0))
-          ∙ ap₂ (λ (a b : List ℕ). a ++ b) (expand-same (set starts n e) starts ks ks m kept (λ j b. refl)) (rw (end, kept m (omega arith), q))
-
-      sum : (a : ℕ) → a < w → (w - a) + (e - w) ≡ e - a
+      sum : (a : ℕ) → a < w → e - a ≡ (w - a) + (e - w)
       sum a b = omega arith
 
-      whole : expand starts ks (m + 1) ≡ expand starts ks m ++ replicate (w - getD starts m 0) k
-      whole = upto-more m (λ j. replicate (getD starts (j + 1) 0 - getD starts j 0) (getD ks j 0)) ∙ rw (was, q)
+      whole : expand runs (n + 1) ≡ expand runs n ++ replicate (w - startOf runs n) k
+      whole = upto-more n (λ j. replicate (endOf runs j - startOf runs j) (levelOf runs j)) ∙ rw (end, q)
 
-      joined : expand starts ks m ++ replicate (e - getD starts m 0) k ≡ expand starts ks (m + 1) ++ replicate (e - w) k
-      joined =
-          ap (λ (a : ℕ). expand starts ks m ++ replicate a k) (sym (sum (getD starts m 0) (omega (arith, r .rises m (omega arith), was))))
-          ∙ ap (λ (t : List ℕ). expand starts ks m ++ t) (sym (replicate-append-replicate (w - getD starts m 0) (e - w) k))
-          ∙ sym (append-assoc (expand starts ks m) (replicate (w - getD starts m 0) k) (replicate (e - w) k))
-          ∙ ap (λ (t : List ℕ). t ++ replicate (e - w) k) (sym whole)
+  pub merge-runs : (e k : ℕ) → k < 32 → w < e → n < length runs → Runs (set runs n (e * 32 + k)) (n + 1) e
+  merge-runs e k g h l = push-runs runs n (startOf runs n) shorter e k g (omega (arith, r .rises n (omega arith), end)) l
 
 -- k's that are equal, after those of a table
 pub tab-run : (f : ℕ → ℕ) (p e k : ℕ) → p ≤ e → ((i : ℕ) → p ≤ i → i < e → f i ≡ k) → tab p f ++ replicate (e - p) k ≡ tab e f

@@ -1,5 +1,4 @@
-use mathlib.Core.Path.{_≡_, refl, sym, subst}
-use mathlib.Core.Bool.{Bool, true, false}
+use mathlib.Core.Path.{sym, subst}
 use native.Mathlib.Omega.{arith}
 use borrow.Author.Tests.{eqb-true}
 use lib.Dec.{T}
@@ -10,14 +9,8 @@ use Rattle.runs.proofs.extends.Tie as tie
 returns : tie.Need-returns
 returns c = λ q. absurd (subst T (sym q) tt)
 
-sub-result : tie.Need-sub-result
-sub-result c = search needs
-
-shared-slice-read-result : tie.Need-shared-slice-read-result
-shared-slice-read-result c = search needs
-
 returns-2 : tie.Need-returns-2
 returns-2 c = λ q. (omega (arith, c .before .if1 .left), eqb-true _ _ q)
 
 pub extends-spec : {M : Type 1} → statement M
-extends-spec = tie.close (tie.spec returns sub-result shared-slice-read-result returns-2)
+extends-spec = tie.close (tie.spec returns (λ c. search needs) (λ c. search needs) (λ c. search needs) returns-2)
