@@ -21,7 +21,8 @@ loop-holds : tie.Need-loop-holds Inv-loop μ-loop
 loop-holds c = (omega arith, refl, record { rises = λ j l. absurd (omega (arith, l)); last = refl }, refl)
 
 -- one pixel more
-more : (row : List ℕ) (i k : ℕ) (s t : List ℕ) → getD row i 0 ≡ k → t ≡ tab i (λ j. getD row j 0) → s ≡ t ++ replicate (i + 1 - i) k → s ≡ tab (i + 1) (λ j. getD row j 0)
+more : (row : List ℕ) (i k : ℕ) (s t : List ℕ) → getD row i 0 ≡ k → t ≡ tab i (λ j. getD row j 0) → s ≡ t ++ replicate (i + 1 - i) k
+    → s ≡ tab (i + 1) (λ j. getD row j 0)
 more row i k s t q a b =
     b ∙ ap (λ (l : List ℕ). l ++ replicate (i + 1 - i) k) a ∙ tab-run (λ j. getD row j 0) i (i + 1) k (omega arith) (λ j l m. same j l m)
   where

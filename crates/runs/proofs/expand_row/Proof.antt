@@ -59,11 +59,16 @@ loop-again c =
     let l : j < entry .args .n = test .loop-test .taken in
     let r = entry .pre .0 in
     let one : j + 1 ≡ suc j = omega arith in
-    let laid = put runs (entry .args .n) d r j l (turn .loop .a) (turn .loop .row) (after .fill .last .0) (turn .loop .inv .1) (turn .loop .inv .2) (turn .loop .inv .3) (after .fill .ensures) in
+    let laid =
+    put runs (entry .args .n) d r j l (turn .loop .a) (turn .loop .row) (after .fill .last .0) (turn .loop .inv .1) (turn .loop .inv .2)
+    (turn .loop .inv .3) (after .fill .ensures)
+    in
     let next : j + 1 ≤ entry .args .n = omega arith in (
       next,
       sym (ap (startOf runs) one),
-      ap length laid ∙ over-length (expand runs (j + 1)) d (subst (λ (m : ℕ). m ≤ length d) (sym (first-length runs (entry .args .n) (length d) r (j + 1) next ∙ ap (startOf runs) one)) (within entry j l)),
+      ap length laid
+          ∙ over-length (expand runs (j + 1)) d
+          (subst (λ (m : ℕ). m ≤ length d) (sym (first-length runs (entry .args .n) (length d) r (j + 1) next ∙ ap (startOf runs) one)) (within entry j l)),
       laid,
     )
   where
@@ -73,7 +78,10 @@ loop-again c =
     put runs n d r j l a s q e k o g =
         subst (λ (x : ℕ). take x s ++ (q ++ drop (endOf runs j - x) (drop x s)) ≡ over (expand runs (j + 1)) d) (sym e)
         (laid-run runs n (length d) r j l s d q refl o
-        (g ∙ ap (λ (m : ℕ). tab m (λ i. levelOf runs j)) (part-length s a (endOf runs j) (omega (arith, r .rises j l)) (omega (arith, runs-within runs n (length d) r j l)) ∙ ap (λ (x : ℕ). endOf runs j - x) e)))
+        (g ∙ ap (λ (m : ℕ). tab m (λ i. levelOf runs j)) (part ∙ ap (λ (x : ℕ). endOf runs j - x) e)))
+      where
+        part : length (take (endOf runs j - a) (drop a s)) ≡ endOf runs j - a
+        part = part-length s a (endOf runs j) (omega (arith, r .rises j l)) (omega (arith, runs-within runs n (length d) r j l))
 
 returns : tie.Need-returns Inv-loop μ-loop
 returns c =
