@@ -7,7 +7,9 @@ pub mod Starts
 pub mod Turn
 pub mod Tally
 pub mod Zeros
+pub mod Groups
 pub mod Cells
+pub mod Walked
 pub mod Window
 pub mod Limits
 pub mod Telescope

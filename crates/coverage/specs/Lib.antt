@@ -2,3 +2,4 @@
 pub mod Winding
 pub mod Scissors
 pub mod Scanline
+pub mod Marks
