@@ -5,6 +5,7 @@ pub mod Begin
 pub mod Laid
 pub mod Starts
 pub mod Turn
+pub mod Listed
 pub mod Tally
 pub mod Zeros
 pub mod Groups

@@ -3,3 +3,4 @@ pub mod Winding
 pub mod Scissors
 pub mod Scanline
 pub mod Marks
+pub mod Band

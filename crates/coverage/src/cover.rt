@@ -9,6 +9,7 @@
 use crate::GROUP_NUMBERS;
 use crate::Line;
 use crate::edges::add_edges;
+use crate::edges::add_listed;
 use crate::marks::unmark;
 use crate::samples::take_row;
 use crate::walk::take_runs;
@@ -23,6 +24,7 @@ ghost use Rattle.runs.specs.Runs.{expand, Runs};
 ghost use Rattle.path.specs.Stored.{edgesOf};
 ghost use Rattle.coverage.specs.Winding.{coverage};
 ghost use Rattle.coverage.specs.Scanline.{Outlined};
+ghost use Rattle.coverage.specs.Band.{Needed};
 
 // k of each pixel from (x, y) on, in one row, of the path whose n edges stand in the scratch.
 pub fn coverage_row(
@@ -63,9 +65,16 @@ fn coverage_run(scratch: &mut [i32], n: usize, x: usize, y: usize, cover: &mut [
     take_row(&mut scratch[at..end], cover, nonzero);
 }
 
-// The runs of the pixels from (x, y) on, in one row, of the path whose edges stand in the scratch: as many pixels as there are marks. Returns how many runs there are.
-pub fn coverage_runs(scratch: &mut [i32], marks: &mut [u8], runs: &mut [u16], line: Line) -> usize
-    requires { ⌜ Outlined (now scratch) (line .edges) ⌝ }
+// The runs of the pixels from (x, y) on, in one row, of the path whose edges stand in the scratch: as many pixels as there are marks. Only the listed edges
+// are looked at: the others miss the row. Returns how many runs there are.
+pub fn coverage_runs(
+    scratch: &mut [i32],
+    list: &[u32],
+    marks: &mut [u8],
+    runs: &mut [u16],
+    line: Line,
+) -> usize
+    requires { ⌜ Outlined (now scratch) (line .edges) × Needed (now scratch) (line .edges) (line .y) (now list) ⌝ }
     requires { ⌜ (line .y < 1024) × (line .x + length (now marks) ≤ 1024) × (length (now marks) ≤ length (now runs)) ⌝ }
     ensures { λ _. ⌜ now (scratch .exit) ≡ now (scratch .entry) ⌝ }
     ensures { λ r. ⌜ Runs (now (runs .exit)) r (length (now (marks .entry))) ⌝ }
@@ -77,7 +86,7 @@ pub fn coverage_runs(scratch: &mut [i32], marks: &mut [u8], runs: &mut [u16], li
     let mut i = 0;
     while i < marks.len() {
         let end = least(i + most, marks.len());
-        n = window_runs(scratch, &mut marks[i..end], runs, line, n, i);
+        n = window_runs(scratch, list, &mut marks[i..end], runs, line, n, i);
         i = end;
     }
     n
@@ -86,13 +95,14 @@ pub fn coverage_runs(scratch: &mut [i32], marks: &mut [u8], runs: &mut [u16], li
 // The runs of a window of as many pixels as the scratch has room for, after the n runs of the pixels before it. Returns how many runs there are then.
 fn window_runs(
     scratch: &mut [i32],
+    list: &[u32],
     marks: &mut [u8],
     runs: &mut [u16],
     line: Line,
     n: usize,
     from: usize,
 ) -> usize
-    requires { ⌜ Outlined (now scratch) (line .edges) ⌝ }
+    requires { ⌜ Outlined (now scratch) (line .edges) × Needed (now scratch) (line .edges) (line .y) (now list) ⌝ }
     requires { ⌜ (line .y < 1024) × (line .x + from + length (now marks) ≤ 1024) × (line .edges * 4 + length (now marks) * 16 ≤ length (now scratch)) ⌝ }
     requires { ⌜ Runs (now runs) n from × (from + length (now marks) ≤ length (now runs)) ⌝ }
     ensures { λ _. ⌜ now (scratch .exit) ≡ now (scratch .entry) ⌝ }
@@ -105,9 +115,10 @@ fn window_runs(
     let edges = line.edges;
     let at = edges * 4;
     let end = at + marks.len() * 16;
-    add_edges(
+    add_listed(
         scratch,
         edges,
+        list,
         4 * (line.x + from),
         line.y,
         marks,

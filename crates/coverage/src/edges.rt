@@ -15,6 +15,7 @@ ghost use lib.ListN.{length, getD, set};
 ghost use Rattle.path.specs.Stored.{edgesOf};
 ghost use Rattle.coverage.specs.Scanline.{laid, zeros, missed, bumped, sumsAt, withSums, Edges, Marked};
 ghost use Rattle.coverage.specs.Marks.{Grouped};
+ghost use Rattle.coverage.specs.Band.{Needed};
 
 // Whether an edge has no sample row of the pixel row y between its ends.
 fn misses(y0: i32, y1: i32, y: usize) -> bool
@@ -114,5 +115,30 @@ pub fn add_edges(
     while i < n {
         add_edge(scratch, n, i, c, y, cover, groups);
         i += 1;
+    }
+}
+
+// The same from the listed edges alone, where the others miss the row.
+pub fn add_listed(
+    scratch: &mut [i32],
+    n: usize,
+    list: &[u32],
+    c: usize,
+    y: usize,
+    cover: &mut [u8],
+    groups: &mut [u16],
+)
+    requires { ⌜ (y < 1024) × (c + length (now cover) * 4 < 2 ^ 31) × Grouped (now cover) (now groups) ⌝ }
+    requires { ⌜ Edges (now scratch) n (length (now cover) * 16) ⌝ }
+    requires { ⌜ now scratch ≡ laid (n * 4) (length (now cover) * 16) (now scratch) (zeros (length (now cover) * 16)) ⌝ }
+    requires { ⌜ Needed (now scratch) n y (now list) ⌝ }
+    ensures { λ _. ⌜ now (scratch .exit) ≡ withSums n (length (now (cover .entry))) c y n (now (scratch .entry)) ⌝ }
+    ensures { λ _. ⌜ Marked (now (cover .exit)) (sumsAt c (length (now (cover .entry)) * 4) y (edgesOf (now (scratch .entry)) n)) ⌝ }
+    ensures { λ _. ⌜ Grouped (now (cover .exit)) (now (groups .exit)) ⌝ }
+{
+    let mut j = 0;
+    while j < list.len() {
+        add_edge(scratch, n, list[j] as usize, c, y, cover, groups);
+        j += 1;
     }
 }

@@ -1,4 +1,5 @@
 // Coverage: how many of a pixel's 16 samples lie inside a path.
+pub mod band;
 mod column;
 pub mod cover;
 mod edges;
@@ -8,6 +9,7 @@ pub mod scissors;
 mod walk;
 pub mod zero;
 
+pub use crate::band::filter_edges;
 pub use crate::cover::coverage_row;
 pub use crate::cover::coverage_runs;
 pub use crate::scissors::scissor_row;

@@ -11,13 +11,14 @@ use Rattle.runs.specs.Runs.{expand, Runs}
 use Rattle.path.specs.Stored.{edgesOf}
 use Rattle.coverage.specs.Winding.{coverage}
 use Rattle.coverage.specs.Scanline.{Outlined}
+use Rattle.coverage.specs.Band.{Needed}
 use Rattle.coverage.proofs.Window.{kOf, runs-turn}
 use borrow.Author.Needs.{needs}
 use Rattle.coverage.proofs.cover.coverage_runs.Statement.{statement}
 use Rattle.coverage.proofs.cover.coverage_runs.Tie as tie
 
 abbrev Inv-loop : tie.InvT-loop
-Inv-loop scratch₀ marks₀ runs₀ line most n₀ i₀ scratch marks runs n i =
+Inv-loop scratch₀ list marks₀ runs₀ line most n₀ i₀ scratch marks runs n i =
     (i ≤ length marks₀)
     × (scratch ≡ scratch₀)
     × (length marks ≡ length marks₀)
@@ -26,13 +27,13 @@ Inv-loop scratch₀ marks₀ runs₀ line most n₀ i₀ scratch marks runs n i 
     × (expand runs n ≡ tab i (kOf (edgesOf scratch₀ (line .edges)) (line .nonzero) (line .x) (line .y)))
 
 abbrev μ-loop : tie.MeasureT-loop
-μ-loop scratch₀ marks₀ runs₀ line most n₀ i₀ scratch marks runs n i = length marks₀ - i
+μ-loop scratch₀ list marks₀ runs₀ line most n₀ i₀ scratch marks runs n i = length marks₀ - i
 
 mul-most : tie.Need-mul-most Inv-loop μ-loop
-mul-most c = omega (arith, c .before .before .before .pre .0 .few)
+mul-most c = omega (arith, c .before .before .before .before .pre .0 .0 .few)
 
 sub-most : tie.Need-sub-most Inv-loop μ-loop
-sub-most c = omega (arith, c .before .before .before .pre .0 .few, c .before .before .before .pre .0 .room)
+sub-most c = omega (arith, c .before .before .before .before .pre .0 .0 .few, c .before .before .before .before .pre .0 .0 .room)
 
 loop-holds : tie.Need-loop-holds Inv-loop μ-loop
 loop-holds c = (omega arith, refl, refl, refl, record { rises = λ j h. absurd (omega (arith, h)); last = refl }, refl)
@@ -64,16 +65,16 @@ width c =
 
 window-runs-requires : tie.Need-window-runs-requires Inv-loop μ-loop
 window-runs-requires c κs =
-    let entry = c .before .before .before .before .before .before .before .before .before in
+    let entry = c .before .before .before .before .before .before .before .before .before .before in
     let l = c .before .before .before .before .before .loop in
     let t = c .before .before .before in
     let w = width t in (
-      subst (λ (s : List ℤ). Outlined s (entry .args .line .edges)) (sym (l .inv .1)) (entry .pre .0),
+      subst (λ (s : List ℤ). Outlined s (entry .args .line .edges) × Needed s (entry .args .line .edges) (entry .args .line .y) (entry .args .list .now)) (sym (l .inv .1)) (entry .pre .0),
       (
         (
           entry .pre .1 .0,
           omega (arith, w .0, w .1, w .2, l .inv .2, entry .pre .1 .1),
-          omega (arith, w .2, t .least .ensures, ap length (l .inv .1), entry .pre .0 .few, entry .pre .0 .room),
+          omega (arith, w .2, t .least .ensures, ap length (l .inv .1), entry .pre .0 .0 .few, entry .pre .0 .0 .room),
         ),
         (l .inv .4, omega (arith, w .0, w .1, w .2, l .inv .2, l .inv .3, entry .pre .1 .2)),
       ),
@@ -84,7 +85,7 @@ loop-less c = search needs
 
 loop-again : tie.Need-loop-again Inv-loop μ-loop
 loop-again c =
-    let entry = c .before .before .before .before .before .before .before .before .before .before .before .before .before .before .before in
+    let entry = c .before .before .before .before .before .before .before .before .before .before .before .before .before .before .before .before in
     let a = entry .args in
     let l = c .before .before .before .before .before .before .before .before .before .before .before .loop in
     let t = c .before .before .before .before .before .before .before .before .before in
@@ -97,9 +98,9 @@ loop-again c =
       g .ensures .0 ∙ l .inv .1,
       search needs,
       g .ensures .1 .0 .1 ∙ l .inv .3,
-      subst (Runs (g .last .1 .1 .0) (g .result)) (omega (arith, w .0, w .2)) (g .ensures .1 .0 .0),
+      subst (Runs (g .last .1 .1 .1 .0) (g .result)) (omega (arith, w .0, w .2)) (g .ensures .1 .0 .0),
       runs-turn (edgesOf (a .scratch .now) (a .line .edges)) (a .line .nonzero) (a .line .x) (a .line .y) (expand (l .runs) (l .n))
-          (expand (g .last .1 .1 .0) (g .result)) (l .i) e _ (w .0) (w .2) (l .inv .5)
+          (expand (g .last .1 .1 .1 .0) (g .result)) (l .i) e _ (w .0) (w .2) (l .inv .5)
           (g .ensures .1 .1 ∙ ap (λ (s : List ℤ). expand (l .runs) (l .n) ++ f s) (l .inv .1)),
     )
 
@@ -114,7 +115,7 @@ same-length-3 c = search needs
 
 returns : tie.Need-returns Inv-loop μ-loop
 returns c =
-    let a = c .before .before .before .before .before .args in
+    let a = c .before .before .before .before .before .before .args in
     let l = c .before .loop in
     let e : l .i ≡ length (a .marks .now) = omega (arith, l .inv .0, l .inv .2) in (
       l .inv .1,

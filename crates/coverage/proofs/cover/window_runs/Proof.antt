@@ -18,28 +18,28 @@ use Rattle.coverage.proofs.cover.window_runs.Statement.{statement}
 use Rattle.coverage.proofs.cover.window_runs.Tie as tie
 
 -- the part that is lent
-lent : (c : tie.After-add-edges)
-    → let a = c .before .before .before .before .before .before .before .before .before .before .before .before .before .args in
+lent : (c : tie.After-add-listed)
+    → let a = c .before .before .before .before .before .before .before .before .before .before .before .before .before .before .args in
     let w = length (c .before .before .before .before .before .before .before .before .unmark .last .0) in
     let n = a .line .edges in
-    take (n * 4 + w * 16 - n * 4) (drop (n * 4) (c .add-edges .last .0))
+    take (n * 4 + w * 16 - n * 4) (drop (n * 4) (c .add-listed .last .0))
     ≡ sumsOf (4 * (a .line .x + a .from)) w (a .line .y) (edgesOf (a .scratch .now) n)
 lent c =
-    let entry = c .before .before .before .before .before .before .before .before .before .before .before .before .before in
+    let entry = c .before .before .before .before .before .before .before .before .before .before .before .before .before .before in
     let a = entry .args in
     let u = c .before .before .before .before .before .before .before .before .unmark in
     let w = length (u .last .0) in
     let n = a .line .edges in
     let es = edgesOf (a .scratch .now) n in
     let x = a .line .x + a .from in
-    part-is (n * 4) (w * 16) (a .scratch .now) (sumsOf (4 * x) w (a .line .y) es) (c .add-edges .last .0) (omega (arith, u .kept .0, entry .pre .1 .0 .2))
-    (sums-long (4 * x) w (a .line .y) es) (c .add-edges .ensures .0)
+    part-is (n * 4) (w * 16) (a .scratch .now) (sumsOf (4 * x) w (a .line .y) es) (c .add-listed .last .0) (omega (arith, u .kept .0, entry .pre .1 .0 .2))
+    (sums-long (4 * x) w (a .line .y) es) (c .add-listed .ensures .0)
 
 slice-aggregate-unmark : tie.Need-slice-aggregate-unmark
 slice-aggregate-unmark c = search needs
 
 unmark-requires : tie.Need-unmark-requires
-unmark-requires c κs = (omega (arith, c .before .before .before .before .pre .1 .0 .1), refl)
+unmark-requires c κs = (omega (arith, c .before .before .before .before .before .pre .1 .0 .1), refl)
 
 mul-at : tie.Need-mul-at
 mul-at c = search needs
@@ -50,25 +50,28 @@ mul-end c = search needs
 add-end : tie.Need-add-end
 add-end c = search needs
 
-add-add-edges : tie.Need-add-add-edges
-add-add-edges c = search needs
+add-add-listed : tie.Need-add-add-listed
+add-add-listed c = search needs
 
-mul-add-edges : tie.Need-mul-add-edges
-mul-add-edges c = search needs
+mul-add-listed : tie.Need-mul-add-listed
+mul-add-listed c = search needs
 
-slice-aggregate-add-edges : tie.Need-slice-aggregate-add-edges
-slice-aggregate-add-edges c = search needs
+slice-aggregate-add-listed : tie.Need-slice-aggregate-add-listed
+slice-aggregate-add-listed c = search needs
 
-add-edges-requires : tie.Need-add-edges-requires
-add-edges-requires c κs =
-    let entry = c .before .before .before .before .before .before .before .before .before .before .before .before in
+add-listed-requires : tie.Need-add-listed-requires
+add-listed-requires c κs =
+    let entry = c .before .before .before .before .before .before .before .before .before .before .before .before .before in
     let a = entry .args in
     let u = c .before .before .before .before .before .before .before .unmark in
-    let p = entry .pre .0 in
+    let p = entry .pre .0 .0 in
     let n = a .line .edges in
     let r : n * 4 + length (u .last .0) * 16 ≤ length (a .scratch .now) = omega (arith, u .kept .0, entry .pre .1 .0 .2) in (
       (entry .pre .1 .0 .0, omega (arith, u .kept .0, entry .pre .1 .0 .1), u .ensures),
-      (record { few = p .few; room = r; small = p .small }, clear-laid (a .scratch .now) n (length (u .last .0) * 16) r (p .clear)),
+      (
+        record { few = p .few; room = r; small = p .small },
+        (clear-laid (a .scratch .now) n (length (u .last .0) * 16) r (p .clear), entry .pre .0 .1),
+      ),
     )
 
 mul-take-runs : tie.Need-mul-take-runs
@@ -88,16 +91,16 @@ slice-aggregate-take-runs c = search needs
 
 take-runs-requires : tie.Need-take-runs-requires
 take-runs-requires c κs =
-    let entry = c .before .before .before .before .before .before .before .before .before .before .before .before .before .before .before .before .before .before .before .before .before in
+    let entry = c .before .before .before .before .before .before .before .before .before .before .before .before .before .before .before .before .before .before .before .before .before .before in
     let a = entry .args in
-    let g = c .before .before .before .before .before .before .before .before .add-edges in
+    let g = c .before .before .before .before .before .before .before .before .add-listed in
     let u = c .before .before .before .before .before .before .before .before .before .before .before .before .before .before .before .before .unmark in
     let w = length (u .last .0) in
     let es = edgesOf (a .scratch .now) (a .line .edges) in
     let x = a .line .x + a .from in
-    let d = g .last .1 .1 .1 .1 .0 in
-    let k : length d ≡ w = g .kept .1 .1 .1 .1 .0 in
-    let few : length es ≤ 1000000 = omega (arith, tab-length (a .line .edges) (edgeAt (a .scratch .now)), entry .pre .0 .few) in (
+    let d = g .last .1 .1 .1 .1 .1 .0 in
+    let k : length d ≡ w = g .kept .1 .1 .1 .1 .1 .0 in
+    let few : length es ≤ 1000000 = omega (arith, tab-length (a .line .edges) (edgeAt (a .scratch .now)), entry .pre .0 .0 .few) in (
       subst (λ (t : List ℤ). (length t ≡ length d * 16) × Marked d (at t) × Tame t (length d * 4)) (sym (lent (c .before .before .before .before .before .before .before .before))) (
         sums-long (4 * x) w (a .line .y) es ∙ ap (λ (n : ℕ). n * 16) (sym k),
         sums-marked (4 * x) w (a .line .y) es d k (g .ensures .1 .0),
@@ -120,10 +123,10 @@ same-length-3 c = search needs
 
 returns : tie.Need-returns
 returns c =
-    let entry = c .before .before .before .before .before .before .before .before .before .before .before .before .before .before .before .before .before .before .before .before .before .before .before .before .before in
+    let entry = c .before .before .before .before .before .before .before .before .before .before .before .before .before .before .before .before .before .before .before .before .before .before .before .before .before .before in
     let a = entry .args in
     let u = c .before .before .before .before .before .before .before .before .before .before .before .before .before .before .before .before .before .before .before .before .unmark in
-    let g = c .before .before .before .before .before .before .before .before .before .before .before .before .add-edges in
+    let g = c .before .before .before .before .before .before .before .before .before .before .before .before .add-listed in
     let t = c .before .before .before .take-runs in
     let w = length (u .last .0) in
     let n = a .line .edges in
@@ -131,9 +134,9 @@ returns c =
     let x = a .line .x + a .from in
     let long = sums-long (4 * x) w (a .line .y) es in
     let r : n * 4 + w * 16 ≤ length (a .scratch .now) = omega (arith, u .kept .0, entry .pre .1 .0 .2) in
-    let k : length (g .last .1 .1 .1 .1 .0) ≡ w = g .kept .1 .1 .1 .1 .0 in (
+    let k : length (g .last .1 .1 .1 .1 .1 .0) ≡ w = g .kept .1 .1 .1 .1 .1 .0 in (
       given-back (n * 4) (w * 16) (a .scratch .now) (sumsOf (4 * x) w (a .line .y) es) (g .last .0) r long (g .ensures .0) (t .last .0)
-          (clear-laid (a .scratch .now) n (w * 16) r (entry .pre .0 .clear)
+          (clear-laid (a .scratch .now) n (w * 16) r (entry .pre .0 .0 .clear)
           ∙ ap (laid (n * 4) (w * 16) (a .scratch .now)) (sym (t .ensures .0 ∙ ap zeros (ap length (lent (c .before .before .before .before .before .before .before .before .before .before .before .before)) ∙ long)))),
       (
         (
@@ -156,10 +159,10 @@ window-runs-spec =
     mul-at
     mul-end
     add-end
-    add-add-edges
-    mul-add-edges
-    slice-aggregate-add-edges
-    add-edges-requires
+    add-add-listed
+    mul-add-listed
+    slice-aggregate-add-listed
+    add-listed-requires
     mul-take-runs
     sub-take-runs
     part-take-runs-start
