@@ -5,9 +5,12 @@ pub mod Begin
 pub mod Laid
 pub mod Starts
 pub mod Turn
+pub mod Listed
 pub mod Tally
 pub mod Zeros
+pub mod Groups
 pub mod Cells
+pub mod Walked
 pub mod Window
 pub mod Limits
 pub mod Telescope

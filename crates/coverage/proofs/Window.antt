@@ -112,6 +112,13 @@ module _ (es : List Edge) (nonZero : Bool) (x y : ℕ) where
   abbrev pub kOf : ℕ → ℕ
   kOf i = coverage es nonZero (x + i) y
 
+  together : (i m : ℕ) → tab m (λ j. coverage es nonZero (x + i + j) y) ≡ tab m (λ j. kOf (i + j))
+  together i m =
+      tab-same m (λ j. coverage es nonZero (x + i + j) y) (λ j. kOf (i + j)) (λ j h. ap (λ (k : ℕ). coverage es nonZero k y) (added x i j))
+    where
+      added : (x i j : ℕ) → x + i + j ≡ x + (i + j)
+      added x i j = omega arith
+
   pub row-turn : (s d q : List ℕ) (i e : ℕ) → i ≤ e → e ≤ length d → length s ≡ length d → s ≡ over (tab i kOf) d
       → q ≡ tab (length (take (e - i) (drop i s))) (λ j. coverage es nonZero (x + i + j) y) → take i s ++ (q ++ drop (e - i) (drop i s)) ≡ over (tab e kOf) d
   row-turn s d q i e a b long o p =
@@ -119,10 +126,13 @@ module _ (es : List Edge) (nonZero : Bool) (x y : ℕ) where
       let w : i + (e - i) ≡ e = omega arith in
       let g : q ≡ tab (e - i) (λ j. kOf (i + j)) =
       p ∙ ap (λ (m : ℕ). tab m (λ j. coverage es nonZero (x + i + j) y)) n
-      ∙ tab-same (e - i) (λ j. coverage es nonZero (x + i + j) y) (λ j. kOf (i + j)) (λ j h. ap (λ (m : ℕ). coverage es nonZero m y) (together x i j)) in
+      ∙ together i (e - i) in
       ap₂ (λ (t u : List ℕ). take i t ++ (u ++ drop (e - i) (drop i t))) o g
       ∙ over-part (tab i kOf) d (tab (e - i) (λ j. kOf (i + j))) i (e - i) (tab-length i kOf) (tab-length (e - i) (λ j. kOf (i + j))) (omega arith)
       ∙ ap (λ (t : List ℕ). over t d) (tab-join i (e - i) kOf ∙ ap (λ (m : ℕ). tab m kOf) w)
-    where
-      together : (x i j : ℕ) → x + i + j ≡ x + (i + j)
-      together x i j = omega arith
+
+  -- the window's k after those of the pixels before it
+  pub runs-turn : (s t : List ℕ) (i e m : ℕ) → i ≤ e → m ≡ e - i → s ≡ tab i kOf → t ≡ s ++ tab m (λ j. coverage es nonZero (x + i + j) y) → t ≡ tab e kOf
+  runs-turn s t i e m a w o p =
+      let n : i + m ≡ e = omega arith in
+      p ∙ ap₂ (λ (u v : List ℕ). u ++ v) o (together i m) ∙ tab-join i m kOf ∙ ap (λ (k : ℕ). tab k kOf) n

@@ -2,3 +2,5 @@
 pub mod Winding
 pub mod Scissors
 pub mod Scanline
+pub mod Marks
+pub mod Band

@@ -2,7 +2,10 @@
 // sample row r, so that the 16 numbers of a pixel stand together.
 use crate::Start;
 use crate::column::start;
+use crate::marks::touch;
 use path::edges::load;
+use rect::least;
+use rect::most;
 ghost use mathlib.Core.Path.{_≡_};
 ghost use mathlib.Core.Bool.{cond};
 ghost use Prim.Native.Nat.{_+_, _*_, _/_, _^_, _<_, _≤_};
@@ -11,6 +14,8 @@ ghost use lib.IntN.{pos, natAbs};
 ghost use lib.ListN.{length, getD, set};
 ghost use Rattle.path.specs.Stored.{edgesOf};
 ghost use Rattle.coverage.specs.Scanline.{laid, zeros, missed, bumped, sumsAt, withSums, Edges, Marked};
+ghost use Rattle.coverage.specs.Marks.{Grouped};
+ghost use Rattle.coverage.specs.Band.{Needed};
 
 // Whether an edge has no sample row of the pixel row y between its ends.
 fn misses(y0: i32, y1: i32, y: usize) -> bool
@@ -25,32 +30,52 @@ fn misses(y0: i32, y1: i32, y: usize) -> bool
     if last < y0 { last < y1 } else { false }
 }
 
-// Adds to the number of column at and sample row r, and marks its pixel. Right of the window nothing is to be done.
-fn put(scratch: &mut [i32], base: usize, cover: &mut [u8], r: usize, at: usize, by: i32)
+// Adds to the number of column at and sample row r, and marks its pixel and its group. Right of the window nothing is to be done.
+fn put(
+    scratch: &mut [i32],
+    base: usize,
+    cover: &mut [u8],
+    groups: &mut [u16],
+    r: usize,
+    at: usize,
+    by: i32,
+)
     requires { ⌜ (r < 4) × (base + length (now cover) * 16 ≤ length (now scratch)) × (natAbs by ≤ 1) ⌝ }
+    requires { ⌜ Grouped (now cover) (now groups) ⌝ }
     requires { ⌜ (at / 4 < length (now cover) → natAbs (getD (now scratch) (base + (at * 4 + r)) (pos 0)) ≤ 1000000) ⌝ }
     ensures { λ _. ⌜ now (scratch .exit)
         ≡ cond (ltb (at / 4) (length (now (cover .entry)))) (bumped (now (scratch .entry)) (base + (at * 4 + r)) by) (now (scratch .entry)) ⌝ }
     ensures { λ _. ⌜ now (cover .exit) ≡ set (now (cover .entry)) (at / 4) 1 ⌝ }
+    ensures { λ _. ⌜ Grouped (now (cover .exit)) (now (groups .exit)) ⌝ }
 {
     let p = at / 4;
     if cover.len() <= p {
         return;
     }
     cover[p] = 1;
+    touch(groups, p);
     let i = base + (at * 4 + r);
     let v = scratch[i] + by;
     scratch[i] = v;
 }
 
 // Adds what the ith edge begins in the pixel row y, in the window from column c on.
-fn add_edge(scratch: &mut [i32], n: usize, i: usize, c: usize, y: usize, cover: &mut [u8])
-    requires { ⌜ (i < n) × (y < 1024) × (c + length (now cover) * 4 < 2 ^ 31) ⌝ }
+fn add_edge(
+    scratch: &mut [i32],
+    n: usize,
+    i: usize,
+    c: usize,
+    y: usize,
+    cover: &mut [u8],
+    groups: &mut [u16],
+)
+    requires { ⌜ (i < n) × (y < 1024) × (c + length (now cover) * 4 < 2 ^ 31) × Grouped (now cover) (now groups) ⌝ }
     requires { ⌜ Edges (now scratch) n (length (now cover) * 16) ⌝ }
     requires { ⌜ now scratch ≡ withSums n (length (now cover)) c y i (now scratch) ⌝ }
     requires { ⌜ Marked (now cover) (sumsAt c (length (now cover) * 4) y (edgesOf (now scratch) i)) ⌝ }
     ensures { λ _. ⌜ now (scratch .exit) ≡ withSums n (length (now (cover .entry))) c y (i + 1) (now (scratch .entry)) ⌝ }
     ensures { λ _. ⌜ Marked (now (cover .exit)) (sumsAt c (length (now (cover .entry)) * 4) y (edgesOf (now (scratch .entry)) (i + 1))) ⌝ }
+    ensures { λ _. ⌜ Grouped (now (cover .exit)) (now (groups .exit)) ⌝ }
 {
     let e = load(scratch, i);
     let y0 = e.y0;
@@ -65,22 +90,55 @@ fn add_edge(scratch: &mut [i32], n: usize, i: usize, c: usize, y: usize, cover: 
         let s = start(e, (64 * (4 * y + r) + 32) as i32, c, k);
         let at = s.at;
         let by = s.by;
-        put(scratch, base, cover, r, at, by);
+        put(scratch, base, cover, groups, r, at, by);
         r += 1;
     }
 }
 
 // Adds what all n edges begin in the pixel row y, in the window from column c on, and marks the pixels where something begins.
-pub fn add_edges(scratch: &mut [i32], n: usize, c: usize, y: usize, cover: &mut [u8])
-    requires { ⌜ (y < 1024) × (c + length (now cover) * 4 < 2 ^ 31) ⌝ }
+pub fn add_edges(
+    scratch: &mut [i32],
+    n: usize,
+    c: usize,
+    y: usize,
+    cover: &mut [u8],
+    groups: &mut [u16],
+)
+    requires { ⌜ (y < 1024) × (c + length (now cover) * 4 < 2 ^ 31) × Grouped (now cover) (now groups) ⌝ }
     requires { ⌜ Edges (now scratch) n (length (now cover) * 16) ⌝ }
     requires { ⌜ now scratch ≡ laid (n * 4) (length (now cover) * 16) (now scratch) (zeros (length (now cover) * 16)) ⌝ }
     ensures { λ _. ⌜ now (scratch .exit) ≡ withSums n (length (now (cover .entry))) c y n (now (scratch .entry)) ⌝ }
     ensures { λ _. ⌜ Marked (now (cover .exit)) (sumsAt c (length (now (cover .entry)) * 4) y (edgesOf (now (scratch .entry)) n)) ⌝ }
+    ensures { λ _. ⌜ Grouped (now (cover .exit)) (now (groups .exit)) ⌝ }
 {
     let mut i = 0;
     while i < n {
-        add_edge(scratch, n, i, c, y, cover);
+        add_edge(scratch, n, i, c, y, cover, groups);
         i += 1;
+    }
+}
+
+// The same from the listed edges alone, where the others miss the row.
+pub fn add_listed(
+    scratch: &mut [i32],
+    n: usize,
+    list: &[u32],
+    c: usize,
+    y: usize,
+    cover: &mut [u8],
+    groups: &mut [u16],
+)
+    requires { ⌜ (y < 1024) × (c + length (now cover) * 4 < 2 ^ 31) × Grouped (now cover) (now groups) ⌝ }
+    requires { ⌜ Edges (now scratch) n (length (now cover) * 16) ⌝ }
+    requires { ⌜ now scratch ≡ laid (n * 4) (length (now cover) * 16) (now scratch) (zeros (length (now cover) * 16)) ⌝ }
+    requires { ⌜ Needed (now scratch) n y (now list) ⌝ }
+    ensures { λ _. ⌜ now (scratch .exit) ≡ withSums n (length (now (cover .entry))) c y n (now (scratch .entry)) ⌝ }
+    ensures { λ _. ⌜ Marked (now (cover .exit)) (sumsAt c (length (now (cover .entry)) * 4) y (edgesOf (now (scratch .entry)) n)) ⌝ }
+    ensures { λ _. ⌜ Grouped (now (cover .exit)) (now (groups .exit)) ⌝ }
+{
+    let mut j = 0;
+    while j < list.len() {
+        add_edge(scratch, n, list[j] as usize, c, y, cover, groups);
+        j += 1;
     }
 }

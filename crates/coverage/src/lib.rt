@@ -1,13 +1,29 @@
 // Coverage: how many of a pixel's 16 samples lie inside a path.
+pub mod band;
 mod column;
 pub mod cover;
 mod edges;
+mod marks;
 mod samples;
 pub mod scissors;
+mod walk;
 pub mod zero;
 
+pub use crate::band::filter_edges;
 pub use crate::cover::coverage_row;
+pub use crate::cover::coverage_runs;
 pub use crate::scissors::scissor_row;
+
+// The numbers that groups of marks take: 32 groups of 32 pixels, and two numbers more.
+const GROUP_NUMBERS: usize = 34;
+
+// A row of pixels from (x, y) on, how many edges its path has, and the path's fill rule.
+pub struct Line {
+    pub edges: usize,
+    pub x: usize,
+    pub y: usize,
+    pub nonzero: bool,
+}
 
 // Where an edge's count begins in a row of columns, and what it counts.
 struct Start {

@@ -80,7 +80,7 @@ fn full_of(nonzero: bool, a: i32, b: i32, c: i32, d: i32) -> u8
 }
 
 // Pixel p, after z, with its 16 numbers, which are set to 0.
-fn take_cell(sums: &mut [i32], p: usize, z: Cell, nonzero: bool) -> Cell
+pub fn take_cell(sums: &mut [i32], p: usize, z: Cell, nonzero: bool) -> Cell
     requires { ⌜ (p * 16 + 16 ≤ length (now sums)) × Bounded z ⌝ }
     requires { ⌜ ((j : ℕ) → Low (at (now sums) (p * 16 + j))) ⌝ }
     ensures { λ r. ⌜ r ≡ cellFrom nonzero z (λ j. at (now (sums .entry)) (p * 16 + j)) ⌝ }

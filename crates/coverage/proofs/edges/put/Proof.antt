@@ -1,7 +1,8 @@
 -- `coverage::edges::put` meets its contract. Assumes nothing.
-use mathlib.Core.Path.{refl, sym, ap, _∙_}
+use mathlib.Core.Path.{refl, sym, ap, subst, _∙_}
+use mathlib.Core.List.{List}
 use mathlib.Core.Bool.{Bool, cond}
-use Prim.Native.Nat.{_+_, _*_, _/_}
+use Prim.Native.Nat.{ℕ, _+_, _*_, _/_}
 use native.Mathlib.Omega.{arith}
 use lib.IntN.{pos}
 use lib.ListN.{length, getD, set}
@@ -10,27 +11,34 @@ use borrow.Author.Tests.{lt-ltb, le-ltb}
 use mir.Syntax.{w32}
 use Rattle.fixed.proofs.Means.{Num, need, keep, add}
 use Rattle.coverage.specs.Scanline.{bumped}
+use Rattle.coverage.specs.Marks.{Grouped}
 use Rattle.coverage.proofs.Begin.{sized}
+use Rattle.coverage.proofs.Groups.{touched-grouped}
 use borrow.Author.Needs.{needs}
 use Rattle.coverage.proofs.edges.put.Statement.{statement}
 use Rattle.coverage.proofs.edges.put.Tie as tie
 
 abbrev sum : tie.Else1 → Num
 sum c =
-    let a = c .before .args in
-    add (sized 1000000 (getD (a .scratch .now) (a .base + (a .at * 4 + a .r)) (pos 0)) tt (c .before .pre .1 (omega arith)))
-    (sized 1 (a .by) tt (c .before .pre .0 .2))
+    let entry = c .before .before .before in
+    let a = entry .args in
+    add (sized 1000000 (getD (a .scratch .now) (a .base + (a .at * 4 + a .r)) (pos 0)) tt (entry .pre .1 .1 (omega arith)))
+    (sized 1 (a .by) tt (entry .pre .0 .2))
 
 returns : tie.Need-returns
 returns c =
-    let a = c .before .args in (
+    let entry = c .before .before .before in
+    let a = entry .args in (
       ap (λ (t : Bool). cond t (bumped (a .scratch .now) (a .base + (a .at * 4 + a .r)) (a .by)) (a .scratch .now))
           (sym (le-ltb (a .at / 4) (length (a .cover .now)) (omega arith))),
-      sym (set-out (a .cover .now) (a .at / 4) 1 (omega arith)),
+      (sym (set-out (a .cover .now) (a .at / 4) 1 (omega arith)), entry .pre .1 .0),
     )
 
 slice-write-cover : tie.Need-slice-write-cover
 slice-write-cover c = search needs
+
+touch-requires : tie.Need-touch-requires
+touch-requires c κs = let entry = c .before .before .before .before in (omega (arith, entry .pre .1 .0 .wide), entry .pre .1 .0 .long)
 
 mul-i : tie.Need-mul-i
 mul-i c = search needs
@@ -48,7 +56,7 @@ slice-copy-out-v : tie.Need-slice-copy-out-v
 slice-copy-out-v c = search needs
 
 add-v : tie.Need-add-v
-add-v c = need (sum (c .before)) tt
+add-v c = need (sum (c .before .before .before .before .before)) tt
 
 mul-v-2 : tie.Need-mul-v-2
 mul-v-2 c = search needs
@@ -62,14 +70,22 @@ same-length c = search needs
 same-length-2 : tie.Need-same-length-2
 same-length-2 c = search needs
 
+same-length-3 : tie.Need-same-length-3
+same-length-3 c = search needs
+
 returns-2 : tie.Need-returns-2
 returns-2 c =
-    let e = c .before in
-    let a = e .before .args in (
+    let e = c .before .before .before .before .before in
+    let entry = e .before .before .before in
+    let a = entry .args in (
       ap (set (a .scratch .now) (a .base + (a .at * 4 + a .r))) (keep w32 (sum e) tt .same)
           ∙ ap (λ (t : Bool). cond t (bumped (a .scratch .now) (a .base + (a .at * 4 + a .r)) (a .by)) (a .scratch .now))
           (sym (lt-ltb (a .at / 4) (length (a .cover .now)) (omega arith))),
-      refl,
+      (
+        refl,
+        subst (λ (t : List ℕ). Grouped (set (a .cover .now) (a .at / 4) 1) t) (sym (c .before .before .before .touch .ensures))
+            (touched-grouped (a .cover .now) (a .groups .now) (a .at / 4) (omega arith) (entry .pre .1 .0)),
+      ),
     )
 
 pub put-spec : {M : Type 1} → statement M
@@ -78,6 +94,7 @@ put-spec =
     (tie.spec
     returns
     slice-write-cover
+    touch-requires
     mul-i
     add-i
     add-i-2
@@ -88,4 +105,5 @@ put-spec =
     slice-set-from-v
     same-length
     same-length-2
+    same-length-3
     returns-2)

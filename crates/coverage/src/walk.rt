@@ -1,0 +1,81 @@
+// From what begins at each column to runs of pixels that are covered alike. Only marked groups of pixels and marked pixels are looked at.
+use crate::Cell;
+use crate::samples::take_cell;
+use rect::least;
+ghost use mathlib.Core.Path.{_≡_};
+ghost use mathlib.Core.List.{_++_};
+ghost use Prim.Native.Nat.{_+_, _*_, _<_, _≤_};
+ghost use lib.ListN.{length};
+ghost use Rattle.lists.specs.Lists.{tab};
+ghost use Rattle.runs.specs.Runs.{expand, Runs};
+ghost use Rattle.coverage.specs.Scanline.{at, zeros, pixelOf, Marked, Tame};
+ghost use Rattle.coverage.specs.Marks.{Grouped, Blank};
+
+// The runs of a window by the sums, which are set to 0, and the marks, after the n runs of the pixels before it. Returns how many runs there are then.
+pub fn take_runs(
+    sums: &mut [i32],
+    marks: &[u8],
+    groups: &[u16],
+    nonzero: bool,
+    runs: &mut [u16],
+    n: usize,
+    from: usize,
+) -> usize
+    requires { ⌜ (length (now sums) ≡ length (now marks) * 16) × Marked (now marks) (at (now sums)) × Tame (now sums) (length (now marks) * 4) ⌝ }
+    requires { ⌜ Grouped (now marks) (now groups) ⌝ }
+    requires { ⌜ Runs (now runs) n from × (from + length (now marks) ≤ length (now runs)) × (from + length (now marks) < 2048) ⌝ }
+    ensures { λ _. ⌜ now (sums .exit) ≡ zeros (length (now (sums .entry))) ⌝ }
+    ensures { λ r. ⌜ Runs (now (runs .exit)) r (from + length (now (marks .entry))) × (length (now (runs .exit)) ≡ length (now (runs .entry))) ⌝ }
+    ensures { λ r. ⌜ expand (now (runs .exit)) r
+        ≡ expand (now (runs .entry)) n ++ tab (length (now (marks .entry))) (pixelOf nonzero (now (sums .entry))) ⌝ }
+{
+    let mut z = Cell {
+        a: 0,
+        b: 0,
+        c: 0,
+        d: 0,
+        full: 0,
+        count: 0,
+    };
+    let mut e = next_mark(marks, groups, least(groups[32] as usize, marks.len()));
+    let mut m = runs::push(runs, n, from, from + e, 0);
+    while e < marks.len() {
+        z = take_cell(sums, e, z, nonzero);
+        let p = e + 1;
+        m = runs::push(runs, m, from + e, from + p, z.count);
+        e = next_mark(marks, groups, p);
+        m = runs::push(runs, m, from + p, from + e, z.full);
+    }
+    m
+}
+
+// The first marked pixel from p on, or the window's end.
+fn next_mark(marks: &[u8], groups: &[u16], p: usize) -> usize
+    requires { ⌜ (p ≤ length (now marks)) × Grouped (now marks) (now groups) ⌝ }
+    ensures { λ r. ⌜ Blank (now (marks .entry)) p r ⌝ }
+{
+    let end = groups[33] as usize;
+    let mut e = p;
+    while e < end {
+        let next = skip(marks, groups, e);
+        if next == e {
+            return e;
+        }
+        e = next;
+    }
+    marks.len()
+}
+
+// Where to look after e: at the next group, at the next pixel, or at e itself, which is marked.
+fn skip(marks: &[u8], groups: &[u16], e: usize) -> usize
+    requires { ⌜ (e < length (now marks)) × Grouped (now marks) (now groups) ⌝ }
+    ensures { λ r. ⌜ Blank (now (marks .entry)) e r ⌝ }
+{
+    if groups[e / 32] == 0 {
+        return least(e / 32 * 32 + 32, marks.len());
+    }
+    if marks[e] == 0 {
+        return e + 1;
+    }
+    e
+}
