@@ -16,12 +16,20 @@ stored-small k b d h1 h2 h3 =
     let hd : d ≤ 255 = omega arith in
     omega (arith, mul-le-mul-right k hb, mul-le-mul-right (16 - k) hd)
 
--- the byte stored where nothing is covered, where B is all, and where B is the source's own byte
+-- the byte stored where nothing is covered, and where B is all
 pub uncovered-byte : (b d : ℕ) → storedUnmasked 0 b d ≡ d
 uncovered-byte b d = omega arith
 
 pub covered-byte : (b d : ℕ) → storedUnmasked 16 b d ≡ b
 covered-byte b d = omega arith
 
-pub replaced-byte : (s d : ℕ) → s < 256 → storedUnmasked 16 (blended s 255 d 0) d ≡ s
+-- B where the source is taken whole: it is the source's own byte if nothing of the destination is kept
+pub replaced-byte : (s d : ℕ) → s < 256 → blended s 255 d 0 ≡ s
 replaced-byte s d h = omega arith
+
+-- else it comes out of the quotient, and the rest is divided by sums and shifts
+quotient-of : (s p m : ℕ) → p ≤ 65025 → m ≡ min (s + (p + 128 + (p + 128) / 256) / 256) 255 → m ≡ min 255 (s + (p + 127) / 255)
+quotient-of s p m h e = omega arith
+
+pub over-by-shifts : (s p m : ℕ) → p ≤ 65025 → m ≡ min (s + (p + 128 + (p + 128) / 256) / 256) 255 → m ≡ min 255 ((s * 255 + p + 127) / 255)
+over-by-shifts s p m h e = omega (arith, quotient-of s p m h e)

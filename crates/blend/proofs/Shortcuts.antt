@@ -1,14 +1,14 @@
 -- Where the step on a pixel needs less than the whole of its arithmetic: nothing covered, a paint that hides, a full coverage.
-use mathlib.Core.Path.{_≡_, refl, sym, subst}
-use mathlib.Core.Bool.{Bool, true, false, cond, not}
+use mathlib.Core.Path.{_≡_, refl, sym, subst, _∙_}
+use mathlib.Core.Bool.{Bool, true, false, cond}
 use Prim.Native.Nat.{ℕ, _<_}
 use lib.Dec.{T, eqb}
 use borrow.Author.Tests.{eqb-true, ne-eqb}
 use Rattle.color.specs.declared.Pixel.{Pixel}
-use Rattle.blend.specs.PorterDuff.{modeSrc, modeSrcOver, modeDstOver, modeSrcIn, sourceFactor, destinationFactor}
+use Rattle.blend.specs.PorterDuff.{modeSrc, modeSrcOver, sourceFactor, destinationFactor, storedUnmasked}
 use Rattle.blend.specs.PorterDuff.{clamped, compositeOn, composite}
 use Rattle.blend.specs.Unmasked.{unmaskedByte, unmaskedOn}
-use Rattle.blend.specs.Spans.{hides, fixedSource, blendedPixel}
+use Rattle.blend.specs.Spans.{hides, storedPixel}
 use Rattle.blend.proofs.Channel.{uncovered-byte, covered-byte, replaced-byte}
 
 -- where no sample is covered the pixel stays as it is; elsewhere it is read clamped
@@ -46,32 +46,24 @@ hiding-destination : (mode sa : ℕ) → hides mode sa ≡ true → destinationF
 unfolding destinationFactor
 hiding-destination mode sa h = by-hiding mode sa h (λ e. rw e) (λ e q. rw (e, q))
 
--- under a full coverage its bytes are stored
-pub hiding-replaces : (mode : ℕ) (s d : Pixel) → s .r < 256 → s .g < 256 → s .b < 256 → s .a < 256 → hides mode (s .a) ≡ true → unmaskedOn mode 16 s d ≡ s
+-- its bytes are stored as they are
+hidden-byte : (mode k da : ℕ) (sa s d : ℕ) → s < 256 → hides mode sa ≡ true → unmaskedByte mode k sa da s d ≡ storedUnmasked k s d
 unfolding unmaskedByte
-hiding-replaces mode s d r g b a h =
+hidden-byte mode k da sa s d l h = rw (hiding-source mode sa da h, hiding-destination mode sa h, replaced-byte s d l)
+
+pub hiding-stores : (mode k : ℕ) (s d : Pixel) → s .r < 256 → s .g < 256 → s .b < 256 → s .a < 256 → hides mode (s .a) ≡ true
+    → unmaskedOn mode k s d ≡ storedPixel k s d
+hiding-stores mode k s d r g b a h =
     rw (
-      hiding-source mode (s .a) (d .a) h,
-      hiding-destination mode (s .a) h,
-      replaced-byte (s .r) (d .r) r,
-      replaced-byte (s .g) (d .g) g,
-      replaced-byte (s .b) (d .b) b,
-      replaced-byte (s .a) (d .a) a,
+      hidden-byte mode k (d .a) (s .a) (s .r) (d .r) r h,
+      hidden-byte mode k (d .a) (s .a) (s .g) (d .g) g h,
+      hidden-byte mode k (d .a) (s .a) (s .b) (d .b) b h,
+      hidden-byte mode k (d .a) (s .a) (s .a) (d .a) a h,
     )
 
--- where Fs is the same at every alpha it is what it is at 0
-by-neither : {C : Type 0} (a b : Bool) → cond a false (not b) ≡ true → (a ≡ false → b ≡ false → C) → C
-by-neither true b h f = absurd (subst T (sym h) tt)
-by-neither false true h f = absurd (subst T (sym h) tt)
-by-neither false false h f = f refl refl
+-- under a full coverage nothing is left of what was there
+pub covered-stores : (s d : Pixel) → storedPixel 16 s d ≡ s
+covered-stores s d = rw (covered-byte (s .r) (d .r), covered-byte (s .g) (d .g), covered-byte (s .b) (d .b), covered-byte (s .a) (d .a))
 
-fixed-source : (mode da : ℕ) → fixedSource mode ≡ true → sourceFactor mode da ≡ sourceFactor mode 0
-unfolding sourceFactor
-fixed-source mode da h = by-neither (eqb mode modeDstOver) (eqb mode modeSrcIn) h (λ e q. rw (e, q))
-
--- under a full coverage B is stored
-pub covered-stores : (mode : ℕ) (s d : Pixel) → fixedSource mode ≡ true → blendedPixel s (sourceFactor mode 0) d (destinationFactor mode (s .a))
-    ≡ unmaskedOn mode 16 s d
-unfolding unmaskedByte
-covered-stores mode s d h =
-    rw (← fixed-source mode (d .a) h, covered-byte _ (d .r), covered-byte _ (d .g), covered-byte _ (d .b), covered-byte _ (d .a))
+pub hiding-replaces : (mode : ℕ) (s d : Pixel) → s .r < 256 → s .g < 256 → s .b < 256 → s .a < 256 → hides mode (s .a) ≡ true → unmaskedOn mode 16 s d ≡ s
+hiding-replaces mode s d r g b a h = hiding-stores mode 16 s d r g b a h ∙ covered-stores s d

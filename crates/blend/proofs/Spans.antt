@@ -1,14 +1,15 @@
--- Spans: pixels of a row that are covered alike.
-use mathlib.Core.Path.{_≡_, ap, _∙_}
+-- Spans: pixels of a row that are covered alike, and parts of a row that are lent.
+use mathlib.Core.Path.{_≡_, refl, ap, _∙_}
 use mathlib.Core.List.{List, _++_}
 use Prim.Native.Nat.{ℕ, _+_, _-_, _*_, _≤_, _<_}
 use native.Mathlib.Omega.{arith}
-use lib.ListN.{length, getD, take, drop}
+use lib.ListN.{length, getD, take, drop, length-take}
 use borrow.Author.Count.{below-more}
 use Rattle.color.specs.declared.Pixel.{Pixel}
 use Rattle.raster.specs.Surface.{run, pixelIn}
 use Rattle.raster.specs.Rows.{Stored}
-use Rattle.raster.proofs.Runs.{run-same, stored-part, part-pixel}
+use Rattle.raster.proofs.Pixels.{run-length, run-at, pixel-take, pixel-drop}
+use Rattle.raster.proofs.Runs.{run-is, run-same, stored-part, part-pixel}
 use Rattle.blend.specs.Spans.{Span}
 
 -- a span of one pixel, and of one pixel more
@@ -26,13 +27,25 @@ span-more ks i e t h q = record {
   level = λ j a b. below-more (λ j. i ≤ j → getD ks j 0 ≡ getD ks i 0) e (λ j b a. t .level j a b) (λ a. q) j b a;
 }
 
--- a turn of a loop that has g done at every pixel of a span, under the span's coverage
-pub span-turn : (g : ℕ → Pixel → Pixel) (ks s d q : List ℕ) (i e : ℕ) → Span ks i e → length d ≡ length ks * 4
-    → Stored (λ j. g (getD ks j 0) (pixelIn d j)) d i s
-    → q ≡ run (e - i) (λ j. g (getD ks i 0) (pixelIn (take (e * 4 - i * 4) (drop (i * 4) s)) j))
-    → Stored (λ j. g (getD ks j 0) (pixelIn d j)) d e (take (i * 4) s ++ (q ++ drop (e * 4 - i * 4) (drop (i * 4) s)))
-span-turn g ks s d q i e t l o u =
-    stored-part o q e (omega arith) (omega arith)
+-- a turn of a loop that has g done at every pixel: a part is lent, and h is done at every pixel of it
+pub part-turn : (g h : ℕ → Pixel → Pixel) (s d q : List ℕ) (i e : ℕ) → i ≤ e → e * 4 ≤ length d → Stored (λ j. g j (pixelIn d j)) d i s
+    → ((j : ℕ) → j < e - i → (p : Pixel) → h j p ≡ g (i + j) p) → q ≡ run (e - i) (λ j. h j (pixelIn (take (e * 4 - i * 4) (drop (i * 4) s)) j))
+    → Stored (λ j. g j (pixelIn d j)) d e (take (i * 4) s ++ (q ++ drop (e * 4 - i * 4) (drop (i * 4) s)))
+part-turn g h s d q i e a b o same u =
+    stored-part o q e a b
     (u
-    ∙ run-same (e - i) _ (λ j. g (getD ks (i + j) 0) (pixelIn d (i + j)))
-    (λ j h. rw (part-pixel o e j h, t .level (i + j) (omega arith) (omega arith))))
+    ∙ run-same (e - i) _ (λ j. g (i + j) (pixelIn d (i + j)))
+    (λ j l. same j l (pixelIn (take (e * 4 - i * 4) (drop (i * 4) s)) j) ∙ ap (g (i + j)) (part-pixel o e j l)))
+
+-- a paint of which the same part is lent
+pub part-paint : (s : List ℕ) (i e j : ℕ) → j < e - i → pixelIn (take (e * 4 - i * 4) (drop (i * 4) s)) j ≡ pixelIn s (i + j)
+part-paint s i e j h =
+    let w : e * 4 - i * 4 ≡ (e - i) * 4 = omega arith in
+    rw w (pixel-take (drop (i * 4) s) (e - i) j h ∙ pixel-drop s i j (i + j) refl)
+
+-- a paint of which c pixels of n are lent, all of them p
+pub laid-part : (n c w : ℕ) (p : Pixel) (s : List ℕ) → s ≡ run n (λ i. p) → c ≤ n → w ≡ c * 4 → take w s ≡ run c (λ i. p)
+laid-part n c w p s e h q =
+    rw (e, q)
+    (run-is c (λ i. p) (take (c * 4) (run n (λ i. p))) (length-take (c * 4) (run n (λ i. p)) ∙ omega (arith, run-length n (λ i. p)))
+    (λ i l. pixel-take (run n (λ i. p)) c i l ∙ run-at n (λ i. p) i (omega arith)))

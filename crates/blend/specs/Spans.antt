@@ -1,13 +1,14 @@
 -- What the row functions go by: pixels that are covered alike, and a paint that hides what is under it. Bookkeeping of the engine: no promise to a
 -- caller outside cites it, and a reviewer of the paper need not read it.
 use mathlib.Core.Path.{_≡_}
-use mathlib.Core.Bool.{Bool, true, false, cond, not}
+use mathlib.Core.Bool.{Bool, true, false, cond}
 use mathlib.Core.List.{List}
-use Prim.Native.Nat.{ℕ, _≤_, _<_}
+use Prim.Native.Nat.{ℕ, _+_, _-_, _*_, _≤_, _<_}
 use lib.Dec.{eqb}
 use lib.ListN.{length, getD}
 use Rattle.color.specs.declared.Pixel.{Pixel}
-use Rattle.blend.specs.PorterDuff.{modeSrc, modeSrcOver, modeDstOver, modeSrcIn, blended}
+use Rattle.raster.specs.Surface.{pixelIn}
+use Rattle.blend.specs.PorterDuff.{modeSrc, modeSrcOver, blended, storedUnmasked}
 
 -- from i to before e every pixel has the coverage of i
 pub record Span (ks : List ℕ) (i e : ℕ) : Type 0 where
@@ -19,9 +20,21 @@ pub record Span (ks : List ℕ) (i e : ℕ) : Type 0 where
 abbrev pub hides : ℕ → ℕ → Bool
 hides mode sa = cond (eqb mode modeSrc) true (cond (eqb mode modeSrcOver) (eqb sa 255) false)
 
--- Fs is the same whatever the destination's alpha
-abbrev pub fixedSource : ℕ → Bool
-fixedSource mode = cond (eqb mode modeDstOver) false (not (eqb mode modeSrcIn))
+-- the first n pixels of a paint all do
+abbrev pub Hiding : ℕ → List ℕ → ℕ → Type 0
+Hiding mode src n = (i : ℕ) → i < n → hides mode (pixelIn src i .a) ≡ true
+
+-- and have the alpha 255
+abbrev pub Opaque : List ℕ → ℕ → Type 0
+Opaque src n = (i : ℕ) → i < n → pixelIn src i .a ≡ 255
+
+-- a pixel as one number, the alpha highest
+abbrev pub wordOf : Pixel → ℕ
+wordOf p = p .r + p .g * 256 + p .b * 65536 + p .a * 16777216
+
+-- what a pixel's bytes keep of what is under them, under SrcOver
+abbrev pub keepPixel : Pixel → Pixel
+keepPixel s = record { r = 255 - s .a; g = 255 - s .a; b = 255 - s .a; a = 255 - s .a }
 
 -- B of each channel
 abbrev pub blendedPixel : Pixel → ℕ → Pixel → ℕ → Pixel
@@ -30,4 +43,13 @@ blendedPixel s fs d fd = record {
   g = blended (s .g) fs (d .g) fd;
   b = blended (s .b) fs (d .b) fd;
   a = blended (s .a) fs (d .a) fd;
+}
+
+-- what is stored of a pixel over another
+abbrev pub storedPixel : ℕ → Pixel → Pixel → Pixel
+storedPixel k b d = record {
+  r = storedUnmasked k (b .r) (d .r);
+  g = storedUnmasked k (b .g) (d .g);
+  b = storedUnmasked k (b .b) (d .b);
+  a = storedUnmasked k (b .a) (d .a);
 }

@@ -1,7 +1,7 @@
 // The blend modes and their factors, in 255ths (document 001, Table 15).
 ghost use mathlib.Core.Path.{_≡_};
 ghost use Rattle.blend.specs.PorterDuff.{isMode, sourceFactor, destinationFactor};
-ghost use Rattle.blend.specs.Spans.{hides, fixedSource};
+ghost use Rattle.blend.specs.Spans.{hides};
 
 // OpenVG's numbers.
 pub const SRC: u16 = 0x2000;
@@ -67,14 +67,4 @@ pub fn hides(mode: u16, sa: u8) -> bool
         return sa == 255;
     }
     false
-}
-
-// Whether the source's factor is the same at every alpha of the destination.
-pub fn fixed_source(mode: u16) -> bool
-    ensures { λ r. ⌜ r ≡ fixedSource mode ⌝ }
-{
-    if mode == DST_OVER {
-        return false;
-    }
-    mode != SRC_IN
 }

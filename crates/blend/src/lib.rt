@@ -1,6 +1,8 @@
 // Porter-Duff blending of premultiplied bytes under a coverage of 0 to 16 samples.
+pub mod bytewise;
 pub mod factor;
 pub mod row;
+pub mod span;
 pub mod step;
 
 pub use crate::factor::is_mode;

@@ -14,7 +14,7 @@ ghost use Prim.Native.Nat.{min, _≤_};
 ghost use lib.Dec.{leb};
 ghost use Rattle.blend.specs.PorterDuff.{isMode, blended, stored, storedUnmasked, clamped, compositeOn, composite, compositeAnswer};
 ghost use Rattle.blend.specs.Unmasked.{unmaskedOn};
-ghost use Rattle.blend.specs.Spans.{blendedPixel};
+ghost use Rattle.blend.specs.Spans.{blendedPixel, storedPixel};
 
 // The step called alone, on any numbers and any bytes.
 pub fn composite(mode: u32, coverage: u32, mask: u32, src: Pixel, dst: Pixel) -> Composited
@@ -98,17 +98,24 @@ pub fn blend_pixel(mode: u16, coverage: u8, src: Pixel, read: Pixel) -> Pixel
 {
     let fs = source_factor(mode, read.a);
     let fd = destination_factor(mode, src.a);
-    let b = blended_pixel(src, fs, read, fd);
+    stored_pixel(coverage, blended_pixel(src, fs, read, fd), read)
+}
+
+// What is stored of a pixel over another, without a mask.
+pub fn stored_pixel(coverage: u8, b: Pixel, d: Pixel) -> Pixel
+    requires { ⌜ coverage ≤ 16 ⌝ }
+    ensures { λ r. ⌜ r ≡ storedPixel coverage b d ⌝ }
+{
     Pixel {
-        r: stored_byte(coverage, b.r, read.r),
-        g: stored_byte(coverage, b.g, read.g),
-        b: stored_byte(coverage, b.b, read.b),
-        a: stored_byte(coverage, b.a, read.a),
+        r: stored_byte(coverage, b.r, d.r),
+        g: stored_byte(coverage, b.g, d.g),
+        b: stored_byte(coverage, b.b, d.b),
+        a: stored_byte(coverage, b.a, d.a),
     }
 }
 
 // B of each channel.
-pub fn blended_pixel(src: Pixel, fs: u8, dst: Pixel, fd: u8) -> Pixel
+fn blended_pixel(src: Pixel, fs: u8, dst: Pixel, fd: u8) -> Pixel
     ensures { λ r. ⌜ r ≡ blendedPixel src fs dst fd ⌝ }
 {
     Pixel {
@@ -160,14 +167,14 @@ fn blended_byte(s: u8, fs: u8, d: u8, fd: u8) -> u8
 }
 
 // The smaller of two.
-fn least(a: u16, b: u16) -> u16
+pub fn least(a: u16, b: u16) -> u16
     ensures { λ r. ⌜ r ≡ min a b ⌝ }
 {
     if a < b { a } else { b }
 }
 
 // What is stored of B over d, without a mask.
-fn stored_byte(coverage: u8, b: u8, d: u8) -> u8
+pub fn stored_byte(coverage: u8, b: u8, d: u8) -> u8
     requires { ⌜ coverage ≤ 16 ⌝ }
     ensures { λ r. ⌜ r ≡ storedUnmasked coverage b d ⌝ }
 {

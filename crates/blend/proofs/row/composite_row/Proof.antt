@@ -1,13 +1,15 @@
--- `blend::composite_row` meets its contract: the pixels before i are stored, and the others are as they were. Assumes nothing.
-use mathlib.Core.Path.{_≡_, ap₂, _∙_}
-use Prim.Native.Nat.{ℕ, _-_, _≤_}
+-- `blend::composite_row` meets its contract: the spans before i are stored, and the other pixels are as they were. Assumes nothing.
+use mathlib.Core.Path.{_≡_, sym, ap₂, _∙_}
+use Prim.Native.Nat.{ℕ, _+_, _-_, _*_, _≤_}
 use native.Mathlib.Omega.{arith}
-use lib.ListN.{length, getD}
+use lib.ListN.{length, getD, take, drop}
+use Rattle.lists.proofs.Laws.{part-length}
 use Rattle.color.specs.declared.Pixel.{Pixel}
 use Rattle.raster.specs.Surface.{pixelIn}
 use Rattle.raster.specs.Rows.{Stored}
-use Rattle.raster.proofs.Runs.{stored-none, stored-step, stored-all}
+use Rattle.raster.proofs.Runs.{stored-none, stored-all}
 use Rattle.blend.specs.Unmasked.{unmaskedOn}
+use Rattle.blend.proofs.Spans.{part-turn, part-paint}
 use Rattle.blend.proofs.Masks.{whole-mask-row}
 use borrow.Author.Needs.{needs}
 use Rattle.blend.proofs.row.composite_row.Statement.{statement}
@@ -23,51 +25,42 @@ abbrev μ-loop : tie.MeasureT-loop
 loop-holds : tie.Need-loop-holds Inv-loop μ-loop
 loop-holds c = (omega arith, stored-none _ _)
 
-shared-slice-read-unmasked-on : tie.Need-shared-slice-read-unmasked-on Inv-loop μ-loop
-shared-slice-read-unmasked-on c = search needs
-
-pixel-requires : tie.Need-pixel-requires Inv-loop μ-loop
-pixel-requires c κs = search needs
-
-pixel-requires-2 : tie.Need-pixel-requires-2 Inv-loop μ-loop
-pixel-requires-2 c κs = search needs
-
-unmasked-on-requires : tie.Need-unmasked-on-requires Inv-loop μ-loop
-unmasked-on-requires c κs =
-    let at-loop = c .before .before .before .before .before in
+composite-painted-requires : tie.Need-composite-painted-requires Inv-loop μ-loop
+composite-painted-requires c κs =
+    let after-span-end = c .before .before .before in
+    let at-loop = after-span-end .before .before in
     let entry = at-loop .before .before .before .before in
-    entry .pre .1 (at-loop .loop .i) (omega arith)
-
-put-pixel-requires : tie.Need-put-pixel-requires Inv-loop μ-loop
-put-pixel-requires c κs = search needs
-
-add-i : tie.Need-add-i Inv-loop μ-loop
-add-i c = search needs
-
-loop-less : tie.Need-loop-less Inv-loop μ-loop
-loop-less c = search needs
+    let l = at-loop .loop in
+    let e = after-span-end .span-end .result in
+    let t = after-span-end .span-end .ensures in
+    let low : l .i * 4 ≤ e * 4 = omega (arith, t .some) in
+    let size : e * 4 - l .i * 4 ≡ (e - l .i) * 4 = omega arith in (
+      entry .pre .1 (l .i) (omega (arith, t .some, t .within)),
+      part-length (entry .args .src .now) (l .i * 4) (e * 4) low (omega (arith, t .within, entry .pre .0 .0)) ∙ size,
+      part-length (l .row) (l .i * 4) (e * 4) low (omega (arith, t .within, entry .pre .0 .1, l .inv .1 .long)) ∙ size,
+    )
 
 loop-again : tie.Need-loop-again Inv-loop μ-loop
 loop-again c =
-    let after-put-pixel = c .before .before in
-    let after-unmasked-on = after-put-pixel .before .before in
-    let after-pixel2 = after-unmasked-on .before in
-    let after-pixel = after-pixel2 .before .before in
-    let at-loop = after-pixel .before .before .before in
+    let after-composite-painted = c .before .before in
+    let after-span-end = after-composite-painted .before .before .before .before in
+    let at-loop = after-span-end .before .before in
     let entry = at-loop .before .before .before .before in
     let a = entry .args in
-    let step : ℕ → Pixel → Pixel = λ j. unmaskedOn (a .mode) (getD (a .coverage .now) j 0) (pixelIn (a .src .now) j) in
-    let made = after-unmasked-on .unmasked-on in
-    let put = after-put-pixel .put-pixel in
-    let l = at-loop .loop in (
-      search needs,
-      stored-step step (l .inv .1) (put .last .0) (made .result) (put .ensures)
-          (made .ensures ∙ ap₂ (unmaskedOn (a .mode) (getD (a .coverage .now) (l .i) 0)) (after-pixel .pixel .ensures) (after-pixel2 .pixel2 .ensures))
-          (omega (arith, entry .pre .0 .1)),
+    let l = at-loop .loop in
+    let e = after-span-end .span-end .result in
+    let t = after-span-end .span-end .ensures in
+    let call = after-composite-painted .composite-painted in
+    let k = getD (a .coverage .now) (l .i) 0 in (
+      t .within,
+      part-turn (λ j. unmaskedOn (a .mode) (getD (a .coverage .now) j 0) (pixelIn (a .src .now) j))
+          (λ j. unmaskedOn (a .mode) k (pixelIn (take (e * 4 - l .i * 4) (drop (l .i * 4) (a .src .now))) j))
+          (l .row) (a .row .now) (call .last .1 .1 .1 .0) (l .i) e (omega (arith, t .some)) (omega (arith, t .within, entry .pre .0 .1)) (l .inv .1)
+          (λ j h p.
+          ap₂ (λ (m : ℕ) (q : Pixel). unmaskedOn (a .mode) m q p) (sym (t .level (l .i + j) (omega arith) (omega arith)))
+          (part-paint (a .src .now) (l .i) e j h))
+          (call .ensures),
     )
-
-same-length : tie.Need-same-length Inv-loop μ-loop
-same-length c = search needs
 
 returns : tie.Need-returns Inv-loop μ-loop
 returns c =
@@ -83,13 +76,24 @@ composite-row-spec =
     Inv-loop
     μ-loop
     loop-holds
-    shared-slice-read-unmasked-on
-    pixel-requires
-    pixel-requires-2
-    unmasked-on-requires
-    put-pixel-requires
-    add-i
-    loop-less
+    (λ c κs. search needs)
+    (λ c. search needs)
+    (λ c. search needs)
+    (λ c. search needs)
+    (λ c. search needs)
+    (λ c. omega (arith, c .before .span-end .ensures .some))
+    (λ c. omega (arith, c .before .span-end .ensures .within, c .before .before .before .before .before .before .before .pre .0 .0))
+    (λ c. search needs)
+    (λ c. omega (arith, c .before .before .span-end .ensures .some))
+    (λ c. omega (
+      arith,
+      c .before .before .span-end .ensures .within,
+      c .before .before .before .before .before .before .before .before .pre .0 .1,
+      c .before .before .before .before .loop .inv .1 .long,
+    ))
+    (λ c. search needs)
+    composite-painted-requires
+    (λ c. omega (arith, c .before .before .before .before .before .before .span-end .ensures .some))
     loop-again
-    same-length
+    (λ c. search needs)
     returns)

@@ -1,16 +1,15 @@
 -- `blend::blend_span` meets its contract: the pixels before i are stored, and the others are as they were. Assumes nothing.
-use mathlib.Core.Path.{_≡_, ap, _∙_}
+use mathlib.Core.Path.{ap, _∙_}
 use Prim.Native.Nat.{ℕ, _-_, _≤_}
 use native.Mathlib.Omega.{arith}
-use lib.ListN.{length}
 use Rattle.color.specs.declared.Pixel.{Pixel}
 use Rattle.raster.specs.Surface.{pixelIn}
 use Rattle.raster.specs.Rows.{Stored}
 use Rattle.raster.proofs.Runs.{stored-none, stored-step, stored-all}
 use Rattle.blend.specs.Unmasked.{unmaskedOn}
 use borrow.Author.Needs.{needs}
-use Rattle.blend.proofs.row.blend_span.Statement.{statement}
-use Rattle.blend.proofs.row.blend_span.Tie as tie
+use Rattle.blend.proofs.span.blend_span.Statement.{statement}
+use Rattle.blend.proofs.span.blend_span.Tie as tie
 
 abbrev Inv-loop : tie.InvT-loop
 Inv-loop mode coverage src row₀ n i₀ row i = (i ≤ n) × Stored (λ j. unmaskedOn mode coverage src (pixelIn row₀ j)) row₀ i row
