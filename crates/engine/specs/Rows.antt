@@ -4,16 +4,21 @@ use mathlib.Core.Path.{_≡_}
 use mathlib.Core.Bool.{Bool, true, cond}
 use mathlib.Core.List.{List}
 use lib.IntN.{ℤ, pos}
-use lib.ListN.{length, replicate}
+use lib.ListN.{length, take, drop, replicate}
+use Rattle.runs.specs.Runs.{startOf, expand, Runs}
 use Rattle.color.specs.declared.Pixel.{Pixel}
 use Rattle.rect.specs.declared.Rect.{Rect}
 use Rattle.rect.specs.Rects.{On}
 use Rattle.path.specs.declared.Edge.{Edge}
 use Rattle.path.specs.Stored.{edgesOf}
 use Rattle.coverage.specs.Scanline.{Outlined}
+use Rattle.coverage.specs.Band.{Needed, Band}
 use Rattle.coverage.specs.Scissors.{scissored}
 use Rattle.coverage.specs.Winding.{coverage}
+use Rattle.raster.specs.declared.Range.{Range}
+use Rattle.raster.specs.declared.Target.{Target}
 use Rattle.blend.specs.PorterDuff.{compositeOn}
+use Rattle.blend.specs.Rows.{Coverage}
 use Rattle.paint.specs.declared.AnyGradient.{AnyGradient}
 use Rattle.paint.specs.declared.AnyGradient.the-variants.{Linear, Radial}
 use Rattle.paint.specs.declared.LinearGradient.{LinearGradient}
@@ -23,7 +28,7 @@ use Rattle.paint.specs.declared.RadialPoints.{RadialPoints}
 use Rattle.paint.specs.Gradient.{fixedPoints}
 use Rattle.paint.specs.Radial.{fixedCircle, focalAllowed}
 use Rattle.paint.specs.Ramps.{rampOf}
-use Rattle.paint.specs.Buffers.{LimitedPoints, HeldRamp, Written}
+use Rattle.paint.specs.Buffers.{rampNumbers, LimitedPoints, HeldRamp, Written}
 use Rattle.paint.specs.Circles.{LimitedCircle, HeldGradient, gradientAt}
 use Rattle.transform.specs.Transforms.{transformed}
 use Rattle.scene.specs.Blocks.{drawOf}
@@ -77,6 +82,33 @@ Shaded (Gradient g) ramp = HeldGradient (g .gradient) ramp
 -- of the pixels of a row
 abbrev pub OnSurface : Strip → Type 0
 OnSurface s = (s .y < 1024) × (s .x + s .length ≤ 1024)
+
+-- of what is lent for a row of n pixels: a mark or k and the paint of each, and a run for each
+abbrev pub RowRoom : ℕ → List ℕ → List ℕ → Type 0
+RowRoom n buffer runs = (length buffer ≡ n * 5) × (length runs ≡ n)
+
+-- of the numbers behind the ramp, so many of them: every edge of the n that is not among them misses the row y, or every row from y to before end
+abbrev pub ListedFor : List ℤ → ℕ → List ℕ → ℕ → ℕ → Type 0
+ListedFor scratch n numbers count y = (rampNumbers + count ≤ length numbers) × Needed scratch n y (take count (drop rampNumbers numbers))
+
+abbrev pub ListedIn : List ℤ → ℕ → List ℕ → ℕ → ℕ → ℕ → Type 0
+ListedIn scratch n numbers count y end = (rampNumbers + count ≤ length numbers) × Band scratch n y end (take count (drop rampNumbers numbers))
+
+-- the rows of a target from y to before end
+abbrev pub rowsOf : Target → ℕ → ℕ → Target
+rowsOf t y end = record {
+  width = t .width;
+  height = t .height;
+  area = record { x0 = t .area .x0; y0 = y; x1 = t .area .x1; y1 = end };
+}
+
+-- of the runs of a row of n pixels, so many of them
+abbrev pub RowCoverage : ℕ → List ℕ → ℕ → Type 0
+RowCoverage n runs count = Runs runs count n × Coverage (expand runs count)
+
+-- of some runs of a row of n pixels
+abbrev pub PartOfRow : List ℕ → Range → ℕ → Type 0
+PartOfRow runs part n = Runs runs (part .to) (startOf runs (part .to)) × (part .from ≤ part .to) × (part .to ≤ length runs) × (startOf runs (part .to) ≤ n) × Coverage (expand runs (part .to))
 
 -- of a surface of width by height pixels, and a rectangle on it
 abbrev pub Area : ℕ → ℕ → Rect → List ℕ → Type 0

@@ -2,13 +2,13 @@
 use Prim.Native.Nat.{ℕ, _≤_, _<_}
 use mathlib.Core.Path.{_≡_}
 use mathlib.Core.List.{List}
-use lib.ListN.{getD}
+use Rattle.runs.specs.Runs.{levelOf}
 use Rattle.paint.specs.declared.AnyGradient.{AnyGradient}
 use Rattle.paint.specs.Circles.{gradientAt}
 
--- of no pixel from i to before e a sample is covered
+-- of no run from i to before e a sample is covered
 abbrev pub Uncovered : List ℕ → ℕ → ℕ → Type 0
-Uncovered ks i e = (i ≤ e) × ((j : ℕ) → i ≤ j → j < e → getD ks j 0 ≡ 0)
+Uncovered runs i e = (i ≤ e) × ((j : ℕ) → i ≤ j → j < e → levelOf runs j ≡ 0)
 
 -- every row has one colour, as in a linear gradient straight up or down
 abbrev pub Level : AnyGradient → List ℕ → Type 0

@@ -3,7 +3,7 @@
 //     draws    the scene: the background, then every draw in order; of a draw only its box
 //     edges    the draw's path as edges in the scratch
 //     decode   the rest of the draw, decoded once: rule, scissors, blend mode, and its paint with its ramp and its colour transformation
-//     rows     row after row: the coverage of each pixel, its paint, and both blended into the surface
+//     rows     row after row: its coverage as runs of pixels that are covered alike, their paint, and both blended into the surface
 //     spans    a gradient's row, made only where it is covered, or blended as a plain colour where it has one
 //
 // What a stage computes is in a crate of its own: `scene` reads the fields, `outline` makes the edges and their box, `coverage` counts a
@@ -16,6 +16,7 @@ pub mod spans;
 
 use color::Pixel;
 use paint::AnyGradient;
+use raster::Target;
 use transform::FixedTransform;
 
 // How a draw is filled: the number of its edges, its fill rule, whether scissoring is on and by how many scissors, whether it is drawn through the
@@ -28,6 +29,20 @@ pub struct Style {
     pub masked: bool,
     pub mode: u16,
     pub shade: Shade,
+}
+
+// A draw on a rectangle of the surface, and how many of its edges are listed as those that the rectangle's rows meet.
+pub struct Fill {
+    pub style: Style,
+    pub target: Target,
+    pub listed: usize,
+}
+
+// The same on a row.
+pub struct FillRow {
+    pub style: Style,
+    pub strip: Strip,
+    pub listed: usize,
 }
 
 // What a draw paints with, ready for its rows: a premultiplied pixel, already transformed, or a gradient.

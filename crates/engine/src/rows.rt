@@ -1,4 +1,6 @@
 // A draw whose edges lie in the scratch, row after row: the coverage of each pixel, its paint, and both blended into the surface.
+use crate::Fill;
+use crate::FillRow;
 use crate::Shade;
 use crate::Strip;
 use crate::Style;
@@ -7,18 +9,23 @@ use crate::TintedGradient;
 use crate::decode::shade;
 use crate::decode::style;
 use crate::spans::shade_gradient;
+use coverage::Line;
 use paint::build::RAMP_NUMBERS;
 use raster::Range;
 use raster::Target;
+use rect::Rect;
 ghost use mathlib.Core.Path.{_≡_};
-ghost use mathlib.Core.Bool.{cond};
+ghost use mathlib.Core.Bool.{true, cond};
 ghost use Prim.Native.Nat.{_+_, _-_, _*_, _/_, _≤_, _<_};
 ghost use lib.ListN.{length, take, getD};
 ghost use Rattle.lists.specs.Lists.{tab};
+ghost use Rattle.runs.specs.Runs.{expand, Runs};
 ghost use Rattle.raster.specs.Surface.{run, pixelIn};
 ghost use Rattle.raster.specs.Rows.{Part, stepped};
 ghost use Rattle.path.specs.Stored.{edgesOf};
 ghost use Rattle.coverage.specs.Scanline.{Outlined};
+ghost use Rattle.coverage.specs.Scissors.{scissored};
+ghost use Rattle.coverage.specs.Band.{Needed};
 ghost use Rattle.paint.specs.Buffers.{rampNumbers};
 ghost use Rattle.paint.specs.Circles.{HeldGradient};
 ghost use Rattle.blend.specs.Rows.{Coverage, compositeRow};
@@ -27,10 +34,20 @@ ghost use Rattle.scene.specs.Fields.{usesMask};
 ghost use Rattle.scene.specs.Accepted.{AcceptedFields};
 ghost use Rattle.engine.specs.Picture.{maskAt};
 ghost use Rattle.engine.specs.Unclamped.{unclampedOf};
-ghost use Rattle.engine.specs.Rows.{coverageWith, maskWith, stepWith, tintedBy, gradientTinted, shadeAt, Shaded, Scissors, OnSurface, MaskFor};
+ghost use Rattle.engine.specs.Rows.{coverageWith, maskWith, stepWith, tintedBy, gradientTinted, shadeAt, Shaded};
+ghost use Rattle.engine.specs.Rows.{Scissors, OnSurface, RowRoom, RowCoverage, ListedIn, ListedFor, MaskFor, rowsOf};
 
-// Bytes for the longest row: k and four bytes of paint to a pixel.
+// Bytes for the longest row: a mark or k, and four bytes of paint, to a pixel.
 const ROW_BYTES: usize = 5120;
+
+// Runs of the longest row: at most one to a pixel.
+const ROW_RUNS: usize = 1024;
+
+// Numbers that stay for the rows of a band: the ramp, and the places of the edges that the band meets, of at most 2,049.
+const BAND_NUMBERS: usize = 2117;
+
+// Rows of a band, for which the edges that it meets are looked for once.
+const BAND_ROWS: usize = 16;
 
 // The draw of n edges, at every pixel of the target.
 pub fn fill(
@@ -50,70 +67,145 @@ pub fn fill(
         ≡ stepped target (unclampedOf (edgesOf (now (scratch .entry)) n) (now (d .entry)) (maskAt (target .width) (now (mask .entry)))) (now (surface .entry))
         ⌝ }
 {
-    let mut ramp = [0u32; RAMP_NUMBERS];
-    let mut buffer = [0u8; ROW_BYTES];
-    fill_with(surface, scratch, mask, n, d, target, &mut ramp, &mut buffer);
-}
-
-// The same with a run for its ramp and a buffer for a row. What these hold afterwards is free.
-fn fill_with(
-    surface: &mut [u8],
-    scratch: &mut [i32],
-    mask: &[u8],
-    n: usize,
-    d: &[u8],
-    target: Target,
-    ramp: &mut [u32],
-    buffer: &mut [u8],
-)
-    requires { ⌜ (length (now d) ≡ drawBytes) × AcceptedFields (now d) ⌝ }
-    requires { ⌜ Outlined (now scratch) n ⌝ }
-    requires { ⌜ Part target (now surface) × MaskFor (usesMask (now d)) (target .height * target .width) (now mask) ⌝ }
-    requires { ⌜ (rampNumbers ≤ length (now ramp)) × (5120 ≤ length (now buffer)) ⌝ }
-    ensures { λ _. ⌜ now (scratch .exit) ≡ now (scratch .entry) ⌝ }
-    ensures { λ _. ⌜
-        now (surface .exit)
-        ≡ stepped target (unclampedOf (edgesOf (now (scratch .entry)) n) (now (d .entry)) (maskAt (target .width) (now (mask .entry)))) (now (surface .entry))
-        ⌝ }
-{
-    let s = style(d, n, shade(d, ramp));
-    let m = (target.area.x1 - target.area.x0) * 5;
-    draw_rect(
+    let mut numbers = [0u32; BAND_NUMBERS];
+    let s = style(d, n, shade(d, &mut numbers[0..RAMP_NUMBERS]));
+    fill_with(
         surface,
         scratch,
         scene::fields::scissors(d),
-        ramp,
+        &mut numbers,
         mask,
-        &mut buffer[0..m],
-        s,
-        target,
+        Fill {
+            style: s,
+            target,
+            listed: 0,
+        },
     );
 }
 
-// Row after row of the target. What the buffer, five bytes to a pixel of a row, holds afterwards is free.
+// The same of a draw that was decoded, its ramp at the start of the numbers. What they hold behind it is free.
+fn fill_with(
+    surface: &mut [u8],
+    scratch: &mut [i32],
+    scissors: &[u8],
+    numbers: &mut [u32],
+    mask: &[u8],
+    fill: Fill,
+)
+    requires { ⌜ Outlined (now scratch) (fill .style .edges) × (rampNumbers + fill .style .edges ≤ length (now numbers)) ⌝ }
+    requires { ⌜ Scissors (fill .style) (now scissors) × Shaded (fill .style .shade) (take rampNumbers (now numbers)) ⌝ }
+    requires { ⌜ Part (fill .target) (now surface) ⌝ }
+    requires { ⌜ MaskFor (fill .style .masked) (fill .target .height * fill .target .width) (now mask) ⌝ }
+    ensures { λ _. ⌜ now (scratch .exit) ≡ now (scratch .entry) ⌝ }
+    ensures { λ _. ⌜
+        now (surface .exit)
+        ≡ stepped (fill .target)
+        (λ x y. stepWith (fill .style) (edgesOf (now (scratch .entry)) (fill .style .edges)) (now (scissors .entry)) (take rampNumbers (now (numbers .entry)))
+        (maskAt (fill .target .width) (now (mask .entry)) x y) x y)
+        (now (surface .entry))
+        ⌝ }
+{
+    let mut buffer = [0u8; ROW_BYTES];
+    let mut runs = [0u16; ROW_RUNS];
+    let n = fill.target.area.x1 - fill.target.area.x0;
+    let m = n * 5;
+    draw_bands(
+        surface,
+        scratch,
+        scissors,
+        numbers,
+        mask,
+        &mut buffer[0..m],
+        &mut runs[0..n],
+        fill,
+    );
+}
+
+// Band after band of the target's rows. What the buffer, five bytes to a pixel of a row, and the runs hold afterwards is free.
+fn draw_bands(
+    surface: &mut [u8],
+    scratch: &mut [i32],
+    scissors: &[u8],
+    numbers: &mut [u32],
+    mask: &[u8],
+    buffer: &mut [u8],
+    runs: &mut [u16],
+    fill: Fill,
+)
+    requires { ⌜ Outlined (now scratch) (fill .style .edges) × (rampNumbers + fill .style .edges ≤ length (now numbers)) ⌝ }
+    requires { ⌜ Scissors (fill .style) (now scissors) × Shaded (fill .style .shade) (take rampNumbers (now numbers)) ⌝ }
+    requires { ⌜ Part (fill .target) (now surface) × RowRoom (fill .target .area .x1 - fill .target .area .x0) (now buffer) (now runs) ⌝ }
+    requires { ⌜ MaskFor (fill .style .masked) (fill .target .height * fill .target .width) (now mask) ⌝ }
+    ensures { λ _. ⌜ now (scratch .exit) ≡ now (scratch .entry) ⌝ }
+    ensures { λ _. ⌜
+        now (surface .exit)
+        ≡ stepped (fill .target)
+        (λ x y. stepWith (fill .style) (edgesOf (now (scratch .entry)) (fill .style .edges)) (now (scissors .entry)) (take rampNumbers (now (numbers .entry)))
+        (maskAt (fill .target .width) (now (mask .entry)) x y) x y)
+        (now (surface .entry))
+        ⌝ }
+{
+    let style = fill.style;
+    let target = fill.target;
+    let last = RAMP_NUMBERS + style.edges;
+    let y1 = target.area.y1;
+    let mut y = target.area.y0;
+    while y < y1 {
+        let end = rect::least(y + BAND_ROWS, y1);
+        let listed = coverage::filter_edges(scratch, style.edges, y, end, &mut numbers[RAMP_NUMBERS..last]);
+        let band = Fill {
+            style,
+            target: rows_of(target, y, end),
+            listed,
+        };
+        draw_rect(surface, scratch, scissors, numbers, mask, buffer, runs, band);
+        y = end;
+    }
+}
+
+// The rows of a target from y to before end.
+fn rows_of(t: Target, y: usize, end: usize) -> Target
+    ensures { λ r. ⌜ r ≡ rowsOf t y end ⌝ }
+{
+    Target {
+        width: t.width,
+        height: t.height,
+        area: Rect {
+            x0: t.area.x0,
+            y0: y,
+            x1: t.area.x1,
+            y1: end,
+        },
+    }
+}
+
+// Row after row of the target, all of one band, whose edges are listed behind the ramp.
 fn draw_rect(
     surface: &mut [u8],
     scratch: &mut [i32],
     scissors: &[u8],
-    ramp: &[u32],
+    numbers: &[u32],
     mask: &[u8],
     buffer: &mut [u8],
-    style: Style,
-    target: Target,
+    runs: &mut [u16],
+    fill: Fill,
 )
-    requires { ⌜ Outlined (now scratch) (style .edges) ⌝ }
-    requires { ⌜ Scissors style (now scissors) × Shaded (style .shade) (now ramp) ⌝ }
-    requires { ⌜ Part target (now surface) × (length (now buffer) ≡ (target .area .x1 - target .area .x0) * 5) ⌝ }
-    requires { ⌜ MaskFor (style .masked) (target .height * target .width) (now mask) ⌝ }
+    requires { ⌜ Outlined (now scratch) (fill .style .edges) × ListedIn (now scratch) (fill .style .edges) (now numbers) (fill .listed) (fill .target .area .y0) (fill .target .area .y1) ⌝ }
+    requires { ⌜ Scissors (fill .style) (now scissors) × Shaded (fill .style .shade) (take rampNumbers (now numbers)) ⌝ }
+    requires { ⌜ Part (fill .target) (now surface) × RowRoom (fill .target .area .x1 - fill .target .area .x0) (now buffer) (now runs) ⌝ }
+    requires { ⌜ MaskFor (fill .style .masked) (fill .target .height * fill .target .width) (now mask) ⌝ }
     ensures { λ _. ⌜ now (scratch .exit) ≡ now (scratch .entry) ⌝ }
     ensures { λ _. ⌜
         now (surface .exit)
-        ≡ stepped target
-        (λ x y. stepWith style (edgesOf (now (scratch .entry)) (style .edges)) (now (scissors .entry)) (now (ramp .entry))
-        (maskAt (target .width) (now (mask .entry)) x y) x y)
+        ≡ stepped (fill .target)
+        (λ x y. stepWith (fill .style) (edgesOf (now (scratch .entry)) (fill .style .edges)) (now (scissors .entry)) (take rampNumbers (now (numbers .entry)))
+        (maskAt (fill .target .width) (now (mask .entry)) x y) x y)
         (now (surface .entry))
         ⌝ }
 {
+    let style = fill.style;
+    let target = fill.target;
+    let listed = fill.listed;
     let x = target.area.x0;
     let length = target.area.x1 - x;
     let y1 = target.area.y1;
@@ -130,11 +222,15 @@ fn draw_rect(
             &mut surface[from..to],
             scratch,
             scissors,
-            ramp,
+            numbers,
             &mask[mask_from..mask_to],
             buffer,
-            style,
-            strip,
+            runs,
+            FillRow {
+                style,
+                strip,
+                listed,
+            },
         );
         y += 1;
     }
@@ -153,98 +249,161 @@ fn mask_bytes(masked: bool, row: Range) -> Range
     Range { from: 0, to: 0 }
 }
 
-// One row: the buffer's first bytes take k of each pixel, the others its paint.
+// One row: its coverage, and then its paint.
 fn draw_row(
     row: &mut [u8],
     scratch: &mut [i32],
     scissors: &[u8],
-    ramp: &[u32],
+    numbers: &[u32],
     mask: &[u8],
     buffer: &mut [u8],
-    style: Style,
-    strip: Strip,
+    runs: &mut [u16],
+    fill: FillRow,
 )
-    requires { ⌜ Outlined (now scratch) (style .edges) ⌝ }
-    requires { ⌜ Scissors style (now scissors) × Shaded (style .shade) (now ramp) ⌝ }
-    requires { ⌜ OnSurface strip × (length (now row) ≡ strip .length * 4) × (length (now buffer) ≡ strip .length * 5) ⌝ }
-    requires { ⌜ MaskFor (style .masked) (strip .length) (now mask) ⌝ }
+    requires { ⌜ Outlined (now scratch) (fill .style .edges) × ListedFor (now scratch) (fill .style .edges) (now numbers) (fill .listed) (fill .strip .y) ⌝ }
+    requires { ⌜ Scissors (fill .style) (now scissors) × Shaded (fill .style .shade) (take rampNumbers (now numbers)) ⌝ }
+    requires { ⌜ OnSurface (fill .strip) × (length (now row) ≡ fill .strip .length * 4) × RowRoom (fill .strip .length) (now buffer) (now runs) ⌝ }
+    requires { ⌜ MaskFor (fill .style .masked) (fill .strip .length) (now mask) ⌝ }
     ensures { λ _. ⌜ now (scratch .exit) ≡ now (scratch .entry) ⌝ }
     ensures { λ _. ⌜
         now (row .exit)
-        ≡ run (strip .length)
-        (λ i. stepWith style (edgesOf (now (scratch .entry)) (style .edges)) (now (scissors .entry)) (now (ramp .entry))
-        (getD (now (mask .entry)) i 0) (strip .x + i) (strip .y) (pixelIn (now (row .entry)) i))
+        ≡ run (fill .strip .length)
+        (λ i. stepWith (fill .style) (edgesOf (now (scratch .entry)) (fill .style .edges)) (now (scissors .entry)) (take rampNumbers (now (numbers .entry)))
+        (getD (now (mask .entry)) i 0) (fill .strip .x + i) (fill .strip .y) (pixelIn (now (row .entry)) i))
         ⌝ }
 {
+    let style = fill.style;
+    let strip = fill.strip;
     let n = strip.length;
-    cover_row(scratch, scissors, &mut buffer[0..n], style, strip);
-    shade_row(row, ramp, mask, buffer, style, strip);
+    let end = RAMP_NUMBERS + fill.listed;
+    let count = cover_row(
+        scratch,
+        &numbers[RAMP_NUMBERS..end],
+        scissors,
+        &mut buffer[0..n],
+        runs,
+        style,
+        strip,
+    );
+    shade_row(
+        row,
+        &numbers[0..RAMP_NUMBERS],
+        mask,
+        buffer,
+        runs,
+        count,
+        style,
+        strip,
+    );
 }
 
-// k of each pixel.
-fn cover_row(scratch: &mut [i32], scissors: &[u8], cover: &mut [u8], style: Style, strip: Strip)
-    requires { ⌜ Outlined (now scratch) (style .edges) ⌝ }
+// The row's coverage as runs. What the marks, a byte to a pixel, hold afterwards is free. Returns the number of runs.
+fn cover_row(
+    scratch: &mut [i32],
+    list: &[u32],
+    scissors: &[u8],
+    marks: &mut [u8],
+    runs: &mut [u16],
+    style: Style,
+    strip: Strip,
+) -> usize
+    requires { ⌜ Outlined (now scratch) (style .edges) × Needed (now scratch) (style .edges) (strip .y) (now list) ⌝ }
     requires { ⌜ Scissors style (now scissors) ⌝ }
-    requires { ⌜ OnSurface strip × (length (now cover) ≡ strip .length) ⌝ }
+    requires { ⌜ OnSurface strip × (length (now marks) ≡ strip .length) × (length (now runs) ≡ strip .length) ⌝ }
     ensures { λ _. ⌜ now (scratch .exit) ≡ now (scratch .entry) ⌝ }
-    ensures { λ _. ⌜
-        now (cover .exit)
+    ensures { λ r. ⌜ Runs (now (runs .exit)) r (strip .length) ⌝ }
+    ensures { λ r. ⌜
+        expand (now (runs .exit)) r
         ≡ tab (strip .length) (λ i. coverageWith style (edgesOf (now (scratch .entry)) (style .edges)) (now (scissors .entry)) (strip .x + i) (strip .y))
         ⌝ }
 {
-    coverage::cover::coverage_row(scratch, style.edges, strip.x, strip.y, cover, style.nonzero);
+    let line = Line {
+        edges: style.edges,
+        x: strip.x,
+        y: strip.y,
+        nonzero: style.nonzero,
+    };
+    let n = coverage::coverage_runs(scratch, list, marks, runs, line);
     if !style.scissoring {
-        return;
+        return n;
     }
-    coverage::scissors::scissor_row(scissors, style.scissors, strip.x, strip.y, cover);
+    scissor_runs(scissors, marks, runs, n, style.scissors, strip)
 }
 
-// The paint of each pixel, blended into the row by the k that stands first in the buffer, through the mask where the draw asks for it.
+// The n runs with k = 0 outside of the scissors: as bytes, in the place of the marks, and back.
+fn scissor_runs(
+    scissors: &[u8],
+    marks: &mut [u8],
+    runs: &mut [u16],
+    n: usize,
+    count: usize,
+    strip: Strip,
+) -> usize
+    requires { ⌜ (count ≤ 4) × (16 * count ≤ length (now scissors)) ⌝ }
+    requires { ⌜ OnSurface strip × (length (now marks) ≡ strip .length) × (length (now runs) ≡ strip .length) ⌝ }
+    requires { ⌜ Runs (now runs) n (strip .length) × Coverage (expand (now runs) n) ⌝ }
+    ensures { λ r. ⌜ Runs (now (runs .exit)) r (strip .length) ⌝ }
+    ensures { λ r. ⌜
+        expand (now (runs .exit)) r
+        ≡ tab (strip .length) (λ i. scissored true (now (scissors .entry)) count (strip .x + i) (strip .y) (getD (expand (now (runs .entry)) n) i 0))
+        ⌝ }
+{
+    runs::expand_row(runs, n, marks);
+    coverage::scissors::scissor_row(scissors, count, strip.x, strip.y, marks);
+    runs::collect(marks, runs)
+}
+
+// The paint of each pixel, blended into the row by the runs, so many of them, through the mask where the draw asks for it.
 fn shade_row(
     row: &mut [u8],
     ramp: &[u32],
     mask: &[u8],
     buffer: &mut [u8],
+    runs: &[u16],
+    count: usize,
     style: Style,
     strip: Strip,
 )
     requires { ⌜ Shaded (style .shade) (now ramp) ⌝ }
-    requires { ⌜ OnSurface strip × (length (now row) ≡ strip .length * 4) × (length (now buffer) ≡ strip .length * 5) ⌝ }
-    requires { ⌜ Coverage (take (strip .length) (now buffer)) × MaskFor (style .masked) (strip .length) (now mask) ⌝ }
+    requires { ⌜ OnSurface strip × (length (now row) ≡ strip .length * 4) × RowRoom (strip .length) (now buffer) (now runs) ⌝ }
+    requires { ⌜ RowCoverage (strip .length) (now runs) count × MaskFor (style .masked) (strip .length) (now mask) ⌝ }
     ensures { λ _. ⌜
         now (row .exit)
-        ≡ compositeRow (style .mode) (take (strip .length) (now (buffer .entry))) (λ i. maskWith style (getD (now (mask .entry)) i 0))
+        ≡ compositeRow (style .mode) (expand (now (runs .entry)) count) (λ i. maskWith style (getD (now (mask .entry)) i 0))
         (λ i. shadeAt (style .shade) (now (ramp .entry)) (strip .x + i) (strip .y)) (now (row .entry))
         ⌝ }
 {
     if style.masked {
-        shade_masked(row, ramp, mask, buffer, style, strip);
+        shade_masked(row, ramp, mask, buffer, runs, count, style, strip);
     } else {
-        shade_plain(row, ramp, buffer, style, strip);
+        shade_plain(row, ramp, buffer, runs, count, style, strip);
     }
 }
 
-// The same through the mask: the paint of each pixel is made behind the coverage, whatever it is.
+// The same through the mask: k of each pixel, and behind it the paint of each, whatever its k.
 fn shade_masked(
     row: &mut [u8],
     ramp: &[u32],
     mask: &[u8],
     buffer: &mut [u8],
+    runs: &[u16],
+    count: usize,
     style: Style,
     strip: Strip,
 )
     requires { ⌜ Shaded (style .shade) (now ramp) ⌝ }
-    requires { ⌜ OnSurface strip × (length (now row) ≡ strip .length * 4) × (length (now buffer) ≡ strip .length * 5) ⌝ }
-    requires { ⌜ Coverage (take (strip .length) (now buffer)) × (length (now mask) ≡ strip .length) ⌝ }
+    requires { ⌜ OnSurface strip × (length (now row) ≡ strip .length * 4) × RowRoom (strip .length) (now buffer) (now runs) ⌝ }
+    requires { ⌜ RowCoverage (strip .length) (now runs) count × (length (now mask) ≡ strip .length) ⌝ }
     ensures { λ _. ⌜
         now (row .exit)
-        ≡ compositeRow (style .mode) (take (strip .length) (now (buffer .entry))) (λ i. getD (now (mask .entry)) i 0)
+        ≡ compositeRow (style .mode) (expand (now (runs .entry)) count) (λ i. getD (now (mask .entry)) i 0)
         (λ i. shadeAt (style .shade) (now (ramp .entry)) (strip .x + i) (strip .y)) (now (row .entry))
         ⌝ }
 {
     let n = strip.length;
     let m = n * 5;
     let shade = style.shade;
+    runs::expand_row(runs, count, &mut buffer[0..n]);
     paint_row(ramp, &mut buffer[n..m], shade, strip);
     blend::composite_row_masked(style.mode, &buffer[0..n], mask, &buffer[n..m], row);
 }
@@ -292,13 +451,21 @@ fn tint_row(row: &mut [u8], tint: Tint, n: usize)
 }
 
 // The same without a mask. A plain colour is blended as it is, a gradient is made where the row is covered.
-fn shade_plain(row: &mut [u8], ramp: &[u32], buffer: &mut [u8], style: Style, strip: Strip)
+fn shade_plain(
+    row: &mut [u8],
+    ramp: &[u32],
+    buffer: &mut [u8],
+    runs: &[u16],
+    count: usize,
+    style: Style,
+    strip: Strip,
+)
     requires { ⌜ Shaded (style .shade) (now ramp) ⌝ }
-    requires { ⌜ OnSurface strip × (length (now row) ≡ strip .length * 4) × (length (now buffer) ≡ strip .length * 5) ⌝ }
-    requires { ⌜ Coverage (take (strip .length) (now buffer)) ⌝ }
+    requires { ⌜ OnSurface strip × (length (now row) ≡ strip .length * 4) × RowRoom (strip .length) (now buffer) (now runs) ⌝ }
+    requires { ⌜ RowCoverage (strip .length) (now runs) count ⌝ }
     ensures { λ _. ⌜
         now (row .exit)
-        ≡ compositeRow (style .mode) (take (strip .length) (now (buffer .entry))) (λ i. 255)
+        ≡ compositeRow (style .mode) (expand (now (runs .entry)) count) (λ i. 255)
         (λ i. shadeAt (style .shade) (now (ramp .entry)) (strip .x + i) (strip .y)) (now (row .entry))
         ⌝ }
 {
@@ -306,10 +473,10 @@ fn shade_plain(row: &mut [u8], ramp: &[u32], buffer: &mut [u8], style: Style, st
     let shade = style.shade;
     match shade {
         Shade::Solid(p) => {
-            blend::composite_run(style.mode, &buffer[0..n], p, row);
+            blend::composite_runs(style.mode, runs, count, p, row, n);
         }
         Shade::Gradient(g) => {
-            shade_gradient(row, ramp, buffer, style.mode, g, strip);
+            shade_gradient(row, ramp, buffer, runs, count, style.mode, g, strip);
         }
     }
 }

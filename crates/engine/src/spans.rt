@@ -7,40 +7,43 @@ use raster::Range;
 ghost use mathlib.Core.Path.{_≡_};
 ghost use mathlib.Core.Bool.{true};
 ghost use Prim.Native.Nat.{ℕ, _+_, _-_, _*_, _≤_, _<_};
-ghost use lib.ListN.{length, take, getD};
+ghost use lib.ListN.{length, getD};
+ghost use Rattle.runs.specs.Runs.{startOf, expand};
 ghost use Rattle.raster.specs.Surface.{run, pixelIn};
 ghost use Rattle.paint.specs.Circles.{HeldGradient};
 ghost use Rattle.blend.specs.PorterDuff.{compositeOn};
-ghost use Rattle.blend.specs.Rows.{Coverage, compositeRow};
-ghost use Rattle.engine.specs.Rows.{gradientTinted, OnSurface};
+ghost use Rattle.blend.specs.Rows.{compositeRow};
+ghost use Rattle.engine.specs.Rows.{gradientTinted, OnSurface, RowRoom, RowCoverage};
 ghost use Rattle.engine.specs.Spans.{Uncovered, Level};
 
-// The row, by the k that stands first in the buffer. One colour is blended as a plain one is.
+// The row, by its runs, so many of them. One colour is blended as a plain one is.
 pub fn shade_gradient(
     row: &mut [u8],
     ramp: &[u32],
     buffer: &mut [u8],
+    runs: &[u16],
+    count: usize,
     mode: u16,
     g: TintedGradient,
     strip: Strip,
 )
     requires { ⌜ HeldGradient (g .gradient) (now ramp) ⌝ }
-    requires { ⌜ OnSurface strip × (length (now row) ≡ strip .length * 4) × (length (now buffer) ≡ strip .length * 5) ⌝ }
-    requires { ⌜ Coverage (take (strip .length) (now buffer)) ⌝ }
+    requires { ⌜ OnSurface strip × (length (now row) ≡ strip .length * 4) × RowRoom (strip .length) (now buffer) (now runs) ⌝ }
+    requires { ⌜ RowCoverage (strip .length) (now runs) count ⌝ }
     ensures { λ _. ⌜
         now (row .exit)
-        ≡ compositeRow mode (take (strip .length) (now (buffer .entry))) (λ i. 255)
+        ≡ compositeRow mode (expand (now (runs .entry)) count) (λ i. 255)
         (λ i. gradientTinted g (now (ramp .entry)) (strip .x + i) (strip .y)) (now (row .entry))
         ⌝ }
 {
     let gradient = g.gradient;
     if 0 < strip.length {
         if is_level(gradient, ramp) {
-            shade_level(row, ramp, buffer, mode, g, strip);
+            shade_level(row, ramp, buffer, runs, count, mode, g, strip);
             return;
         }
     }
-    shade_parts(row, ramp, buffer, mode, g, strip);
+    shade_parts(row, ramp, buffer, runs, count, mode, g, strip);
 }
 
 // Whether the colour is the same all along a row: a linear gradient straight up or down.
@@ -60,128 +63,127 @@ fn is_level(g: AnyGradient, ramp: &[u32]) -> bool
     }
 }
 
-// The same of one colour along the row: one pixel of paint is made behind the coverage.
+// The same of one colour along the row: one pixel of paint is made.
 fn shade_level(
     row: &mut [u8],
     ramp: &[u32],
     buffer: &mut [u8],
+    runs: &[u16],
+    count: usize,
     mode: u16,
     g: TintedGradient,
     strip: Strip,
 )
     requires { ⌜ Level (g .gradient) (now ramp) × (0 < strip .length) ⌝ }
     requires { ⌜ HeldGradient (g .gradient) (now ramp) ⌝ }
-    requires { ⌜ OnSurface strip × (length (now row) ≡ strip .length * 4) × (length (now buffer) ≡ strip .length * 5) ⌝ }
-    requires { ⌜ Coverage (take (strip .length) (now buffer)) ⌝ }
+    requires { ⌜ OnSurface strip × (length (now row) ≡ strip .length * 4) × RowRoom (strip .length) (now buffer) (now runs) ⌝ }
+    requires { ⌜ RowCoverage (strip .length) (now runs) count ⌝ }
     ensures { λ _. ⌜
         now (row .exit)
-        ≡ compositeRow mode (take (strip .length) (now (buffer .entry))) (λ i. 255)
+        ≡ compositeRow mode (expand (now (runs .entry)) count) (λ i. 255)
         (λ i. gradientTinted g (now (ramp .entry)) (strip .x + i) (strip .y)) (now (row .entry))
         ⌝ }
 {
-    let n = strip.length;
-    let m = n + 4;
     let first = Strip {
         x: strip.x,
         y: strip.y,
         length: 1,
     };
-    gradient_row(ramp, &mut buffer[n..m], g, first);
-    let p = raster::pixel(&buffer[n..m], 0);
-    blend::composite_run(mode, &buffer[0..n], p, row);
+    gradient_row(ramp, &mut buffer[0..4], g, first);
+    let p = raster::pixel(buffer, 0);
+    blend::composite_runs(mode, runs, count, p, row, strip.length);
 }
 
-// The same part after part: the paint of each covered part is made behind the coverage.
+// The same part after part: the paint of each covered part is made.
 fn shade_parts(
     row: &mut [u8],
     ramp: &[u32],
     buffer: &mut [u8],
+    runs: &[u16],
+    count: usize,
     mode: u16,
     g: TintedGradient,
     strip: Strip,
 )
     requires { ⌜ HeldGradient (g .gradient) (now ramp) ⌝ }
-    requires { ⌜ OnSurface strip × (length (now row) ≡ strip .length * 4) × (length (now buffer) ≡ strip .length * 5) ⌝ }
-    requires { ⌜ Coverage (take (strip .length) (now buffer)) ⌝ }
+    requires { ⌜ OnSurface strip × (length (now row) ≡ strip .length * 4) × RowRoom (strip .length) (now buffer) (now runs) ⌝ }
+    requires { ⌜ RowCoverage (strip .length) (now runs) count ⌝ }
     ensures { λ _. ⌜
         now (row .exit)
-        ≡ compositeRow mode (take (strip .length) (now (buffer .entry))) (λ i. 255)
+        ≡ compositeRow mode (expand (now (runs .entry)) count) (λ i. 255)
         (λ i. gradientTinted g (now (ramp .entry)) (strip .x + i) (strip .y)) (now (row .entry))
         ⌝ }
 {
-    let n = strip.length;
-    let mut a = covered_from(buffer, 0, n);
-    while a < n {
-        let e = covered_to(buffer, a, n);
-        let from = a * 4;
-        let to = e * 4;
-        let part = Range { from: a, to: e };
-        shade_part(&mut row[from..to], ramp, buffer, mode, g, strip, part);
-        a = covered_from(buffer, e, n);
+    let mut j = covered_from(runs, 0, count);
+    while j < count {
+        let m = covered_to(runs, j, count);
+        let from = runs::start(runs, j) * 4;
+        let to = runs::start(runs, m) * 4;
+        let part = Range { from: j, to: m };
+        shade_part(&mut row[from..to], ramp, buffer, runs, mode, g, strip, part);
+        j = covered_from(runs, m, count);
     }
 }
 
-// The first pixel from i to before n of which a sample is covered, or n.
-fn covered_from(cover: &[u8], i: usize, n: usize) -> usize
-    requires { ⌜ (i ≤ n) × (n ≤ length (now cover)) ⌝ }
-    ensures { λ a. ⌜ Uncovered (now (cover .entry)) i a × (a ≤ n) ⌝ }
+// The first run from j to before n of which a sample is covered, or n.
+fn covered_from(runs: &[u16], j: usize, n: usize) -> usize
+    requires { ⌜ (j ≤ n) × (n ≤ length (now runs)) ⌝ }
+    ensures { λ r. ⌜ Uncovered (now (runs .entry)) j r × (r ≤ n) ⌝ }
 {
-    let mut a = i;
-    while a < n {
-        if cover[a] != 0 {
-            return a;
+    let mut r = j;
+    while r < n {
+        if runs[r] % 32 != 0 {
+            return r;
         }
-        a += 1;
+        r += 1;
     }
-    a
+    r
 }
 
-// The first pixel after i of which no sample is covered, or n.
-fn covered_to(cover: &[u8], i: usize, n: usize) -> usize
-    requires { ⌜ (i < n) × (n ≤ length (now cover)) ⌝ }
-    ensures { λ e. ⌜ (i < e) × (e ≤ n) ⌝ }
+// The first run after j of which no sample is covered, or n.
+fn covered_to(runs: &[u16], j: usize, n: usize) -> usize
+    requires { ⌜ (j < n) × (n ≤ length (now runs)) ⌝ }
+    ensures { λ r. ⌜ (j < r) × (r ≤ n) ⌝ }
 {
-    let mut e = i + 1;
-    while e < n {
-        if cover[e] == 0 {
-            return e;
+    let mut r = j + 1;
+    while r < n {
+        if runs[r] % 32 == 0 {
+            return r;
         }
-        e += 1;
+        r += 1;
     }
-    e
+    r
 }
 
-// A part of the row, lent as its bytes.
+// A part of the row, some of its runs, lent as its bytes.
 fn shade_part(
     row: &mut [u8],
     ramp: &[u32],
     buffer: &mut [u8],
+    runs: &[u16],
     mode: u16,
     g: TintedGradient,
     strip: Strip,
     part: Range,
 )
     requires { ⌜ HeldGradient (g .gradient) (now ramp) ⌝ }
-    requires { ⌜ OnSurface strip × (part .from ≤ part .to) × (part .to ≤ strip .length) ⌝ }
-    requires { ⌜ (length (now row) ≡ (part .to - part .from) * 4) × (length (now buffer) ≡ strip .length * 5) ⌝ }
-    requires { ⌜ Coverage (take (strip .length) (now buffer)) ⌝ }
-    ensures { λ _. ⌜ take (strip .length) (now (buffer .exit)) ≡ take (strip .length) (now (buffer .entry)) ⌝ }
+    requires { ⌜ OnSurface strip × PartOfRow (now runs) part (strip .length) ⌝ }
+    requires { ⌜ (length (now row) ≡ (startOf (now runs) (part .to) - startOf (now runs) (part .from)) * 4) × (length (now buffer) ≡ strip .length * 5) ⌝ }
     ensures { λ _. ⌜
         now (row .exit)
-        ≡ run (part .to - part .from)
-        (λ i. compositeOn mode (getD (take (strip .length) (now (buffer .entry))) (part .from + i) 0) 255
-        (gradientTinted g (now (ramp .entry)) (strip .x + (part .from + i)) (strip .y)) (pixelIn (now (row .entry)) i))
+        ≡ run (startOf (now (runs .entry)) (part .to) - startOf (now (runs .entry)) (part .from))
+        (λ i. compositeOn mode (getD (expand (now (runs .entry)) (part .to)) (startOf (now (runs .entry)) (part .from) + i) 0) 255
+        (gradientTinted g (now (ramp .entry)) (strip .x + (startOf (now (runs .entry)) (part .from) + i)) (strip .y)) (pixelIn (now (row .entry)) i))
         ⌝ }
 {
-    let n = strip.length;
-    let a = part.from;
-    let e = part.to;
-    let m = n + (e - a) * 4;
+    let a = runs::start(runs, part.from);
+    let n = runs::start(runs, part.to) - a;
+    let m = n * 4;
     let covered = Strip {
         x: strip.x + a,
         y: strip.y,
-        length: e - a,
+        length: n,
     };
-    gradient_row(ramp, &mut buffer[n..m], g, covered);
-    blend::composite_row(mode, &buffer[a..e], &buffer[n..m], row);
+    gradient_row(ramp, &mut buffer[0..m], g, covered);
+    blend::composite_painted_runs(mode, runs, part, &buffer[0..m], row);
 }

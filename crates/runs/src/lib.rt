@@ -5,7 +5,7 @@ ghost use mathlib.Core.List.{_++_};
 ghost use Prim.Native.Nat.{ℕ, _+_, _-_, _*_, _≤_, _<_};
 ghost use lib.ListN.{length, getD, replicate};
 ghost use Rattle.lists.specs.Lists.{tab};
-ghost use Rattle.runs.specs.Runs.{levelOf, expand, Runs};
+ghost use Rattle.runs.specs.Runs.{startOf, levelOf, expand, Runs};
 
 // The pixels from p up to e, all with k, after the n runs of p pixels. Returns how many runs there are then.
 pub fn push(runs: &mut [u16], n: usize, p: usize, e: usize, k: u8) -> usize
@@ -35,6 +35,17 @@ fn extends(runs: &[u16], n: usize, k: u8) -> bool
         return false;
     }
     runs[n - 1] % 32 == (k as u16)
+}
+
+// Where run j begins.
+pub fn start(runs: &[u16], j: usize) -> usize
+    requires { ⌜ j ≤ length (now runs) ⌝ }
+    ensures { λ r. ⌜ r ≡ startOf (now (runs .entry)) j ⌝ }
+{
+    if j == 0 {
+        return 0;
+    }
+    (runs[j - 1] / 32) as usize
 }
 
 // k of each pixel of the n runs.
