@@ -19,6 +19,7 @@ use Rattle.path.specs.declared.Edge.{Edge}
 use Rattle.coverage.specs.Winding.{coverage}
 use Rattle.coverage.specs.Scissors.{scissored}
 use Rattle.coverage.proofs.Limits.{coverage-at-most-16, scissored-at-most}
+use Rattle.paint.specs.Buffers.{rampNumbers}
 use Rattle.transform.specs.declared.FixedTransform.{FixedTransform}
 use Rattle.transform.specs.Transforms.{transformed}
 use Rattle.engine.specs.declared.Style.{Style}
@@ -31,6 +32,14 @@ use Rattle.engine.specs.Rows.{coverageWith, maskWith, stepWith, tintedBy
 
 tab-same : {A : Type 0} (n : ℕ) (f g : ℕ → A) → ((k : ℕ) → k < n → f k ≡ g k) → tab n f ≡ tab n g
 tab-same n f g h = upto-same n (λ k. f k ∷ []) (λ k. g k ∷ []) (λ k l. ap (λ a. a ∷ []) (h k l))
+
+tab-fits : (n : ℕ) (f : ℕ → ℕ) (c : List ℕ) → c ≡ tab n f → ((i : ℕ) → f i ≤ 16) → Coverage c
+tab-fits n f c o h i l =
+    let m : i < n = rw (ap length o ∙ tab-length n f) at l in
+    rw (ap (λ (s : List ℕ). getD s i 0) o ∙ tab-at n f i 0 m) (h i)
+
+pub coverage-fits : (es : List Edge) (nonzero : Bool) (x y n : ℕ) (c : List ℕ) → c ≡ tab n (λ i. coverage es nonzero (x + i) y) → Coverage c
+coverage-fits es nonzero x y n c o = tab-fits n (λ i. coverage es nonzero (x + i) y) c o (λ i. coverage-at-most-16 es nonzero (x + i) y)
 
 module _ (style : Style) (es : List Edge) (scissors : List ℕ) (x y : ℕ) where
   pub with-at-most : (i : ℕ) → coverageWith style es scissors i y ≤ 16
@@ -47,35 +56,45 @@ module _ (style : Style) (es : List Edge) (scissors : List ℕ) (x y : ℕ) wher
 
   -- with it
   pub cover-scissored : (n : ℕ) (c b : List ℕ) → style .scissoring ≡ true → b ≡ tab n (λ i. coverage es (style .nonzero) (x + i) y)
-      → c ≡ tab (length b) (λ i. scissored true scissors (style .scissors) (x + i) y (getD b i 0))
+      → c ≡ tab n (λ i. scissored true scissors (style .scissors) (x + i) y (getD b i 0))
       → c ≡ tab n (λ i. coverageWith style es scissors (x + i) y)
   unfolding coverageWith
   cover-scissored n c b e o q =
       q
-      ∙ ap (λ (k : ℕ). tab k (λ i. scissored true scissors (style .scissors) (x + i) y (getD b i 0))) (ap length o ∙ tab-length n _)
       ∙ tab-same n _ _
       (λ i l.
       ap (scissored true scissors (style .scissors) (x + i) y) (ap (λ (s : List ℕ). getD s i 0) o ∙ tab-at n _ i 0 l)
       ∙ ap (λ (t : Bool). scissored t scissors (style .scissors) (x + i) y (coverage es (style .nonzero) (x + i) y)) (sym e))
 
-  -- the coverage bytes are at most 16
+  -- every k is at most 16
   pub cover-fits : (n : ℕ) (c : List ℕ) → c ≡ tab n (λ i. coverageWith style es scissors (x + i) y) → Coverage c
-  cover-fits n c o i l =
-      let m : i < n = rw (ap length o ∙ tab-length n (λ i. coverageWith style es scissors (x + i) y)) at l in
-      rw (ap (λ (s : List ℕ). getD s i 0) o ∙ tab-at n (λ i. coverageWith style es scissors (x + i) y) i 0 m) (with-at-most (x + i))
+  cover-fits n c o = tab-fits n (λ i. coverageWith style es scissors (x + i) y) c o (λ i. with-at-most (x + i))
 
   -- a row of pixels under that coverage
-  pub row-steps : (n : ℕ) (k c d ramp mask r : List ℕ) → k ≡ c → c ≡ tab n (λ i. coverageWith style es scissors (x + i) y)
-      → r ≡ compositeRow (style .mode) k (λ i. maskWith style (getD mask i 0)) (λ i. shadeAt (style .shade) ramp (x + i) y) d
+  pub row-steps : (n : ℕ) (c d ramp mask r : List ℕ) → c ≡ tab n (λ i. coverageWith style es scissors (x + i) y)
+      → r ≡ compositeRow (style .mode) c (λ i. maskWith style (getD mask i 0)) (λ i. shadeAt (style .shade) ramp (x + i) y) d
       → r ≡ run n (λ i. stepWith style es scissors ramp (getD mask i 0) (x + i) y (pixelIn d i))
   unfolding stepWith
-  row-steps n k c d ramp mask r e o q =
+  row-steps n c d ramp mask r o q =
       let f : ℕ → ℕ → Pixel = λ i z.
       compositeOn (style .mode) z (maskWith style (getD mask i 0)) (shadeAt (style .shade) ramp (x + i) y) (pixelIn d i) in
       q
-      ∙ rw e
-      (ap (λ (m : ℕ). run m (λ i. f i (getD c i 0))) (ap length o ∙ tab-length n _)
-      ∙ run-same n _ _ (λ i l. ap (f i) (ap (λ (z : List ℕ). getD z i 0) o ∙ tab-at n _ i 0 l)))
+      ∙ ap (λ (m : ℕ). run m (λ i. f i (getD c i 0))) (ap length o ∙ tab-length n _)
+      ∙ run-same n _ _ (λ i l. ap (f i) (ap (λ (z : List ℕ). getD z i 0) o ∙ tab-at n _ i 0 l))
+
+-- ---- scissors on a row of k's
+module _ (scissors : List ℕ) (count x y : ℕ) (m b : List ℕ) (e : m ≡ tab (length b) (λ i. scissored true scissors count (x + i) y (getD b i 0))) where
+  pub cut-small : Coverage b → (i : ℕ) → i < length m → getD m i 0 < 32
+  cut-small h i l =
+      let k : i < length b = rw (ap length e ∙ tab-length (length b) _) at l in
+      let v : getD m i 0 ≡ scissored true scissors count (x + i) y (getD b i 0) = ap (λ (z : List ℕ). getD z i 0) e ∙ tab-at (length b) _ i 0 k in
+      omega (arith, v, scissored-at-most true scissors count (x + i) y (getD b i 0), h i k)
+
+  pub cut-row : (n : ℕ) (ks : List ℕ) → b ≡ ks → length b ≡ n → m ≡ tab n (λ i. scissored true scissors count (x + i) y (getD ks i 0))
+  cut-row n ks o l =
+      e
+      ∙ ap (λ (k : ℕ). tab k (λ i. scissored true scissors count (x + i) y (getD b i 0))) l
+      ∙ ap (λ (z : List ℕ). tab n (λ i. scissored true scissors count (x + i) y (getD z i 0))) o
 
 -- ---- a row's buffer: k of each pixel, then the paint of each
 pub covered-length : (b : List ℕ) (n : ℕ) → n ≤ length b → length (take n b) ≡ n
@@ -128,26 +147,33 @@ module _ (n x y : ℕ) (ramp q : List ℕ) (s : Shade) where
   gradient-pixels g e o = o ∙ rw e
 
 -- blended, through any mask
-module _ (mode n x y : ℕ) (mask : ℕ → ℕ) (b row ramp r : List ℕ) (s : Shade) where
-  pub solid-row : (p : Pixel) → s ≡ Solid p → r ≡ compositeRow mode (take (n - 0) (drop 0 b)) mask (λ i. p) row
-      → r ≡ compositeRow mode (take n b) mask (λ i. shadeAt s ramp (x + i) y) row
+module _ (mode x y : ℕ) (mask : ℕ → ℕ) (ks row ramp r : List ℕ) (s : Shade) where
+  pub solid-row : (p : Pixel) → s ≡ Solid p → r ≡ compositeRow mode ks mask (λ i. p) row
+      → r ≡ compositeRow mode ks mask (λ i. shadeAt s ramp (x + i) y) row
   unfolding shadeAt
-  solid-row p e o = o ∙ rw (e, first-of b n)
+  solid-row p e o = o ∙ rw e
 
-  pub gradient-blended : (g : TintedGradient) → s ≡ Gradient g → r ≡ compositeRow mode (take n b) mask (λ i. gradientTinted g ramp (x + i) y) row
-      → r ≡ compositeRow mode (take n b) mask (λ i. shadeAt s ramp (x + i) y) row
+  pub gradient-blended : (g : TintedGradient) → s ≡ Gradient g → r ≡ compositeRow mode ks mask (λ i. gradientTinted g ramp (x + i) y) row
+      → r ≡ compositeRow mode ks mask (λ i. shadeAt s ramp (x + i) y) row
   unfolding shadeAt
   gradient-blended g e o = o ∙ rw e
 
-  -- the paint's pixels come from q
-  pub painted-row : (q rest : List ℕ) (m : ℕ) → n ≤ length b → length q ≡ m - n → q ≡ run n (λ i. shadeAt s ramp (x + i) y)
+  -- the paint's pixels come from q, and k of each from the start of b
+  pub painted-row : (n : ℕ) (b q rest : List ℕ) (m : ℕ) → n ≤ length b → take n b ≡ ks → length q ≡ m - n → q ≡ run n (λ i. shadeAt s ramp (x + i) y)
       → r ≡ compositeRow mode (take (n - 0) (drop 0 (take n b ++ (q ++ rest)))) mask (pixelIn (take (m - n) (drop n (take n b ++ (q ++ rest))))) row
-      → r ≡ compositeRow mode (take n b) mask (λ i. shadeAt s ramp (x + i) y) row
-  painted-row q rest m h l o u =
+      → r ≡ compositeRow mode ks mask (λ i. shadeAt s ramp (x + i) y) row
+  painted-row n b q rest m h k l o u =
       let f : ℕ → Pixel = λ i. shadeAt s ramp (x + i) y in
       u
       ∙ rw (cover-part b q rest n h, paint-part b q rest n m h l)
       (run-same (length (take n b)) _ _
-      (λ i k.
+      (λ i v.
       ap (λ (p : Pixel). compositeOn mode (getD (take n b) i 0) (mask i) p (pixelIn row i))
-      (ap (λ (z : List ℕ). pixelIn z i) o ∙ run-at n f i (rw (covered-length b n h) at k))))
+      (ap (λ (z : List ℕ). pixelIn z i) o ∙ run-at n f i (rw (covered-length b n h) at v)))
+      ∙ ap (λ (z : List ℕ). compositeRow mode z mask f row) k)
+
+-- ---- numbers behind the ramp
+pub behind-ramp : (s : List ℕ) (k : ℕ) → take (rampNumbers + k - rampNumbers) (drop rampNumbers s) ≡ take k (drop rampNumbers s)
+behind-ramp s k =
+    let e : rampNumbers + k - rampNumbers ≡ k = omega arith in
+    ap (λ (m : ℕ). take m (drop rampNumbers s)) e
