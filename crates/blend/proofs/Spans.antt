@@ -1,15 +1,18 @@
--- Spans: pixels of a row that are covered alike, and parts of a row that are lent.
-use mathlib.Core.Path.{_≡_, refl, ap, _∙_}
+-- Spans and runs: pixels of a row that are covered alike, and parts of a row that are lent.
+use mathlib.Core.Path.{_≡_, refl, ap, subst, _∙_}
 use mathlib.Core.List.{List, _++_}
-use Prim.Native.Nat.{ℕ, _+_, _-_, _*_, _≤_, _<_}
+use Prim.Native.Nat.{ℕ, suc, _+_, _-_, _*_, _≤_, _<_}
 use native.Mathlib.Omega.{arith}
 use lib.ListN.{length, getD, take, drop, length-take}
 use borrow.Author.Count.{below-more}
+use Rattle.runs.specs.Runs.{endOf, startOf, levelOf, expand, Runs}
+use Rattle.runs.proofs.Expand.{starts-rise, runs-length, runs-at, runs-within}
 use Rattle.color.specs.declared.Pixel.{Pixel}
 use Rattle.raster.specs.Surface.{run, pixelIn}
 use Rattle.raster.specs.Rows.{Stored}
 use Rattle.raster.proofs.Pixels.{run-length, run-at, pixel-take, pixel-drop}
 use Rattle.raster.proofs.Runs.{run-is, run-same, stored-part, part-pixel}
+use Rattle.blend.specs.Rows.{Coverage}
 use Rattle.blend.specs.Spans.{Span}
 
 -- a span of one pixel, and of one pixel more
@@ -49,3 +52,29 @@ laid-part n c w p s e h q =
     rw (e, q)
     (run-is c (λ i. p) (take (c * 4) (run n (λ i. p))) (length-take (c * 4) (run n (λ i. p)) ∙ omega (arith, run-length n (λ i. p)))
     (λ i l. pixel-take (run n (λ i. p)) c i l ∙ run-at n (λ i. p) i (omega arith)))
+
+-- ---- runs: a run's k is its pixels'
+pub run-covered : (runs : List ℕ) (n w : ℕ) → Runs runs n w → Coverage (expand runs n) → (j : ℕ) → j < n → levelOf runs j ≤ 16
+run-covered runs n w r c j h =
+    subst (λ (k : ℕ). k ≤ 16) (runs-at runs n w r j (startOf runs j) h (omega arith) (r .rises j h))
+    (c (startOf runs j) (omega (arith, r .rises j h, runs-within runs n w r j h, runs-length runs n w r)))
+
+-- where the next one begins
+pub next-start : (runs : List ℕ) (j : ℕ) → startOf runs (j + 1) ≡ endOf runs j
+next-start runs j =
+    let e : j + 1 ≡ suc j = omega arith in
+    ap (startOf runs) e
+
+-- of runs from first on whose pixels are lent, run j is one that is there, and lies within
+pub record LentRun (runs : List ℕ) (j first a size : ℕ) : Type 0 where
+  pub there : j < length runs
+  pub low : first ≤ endOf runs j
+  pub some : a ≤ endOf runs j - first
+  pub within : (endOf runs j - first) * 4 ≤ size
+
+pub run-lent : (runs : List ℕ) (n w : ℕ) → Runs runs n w → (j end first a size : ℕ) → j < end → end ≤ n → n ≤ length runs → first + a ≡ startOf runs j
+    → size ≡ (startOf runs end - first) * 4 → LentRun runs j first a size
+run-lent runs n w r j end first a size h l m e z =
+    let rises = r .rises j (omega arith) in
+    let ends = starts-rise runs n (r .rises) (suc j) end (omega arith) l in
+    record { there = omega arith; low = omega (arith, rises); some = omega (arith, rises); within = omega (arith, ends) }

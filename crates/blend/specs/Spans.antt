@@ -6,7 +6,9 @@ use mathlib.Core.List.{List}
 use Prim.Native.Nat.{ℕ, _+_, _-_, _*_, _≤_, _<_}
 use lib.Dec.{eqb}
 use lib.ListN.{length, getD}
+use Rattle.runs.specs.Runs.{startOf}
 use Rattle.color.specs.declared.Pixel.{Pixel}
+use Rattle.raster.specs.declared.Range.{Range}
 use Rattle.raster.specs.Surface.{pixelIn}
 use Rattle.blend.specs.PorterDuff.{modeSrc, modeSrcOver, blended, storedUnmasked}
 
@@ -15,6 +17,10 @@ pub record Span (ks : List ℕ) (i e : ℕ) : Type 0 where
   pub some : i < e
   pub within : e ≤ length ks
   pub level : (j : ℕ) → i ≤ j → j < e → getD ks j 0 ≡ getD ks i 0
+
+-- how many pixels the runs from one to before another have
+abbrev pub lengthOf : List ℕ → Range → ℕ
+lengthOf runs some = startOf runs (some .to) - startOf runs (some .from)
 
 -- a mode and a source alpha under which the source is taken whole and nothing of the destination is kept
 abbrev pub hides : ℕ → ℕ → Bool

@@ -6,9 +6,11 @@ pub mod span;
 pub mod step;
 
 pub use crate::factor::is_mode;
+pub use crate::row::composite_painted_runs;
 pub use crate::row::composite_row;
 pub use crate::row::composite_row_masked;
 pub use crate::row::composite_run;
+pub use crate::row::composite_runs;
 pub use crate::step::composite;
 use color::Pixel;
 
