@@ -2,13 +2,16 @@
 use mathlib.Core.Path.{_≡_, refl, sym, ap, ap₂, subst, _∙_}
 use mathlib.Core.List.{List, [], _∷_, _++_, append-assoc}
 use mathlib.Core.Logic.{⊎-elim}
+use mathlib.Core.Bool.{Bool, true, false}
 use Prim.Native.Nat.{ℕ, zero, suc, _+_, _-_, _*_, _/_, _%_, _≤_, _<_}
 use native.Mathlib.Nat.{eq-or-lt-of-le, le-of-suc-le-suc, not-suc-le-zero}
 use native.Mathlib.Omega.{arith}
 use native.Mathlib.Decide.{ℕ-discrete}
 use lib.ListN.{length, getD, set, take, drop, replicate, length-append, length-replicate, getD-replicate, replicate-append-replicate, List·getD-append}
 use lib.Seq.{getD-append-add, getD-set-same, getD-set-other}
+use lib.Dec.{ltb}
 use borrow.Author.Count.{below-more}
+use borrow.Author.Tests.{ltb-true, ltb-false}
 use Rattle.lists.specs.Lists.{upto, tab, over}
 use Rattle.lists.proofs.Laws.{upto-same, upto-more, tab-length, tab-at, tab-ext, over-part}
 use Rattle.runs.specs.Runs.{endOf, startOf, levelOf, expand, Runs}
@@ -68,6 +71,17 @@ module _ (runs : List ℕ) (n : ℕ) (rises : (j : ℕ) → j < n → startOf ru
           (omega (arith, b, starts-rise (suc j) m (omega arith) (omega arith), expand-length m (omega arith)))
           ∙ q
 
+  -- the first m runs are the beginning
+  expand-first : (k : ℕ) → k ≤ n → (m i : ℕ) → m ≤ k → i < startOf runs m → getD (expand runs k) i 0 ≡ getD (expand runs m) i 0
+  expand-first zero h m i a b = let e : m ≡ 0 = omega arith in rw e refl
+  expand-first (suc k) h m i a b =
+      ⊎-elim (λ e. rw e refl)
+      (λ l.
+      List·getD-append (expand runs k) (replicate (endOf runs k - startOf runs k) (levelOf runs k)) 0 i
+      (omega (arith, b, starts-rise m k (le-of-suc-le-suc l) (omega arith), expand-length k (omega arith)))
+      ∙ expand-first k (omega arith) m i (le-of-suc-le-suc l) b)
+      (eq-or-lt-of-le a)
+
 -- two lists that agree on the first n runs
 starts-same : (r s : List ℕ) (n : ℕ) → ((j : ℕ) → j < n → getD r j 0 ≡ getD s j 0) → (j : ℕ) → j ≤ n → startOf r j ≡ startOf s j
 starts-same r s n h zero l = refl
@@ -93,6 +107,37 @@ module _ (runs : List ℕ) (n w : ℕ) (r : Runs runs n w) where
 
   pub first-length : (j : ℕ) → j ≤ n → length (expand runs j) ≡ startOf runs j
   first-length j h = expand-length runs n (r .rises) j h
+
+  -- the first m of the runs, which are the beginning of the row
+  pub first-runs : (m : ℕ) → m ≤ n → Runs runs m (startOf runs m)
+  first-runs m h = record {
+    rises = λ j l. r .rises j (omega arith);
+    last = refl;
+  }
+
+  pub first-at : (m i : ℕ) → m ≤ n → i < startOf runs m → getD (expand runs n) i 0 ≡ getD (expand runs m) i 0
+  first-at m i h = expand-first runs n (r .rises) n (omega arith) m i h
+
+  pub first-within : (m : ℕ) → m ≤ n → startOf runs m ≤ w
+  first-within m h = omega (arith, starts-rise runs n (r .rises) m n h (omega arith), r .last)
+
+  -- runs with one k, one behind another
+  pub level-at : (k j m : ℕ) → j ≤ m → m ≤ n → ((l : ℕ) → j ≤ l → l < m → levelOf runs l ≡ k)
+      → (i : ℕ) → startOf runs j ≤ i → i < startOf runs m → getD (expand runs n) i 0 ≡ k
+  level-at k j zero g h u i a b = absurd (not-suc-le-zero b)
+  level-at k j (suc m) g h u i a b =
+      ⊎-elim none
+      (λ l.
+      by (le-of-suc-le-suc l) (level-at k j m (le-of-suc-le-suc l) (omega arith) (λ x p q. u x p (omega arith)) i a)
+      (ltb i (startOf runs m)) refl)
+      (eq-or-lt-of-le g)
+    where
+      none : j ≡ suc m → getD (expand runs n) i 0 ≡ k
+      none e = absurd (omega (arith, subst (λ (x : ℕ). startOf runs x ≤ i) e a, b))
+
+      by : j ≤ m → (i < startOf runs m → getD (expand runs n) i 0 ≡ k) → (t : Bool) → ltb i (startOf runs m) ≡ t → getD (expand runs n) i 0 ≡ k
+      by l before true e = before (ltb-true i (startOf runs m) e)
+      by l before false e = runs-at m i h (omega (arith, ltb-false i (startOf runs m) e)) b ∙ u m l (omega arith)
 
   -- run j laid after those before it, into a row d of w k's: the part that is lent for it and given back
   pub laid-run : (j : ℕ) → j < n → (s d q : List ℕ) → length d ≡ w → s ≡ over (expand runs j) d
