@@ -1,7 +1,7 @@
 -- Rows made byte by byte: bytes that make the right pixels are a run of them.
 use mathlib.Core.Path.{_≡_, refl, ap, _∙_}
 use mathlib.Core.List.{List, [], _∷_}
-use Prim.Native.Nat.{ℕ, _+_, _-_, _*_, _/_, _%_, _≤_, _<_}
+use Prim.Native.Nat.{ℕ, _+_, _-_, _*_, _≤_, _<_}
 use native.Mathlib.Omega.{arith}
 use lib.ListN.{getD}
 use Rattle.lists.specs.Lists.{tab}
@@ -78,10 +78,3 @@ module _ (n : ℕ) (s f d : List ℕ) (e : f ≡ run n (λ i. keepPixel (pixelIn
 -- ---- a pixel's number tells whether its alpha is 255
 pub word-opaque : (p : Pixel) → p .r < 256 → p .g < 256 → p .b < 256 → p .a < 256 → 4278190080 ≤ wordOf p → p .a ≡ 255
 word-opaque p r g b a h = omega arith
-
--- ---- and a number whose four bytes are f
-pub four-bytes : (f : ℕ) → f < 256 → (f * 16843009 % 256 ≡ f) × (f * 16843009 / 256 % 256 ≡ f) × (f * 16843009 / 65536 % 256 ≡ f) × (f * 16843009 / 16777216 ≡ f)
-four-bytes f h =
-    let high : f * 16843009 / 256 ≡ f * 65793 = omega arith in
-    let higher : f * 16843009 / 65536 ≡ f * 257 = omega arith in
-    (omega arith, rw high (omega arith), rw higher (omega arith), omega arith)

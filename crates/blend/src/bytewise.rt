@@ -101,16 +101,16 @@ fn over_byte(s: u8, keep: u8, d: u8) -> u8
     least((s as u16) + ((x + (x >> 8)) >> 8), 255) as u8
 }
 
-// What a pixel's bytes keep of what is under them: four bytes of one number are one store.
+// What a pixel's bytes keep of what is under them.
 pub fn keep_pixel(src: Pixel) -> Pixel
     ensures { λ r. ⌜ r ≡ keepPixel src ⌝ }
 {
-    let c = ((255 - src.a) as u32) * 16843009;
+    let keep = 255 - src.a;
     Pixel {
-        r: (c % 256) as u8,
-        g: (c / 256 % 256) as u8,
-        b: (c / 65536 % 256) as u8,
-        a: (c / 16777216) as u8,
+        r: keep,
+        g: keep,
+        b: keep,
+        a: keep,
     }
 }
 

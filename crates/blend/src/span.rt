@@ -33,9 +33,11 @@ pub fn composite_span(mode: u16, coverage: u8, src: Pixel, row: &mut [u8], n: us
         store_span(coverage, src, row, n);
         return;
     }
-    if mode == SRC_OVER {
-        over_span(coverage, src, row, n);
-        return;
+    if 3 < n {
+        if mode == SRC_OVER {
+            over_span(coverage, src, row, n);
+            return;
+        }
     }
     blend_span(mode, coverage, src, row, n);
 }
@@ -52,9 +54,11 @@ pub fn composite_painted(mode: u16, coverage: u8, src: &[u8], row: &mut [u8], n:
         store_painted(coverage, src, row, n);
         return;
     }
-    if mode == SRC_OVER {
-        over_painted(coverage, src, row, n);
-        return;
+    if 3 < n {
+        if mode == SRC_OVER {
+            over_painted(coverage, src, row, n);
+            return;
+        }
     }
     blend_painted(mode, coverage, src, row, n);
 }

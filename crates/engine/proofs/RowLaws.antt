@@ -6,16 +6,20 @@ use Prim.Native.Nat.{ℕ, _+_, _-_, _*_, _≤_, _<_}
 use native.Mathlib.Nat.{le-trans}
 use native.Mathlib.Omega.{arith}
 use lib.ListN.{length, getD, take, drop, length-append, length-drop, length-take}
-use lib.Seq.{take-at, drop-at}
+use lib.IntN.{ℤ}
+use lib.Seq.{take-at, drop-at, take-append-le}
 use Rattle.lists.specs.Lists.{tab}
 use Rattle.lists.proofs.Laws.{upto-same, tab-at, tab-length}
 use Rattle.color.specs.declared.Pixel.{Pixel}
+use Rattle.raster.specs.declared.Target.{Target}
 use Rattle.raster.specs.Surface.{run, pixelIn}
+use Rattle.raster.specs.Rows.{stepped}
 use Rattle.raster.proofs.Pixels.{run-at}
 use Rattle.blend.specs.PorterDuff.{compositeOn}
 use Rattle.blend.specs.Rows.{Coverage, compositeRow}
 use Rattle.raster.proofs.Runs.{run-same, run-is}
 use Rattle.path.specs.declared.Edge.{Edge}
+use Rattle.path.specs.Stored.{edgesOf}
 use Rattle.coverage.specs.Winding.{coverage}
 use Rattle.coverage.specs.Scissors.{scissored}
 use Rattle.coverage.proofs.Limits.{coverage-at-most-16, scissored-at-most}
@@ -28,6 +32,7 @@ use Rattle.engine.specs.declared.Tint.the-variants.{Plain, Transformed}
 use Rattle.engine.specs.declared.TintedGradient.{TintedGradient}
 use Rattle.engine.specs.declared.Shade.{Shade}
 use Rattle.engine.specs.declared.Shade.the-variants.{Solid, Gradient}
+use Rattle.engine.specs.Picture.{maskAt}
 use Rattle.engine.specs.Rows.{coverageWith, maskWith, stepWith, tintedBy, gradientTinted, shadeAt}
 
 tab-same : {A : Type 0} (n : ℕ) (f g : ℕ → A) → ((k : ℕ) → k < n → f k ≡ g k) → tab n f ≡ tab n g
@@ -112,6 +117,9 @@ first-part q rest n e = take-at q rest n e
 pub first-given : (b q : List ℕ) (n : ℕ) → length q ≡ n → n ≤ length b → length (q ++ drop (n - 0) b) ≡ length b
 first-given b q n e h = simp (length-append, length-drop) (omega arith)
 
+pub back-length : (b q : List ℕ) (n m : ℕ) → n ≤ m → m ≤ length b → length q ≡ m - n → length (take n b ++ (q ++ drop (m - n) (drop n b))) ≡ length b
+back-length b q n m l h e = simp (length-append, length-take, length-drop) (omega arith)
+
 -- q is given back as the paint: before it stands what stood there
 module _ (b q rest : List ℕ) (n : ℕ) where
   pub cover-part : n ≤ length b → take (n - 0) (drop 0 (take n b ++ (q ++ rest))) ≡ take n b
@@ -172,8 +180,27 @@ module _ (mode x y : ℕ) (mask : ℕ → ℕ) (ks row ramp r : List ℕ) (s : S
       (ap (λ (z : List ℕ). pixelIn z i) o ∙ run-at n f i (rw (covered-length b n h) at v)))
       ∙ ap (λ (z : List ℕ). compositeRow mode z mask f row) k)
 
--- ---- numbers behind the ramp
+-- ---- numbers behind the ramp, of which some are given back as q
+module _ (s q : List ℕ) (k : ℕ) (l : rampNumbers + k ≤ length s) (e : length q ≡ k) where
+  pub ramp-kept : take rampNumbers (take rampNumbers s ++ (q ++ drop (rampNumbers + k - rampNumbers) (drop rampNumbers s))) ≡ take rampNumbers s
+  ramp-kept = take-at (take rampNumbers s) _ rampNumbers (simp length-take (omega arith))
+
+  pub list-given : (n : ℕ) → n ≤ k
+      → take n (drop rampNumbers (take rampNumbers s ++ (q ++ drop (rampNumbers + k - rampNumbers) (drop rampNumbers s)))) ≡ take n q
+  list-given n h = rw (drop-at (take rampNumbers s) (q ++ drop (rampNumbers + k - rampNumbers) (drop rampNumbers s)) rampNumbers (simp length-take (omega arith)))
+      (take-append-le n q (drop (rampNumbers + k - rampNumbers) (drop rampNumbers s)) (omega arith))
+
 pub behind-ramp : (s : List ℕ) (k : ℕ) → take (rampNumbers + k - rampNumbers) (drop rampNumbers s) ≡ take k (drop rampNumbers s)
 behind-ramp s k =
     let e : rampNumbers + k - rampNumbers ≡ k = omega arith in
     ap (λ (m : ℕ). take m (drop rampNumbers s)) e
+
+-- ---- a rectangle drawn with the same edges, the same ramp and the same rows
+pub same-steps : (style : Style) (n : ℕ) (scissors mask s r : List ℕ) {t u : Target} {z e : List ℤ} {m k : List ℕ} → t ≡ u → z ≡ e → m ≡ k
+    → r ≡ stepped t (λ x y. stepWith style (edgesOf z n) scissors m (maskAt (t .width) mask x y) x y) s
+    → r ≡ stepped u (λ x y. stepWith style (edgesOf e n) scissors k (maskAt (u .width) mask x y) x y) s
+same-steps style n scissors mask s r {t = t} {u = u} {z = z} {e = e} {m = m} a b c o =
+    o
+    ∙ ap (λ (w : Target). stepped w (λ x y. stepWith style (edgesOf z n) scissors m (maskAt (w .width) mask x y) x y) s) a
+    ∙ ap (λ (w : List ℤ). stepped u (λ x y. stepWith style (edgesOf w n) scissors m (maskAt (u .width) mask x y) x y) s) b
+    ∙ ap (λ (w : List ℕ). stepped u (λ x y. stepWith style (edgesOf e n) scissors w (maskAt (u .width) mask x y) x y) s) c
