@@ -13,7 +13,7 @@ ghost use Rattle.raster.specs.Surface.{run, pixelIn};
 ghost use Rattle.paint.specs.Circles.{HeldGradient};
 ghost use Rattle.blend.specs.PorterDuff.{compositeOn};
 ghost use Rattle.blend.specs.Rows.{compositeRow};
-ghost use Rattle.engine.specs.Rows.{gradientTinted, OnSurface, RowRoom, RowCoverage};
+ghost use Rattle.engine.specs.Rows.{gradientTinted, OnSurface, RowRoom, RowCoverage, PartOfRow};
 ghost use Rattle.engine.specs.Spans.{Uncovered, Level};
 
 // The row, by its runs, so many of them. One colour is blended as a plain one is.
@@ -177,7 +177,8 @@ fn shade_part(
         ⌝ }
 {
     let a = runs::start(runs, part.from);
-    let n = runs::start(runs, part.to) - a;
+    let e = runs::start(runs, part.to);
+    let n = e - a;
     let m = n * 4;
     let covered = Strip {
         x: strip.x + a,
@@ -185,5 +186,5 @@ fn shade_part(
         length: n,
     };
     gradient_row(ramp, &mut buffer[0..m], g, covered);
-    blend::composite_painted_runs(mode, runs, part, &buffer[0..m], row);
+    blend::composite_painted_runs(mode, runs, part.to, part, &buffer[0..m], row, e);
 }
