@@ -1,12 +1,12 @@
 -- A gradient of one colour along a row: its first pixel is all of its paint.
 use mathlib.Core.Path.{_≡_, ap, _∙_}
 use mathlib.Core.List.{List, _++_}
-use Prim.Native.Nat.{ℕ, _+_, _-_, _≤_}
+use Prim.Native.Nat.{ℕ, _+_}
 use native.Mathlib.Omega.{arith}
-use lib.ListN.{length, getD, take, drop}
+use lib.ListN.{length, getD}
 use Rattle.color.specs.declared.Pixel.{Pixel}
 use Rattle.raster.specs.Surface.{run, pixelIn}
-use Rattle.raster.proofs.Pixels.{run-at}
+use Rattle.raster.proofs.Pixels.{run-length, run-at, pixel-before}
 use Rattle.raster.proofs.Runs.{run-same}
 use Rattle.blend.specs.PorterDuff.{compositeOn}
 use Rattle.blend.specs.Rows.{compositeRow}
@@ -19,25 +19,22 @@ use Rattle.paint.proofs.Slope.{one-t}
 use Rattle.engine.specs.declared.TintedGradient.{TintedGradient}
 use Rattle.engine.specs.Rows.{tintedBy, gradientTinted}
 use Rattle.engine.specs.Spans.{Level}
-use Rattle.engine.proofs.RowLaws.{cover-part, paint-part}
 
 -- points with one x
 pub level-linear : (g : AnyGradient) (l : LinearGradient) (ramp : List ℕ) → g ≡ Linear l → l .points .x0 ≡ l .points .x1 → Level g ramp
 level-linear g l ramp e h =
     rw e (λ x u y. ap (gradientColor (l .spread) (l .premultiply) (stopsIn ramp (l .count))) (one-t (l .points) h x u y))
 
--- the pixel p that is made behind the coverage is the paint of each
-pub level-row : (mode n m x y : ℕ) (b q rest row r ramp : List ℕ) (g : TintedGradient) (p : Pixel) → Level (g .gradient) ramp → n ≤ length b
-    → length q ≡ m - n → q ≡ run 1 (λ i. gradientTinted g ramp (x + i) y)
-    → p ≡ pixelIn (take (m - n) (drop n (take n b ++ (q ++ rest)))) 0
-    → r ≡ compositeRow mode (take (n - 0) (drop 0 (take n b ++ (q ++ rest)))) (λ i. 255) (λ i. p) row
-    → r ≡ compositeRow mode (take n b) (λ i. 255) (λ i. gradientTinted g ramp (x + i) y) row
-level-row mode n m x y b q rest row r ramp g p level room long o made u =
-    let all : (i : ℕ) → p ≡ gradientTinted g ramp (x + i) y = λ i.
+-- the pixel p that is made at the start of the buffer is the paint of each
+pub level-row : (mode x y : ℕ) (ks q rest row r ramp : List ℕ) (g : TintedGradient) (p : Pixel) → Level (g .gradient) ramp
+    → q ≡ run 1 (λ i. gradientTinted g ramp (x + i) y) → p ≡ pixelIn (q ++ rest) 0 → r ≡ compositeRow mode ks (λ i. 255) (λ i. p) row
+    → r ≡ compositeRow mode ks (λ i. 255) (λ i. gradientTinted g ramp (x + i) y) row
+level-row mode x y ks q rest row r ramp g p level o made u =
+    let f : ℕ → Pixel = λ i. gradientTinted g ramp (x + i) y in
+    let all : (i : ℕ) → p ≡ f i = λ i.
     made
-    ∙ ap (λ (z : List ℕ). pixelIn z 0) (paint-part b q rest n m room long ∙ o)
-    ∙ run-at 1 (λ i. gradientTinted g ramp (x + i) y) 0 (omega arith)
+    ∙ pixel-before q rest 1 0 (ap length o ∙ run-length 1 f) (omega arith)
+    ∙ ap (λ (z : List ℕ). pixelIn z 0) o
+    ∙ run-at 1 f 0 (omega arith)
     ∙ ap (tintedBy (g .tint)) (level (x + 0) (x + i) y) in
-    u
-    ∙ rw (cover-part b q rest n room)
-    (run-same (length (take n b)) _ _ (λ i k. ap (λ (z : Pixel). compositeOn mode (getD (take n b) i 0) 255 z (pixelIn row i)) (all i)))
+    u ∙ run-same (length ks) _ _ (λ i k. ap (λ (z : Pixel). compositeOn mode (getD ks i 0) 255 z (pixelIn row i)) (all i))

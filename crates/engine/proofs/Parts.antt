@@ -1,12 +1,13 @@
 -- A row of a gradient, part after part: the pixels between two parts are not covered, and stay as they are.
-use mathlib.Core.Path.{_≡_, sym, ap, ap₂, subst, _∙_}
+use mathlib.Core.Path.{_≡_, sym, ap, subst, _∙_}
 use mathlib.Core.List.{List, _++_}
 use Prim.Native.Nat.{ℕ, _+_, _-_, _*_, _≤_, _<_}
 use native.Mathlib.Omega.{arith}
-use lib.ListN.{length, getD, take, drop, length-append, take-append-drop, List·getD-append}
-use lib.Seq.{getD-take, getD-drop}
+use lib.ListN.{length, getD, take, drop, take-append-drop}
 use borrow.Author.Count.{below-more}
 use Rattle.lists.proofs.Laws.{part-length}
+use Rattle.runs.specs.Runs.{startOf, levelOf, expand, Runs}
+use Rattle.runs.proofs.Expand.{starts-rise, runs-length, first-length, first-at, first-within, level-at}
 use Rattle.color.specs.declared.Pixel.{Pixel}
 use Rattle.raster.specs.Surface.{run, pixelIn}
 use Rattle.raster.specs.Rows.{Stored}
@@ -16,48 +17,28 @@ use Rattle.blend.specs.PorterDuff.{compositeOn}
 use Rattle.blend.specs.Rows.{Coverage, compositeRow}
 use Rattle.blend.proofs.Masks.{uncovered-masked}
 use Rattle.engine.specs.Spans.{Uncovered}
-use Rattle.engine.proofs.RowLaws.{covered-length, paint-part}
+use Rattle.engine.proofs.RowLaws.{first-of, first-part}
 
--- one pixel more that is not covered
-pub uncovered-more : (ks : List ℕ) (i e : ℕ) → Uncovered ks i e → getD ks e 0 ≡ 0 → Uncovered ks i (e + 1)
-uncovered-more ks i e t q =
-    (omega (arith, t .0), λ j a b. below-more (λ j. i ≤ j → getD ks j 0 ≡ 0) e (λ j b a. t .1 j a b) (λ a. q) j b a)
+-- one run more that is not covered
+pub uncovered-more : (runs : List ℕ) (j e : ℕ) → Uncovered runs j e → levelOf runs e ≡ 0 → Uncovered runs j (e + 1)
+uncovered-more runs j e t q =
+    (omega (arith, t .0), λ i a b. below-more (λ i. j ≤ i → levelOf runs i ≡ 0) e (λ i b a. t .1 i a b) (λ a. q) i b a)
 
--- ---- a part from a to e of a row of n pixels, whose paint q is given back behind the coverage
-module _ (b q rest : List ℕ) (n a e : ℕ) (low : a ≤ e) (high : e ≤ n) (room : n ≤ length b) where
-  abbrev buffer : List ℕ
-  buffer = take n b ++ (q ++ rest)
-
-  within : e ≤ length buffer
-  within = simp length-append (omega (arith, covered-length b n room))
-
-  pub part-long : length (take (e - a) (drop a buffer)) ≡ e - a
-  part-long = part-length buffer a e low within
-
-  part-cover : (i : ℕ) → i < e - a → getD (take (e - a) (drop a buffer)) i 0 ≡ getD (take n b) (a + i) 0
-  part-cover i l =
-      getD-take (e - a) (drop a buffer) i 0 l
-      ∙ getD-drop a buffer i 0
-      ∙ List·getD-append (take n b) (q ++ rest) 0 (a + i) (omega (arith, covered-length b n room))
-
-  pub part-covered : Coverage (take n b) → Coverage (take (e - a) (drop a buffer))
-  part-covered h i l =
-      let k : i < e - a = omega (arith, part-long) in
-      rw (part-cover i k) (h (a + i) (omega (arith, covered-length b n room)))
-
-  pub part-row : (mode m x : ℕ) (row r : List ℕ) (f : ℕ → Pixel) → length q ≡ m - n → q ≡ run (e - a) (λ i. f (x + a + i))
-      → r ≡ compositeRow mode (take (e - a) (drop a buffer)) (λ i. 255) (pixelIn (take (m - n) (drop n buffer))) row
-      → r ≡ run (e - a) (λ i. compositeOn mode (getD (take n b) (a + i) 0) 255 (f (x + (a + i))) (pixelIn row i))
-  part-row mode m x row r f l o u =
-      let cover = take (e - a) (drop a buffer) in
-      let paint = take (m - n) (drop n buffer) in
-      u
-      ∙ ap (λ (k : ℕ). run k (λ i. compositeOn mode (getD cover i 0) 255 (pixelIn paint i) (pixelIn row i))) part-long
-      ∙ run-same (e - a) _ _
-      (λ i k.
-      let z : x + a + i ≡ x + (a + i) = omega arith in
-      ap₂ (λ (c : ℕ) (p : Pixel). compositeOn mode c 255 p (pixelIn row i)) (part-cover i k)
-      (ap (λ (s : List ℕ). pixelIn s i) (paint-part b q rest n m room l ∙ o) ∙ run-at (e - a) (λ i. f (x + a + i)) i k ∙ ap f z))
+-- a part of a row from a to e, whose paint q is given back at the start of the buffer
+pub part-row : (mode x a e s t : ℕ) (ks q rest row r : List ℕ) (f : ℕ → Pixel) → a ≡ s → e ≡ t → length q ≡ (e - a) * 4
+    → q ≡ run (e - a) (λ i. f (x + a + i))
+    → r ≡ run (t - s) (λ i. compositeOn mode (getD ks (s + i) 0) 255 (pixelIn (take ((e - a) * 4 - 0) (drop 0 (q ++ rest))) i) (pixelIn row i))
+    → r ≡ run (t - s) (λ i. compositeOn mode (getD ks (s + i) 0) 255 (f (x + (s + i))) (pixelIn row i))
+part-row mode x a e s t ks q rest row r f b c l o u =
+    u
+    ∙ run-same (t - s) _ _
+    (λ i k.
+    let z : x + a + i ≡ x + (s + i) = omega arith in
+    let m : i < e - a = omega arith in
+    ap (λ (p : Pixel). compositeOn mode (getD ks (s + i) 0) 255 p (pixelIn row i))
+    (ap (λ (w : List ℕ). pixelIn w i) (first-of (q ++ rest) ((e - a) * 4) ∙ first-part q rest ((e - a) * 4) l ∙ o)
+    ∙ run-at (e - a) (λ i. f (x + a + i)) i m
+    ∙ ap f z))
 
 -- ---- the row, part after part
 part-back : (s : List ℕ) (a k : ℕ) → take a s ++ (take k (drop a s) ++ drop k (drop a s)) ≡ s
@@ -85,29 +66,41 @@ stored-made g {d = d} {a = a} o e q h l u =
 abbrev pub stepped : ℕ → List ℕ → (ℕ → Pixel) → List ℕ → ℕ → Pixel
 stepped mode ks paint d j = compositeOn mode (getD ks j 0) 255 (paint j) (pixelIn d j)
 
--- b holds the coverage that b₀ held: where it is 0 the pixels stay
-module _ (mode n : ℕ) (paint : ℕ → Pixel) (b b₀ d : List ℕ) (same : take n b ≡ take n b₀) where
-  stays : (i e : ℕ) → Uncovered b i e → e ≤ n → (j : ℕ) → i ≤ j → j < e → stepped mode (take n b₀) paint d j ≡ pixelIn d j
-  stays i e u h j l m =
-      rw (ap (λ (z : List ℕ). getD z j 0) (sym same) ∙ getD-take n b j 0 (omega arith) ∙ u .1 j l m) (uncovered-masked mode 255 (paint j) (pixelIn d j))
+-- a row of w pixels by its n runs
+module _ (runs : List ℕ) (n w : ℕ) (r : Runs runs n w) where
+  -- k's that are at most 16 are so in the first m runs
+  pub first-covered : Coverage (expand runs n) → (m : ℕ) → m ≤ n → Coverage (expand runs m)
+  first-covered h m k i l =
+      let b : i < startOf runs m = omega (arith, l, first-length runs n w r m k) in
+      subst (λ (z : ℕ). z ≤ 16) (first-at runs n w r m i k b) (h i (omega (arith, b, first-within runs n w r m k, runs-length runs n w r)))
 
-  -- up to the next pixel that is covered
-  pub stored-past : {s : List ℕ} {i : ℕ} → Stored (stepped mode (take n b₀) paint d) d i s → (e : ℕ) → Uncovered b i e → e ≤ n → length d ≡ n * 4
-      → Stored (stepped mode (take n b₀) paint d) d e s
-  stored-past {i = i} o e u h l = stored-kept o e (u .0) (omega arith) (stays i e u h)
+  module _ (mode : ℕ) (paint : ℕ → Pixel) (d : List ℕ) (fits : length d ≡ w * 4) where
+    -- up to the next run that is covered
+    pub stored-past : (s : List ℕ) (j : ℕ) → Stored (stepped mode (expand runs n) paint d) d (startOf runs j) s → (m : ℕ) → Uncovered runs j m → m ≤ n
+        → Stored (stepped mode (expand runs n) paint d) d (startOf runs m) s
+    stored-past s j o m u h =
+        stored-kept o (startOf runs m) (starts-rise runs n (r .rises) j m (u .0) h) (omega (arith, fits, first-within runs n w r m h))
+        (λ i a b. rw (level-at runs n w r 0 j m (u .0) h (u .1) i a b) (uncovered-masked mode 255 (paint i) (pixelIn d i)))
 
-  -- a covered part of the row
-  pub stored-through : {s : List ℕ} {a : ℕ} → Stored (stepped mode (take n b₀) paint d) d a s → (e : ℕ) (q : List ℕ) → a ≤ e → e ≤ n
-      → length d ≡ n * 4
-      → q ≡ run (e - a) (λ i. compositeOn mode (getD (take n b) (a + i) 0) 255 (paint (a + i)) (pixelIn (take (e * 4 - a * 4) (drop (a * 4) s)) i))
-      → Stored (stepped mode (take n b₀) paint d) d e (take (a * 4) s ++ (q ++ drop (e * 4 - a * 4) (drop (a * 4) s)))
-  stored-through {s = s} {a = a} o e q h k l u =
-      let part = take (e * 4 - a * 4) (drop (a * 4) s) in
-      stored-made (λ j. compositeOn mode (getD (take n b₀) j 0) 255 (paint j)) o e q h (omega arith)
-      (u ∙ ap (λ (z : List ℕ). run (e - a) (λ i. compositeOn mode (getD z (a + i) 0) 255 (paint (a + i)) (pixelIn part i))) same)
+    -- a covered part of the row, lent from its pixel a to before its pixel e
+    pub stored-through : (s : List ℕ) (j m a e : ℕ) → a ≡ startOf runs j → e ≡ startOf runs m
+        → Stored (stepped mode (expand runs n) paint d) d (startOf runs j) s → (q : List ℕ) → j ≤ m → m ≤ n
+        → q ≡ run (startOf runs m - startOf runs j)
+        (λ i. compositeOn mode (getD (expand runs m) (startOf runs j + i) 0) 255 (paint (startOf runs j + i))
+        (pixelIn (take (e * 4 - a * 4) (drop (a * 4) s)) i))
+        → Stored (stepped mode (expand runs n) paint d) d (startOf runs m) (take (a * 4) s ++ (q ++ drop (e * 4 - a * 4) (drop (a * 4) s)))
+    stored-through s j m a e b c o q h k u =
+        rw (b, c)
+        (stored-made (λ i. compositeOn mode (getD (expand runs n) i 0) 255 (paint i)) o (startOf runs m) q (starts-rise runs n (r .rises) j m h k)
+        (omega (arith, fits, first-within runs n w r m k))
+        (u
+        ∙ rw (b, c)
+        (run-same (startOf runs m - startOf runs j) _ _
+        (λ i l. rw (first-at runs n w r m (startOf runs j + i) k (omega (arith, l, starts-rise runs n (r .rises) j m h k)))))))
 
--- the whole row
-pub stored-whole : (mode n : ℕ) (paint : ℕ → Pixel) (b d s : List ℕ) (a : ℕ) → Stored (stepped mode (take n b) paint d) d a s → a ≡ n
-    → length d ≡ n * 4 → n ≤ length b → s ≡ compositeRow mode (take n b) (λ i. 255) paint d
-stored-whole mode n paint b d s a o e l h =
-    stored-all o n e l ∙ ap (λ (k : ℕ). run k (stepped mode (take n b) paint d)) (sym (covered-length b n h))
+    -- the whole row
+    pub stored-whole : (s : List ℕ) (j : ℕ) → Stored (stepped mode (expand runs n) paint d) d (startOf runs j) s → j ≡ n
+        → s ≡ compositeRow mode (expand runs n) (λ i. 255) paint d
+    stored-whole s j o e =
+        stored-all o w (ap (startOf runs) e ∙ r .last) fits
+        ∙ ap (λ (k : ℕ). run k (stepped mode (expand runs n) paint d)) (sym (runs-length runs n w r))

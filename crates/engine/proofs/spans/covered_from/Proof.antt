@@ -1,4 +1,4 @@
--- `spans::covered_from` meets its contract: no pixel before a has a sample that is covered.
+-- `spans::covered_from` meets its contract: no run before r has a sample that is covered.
 use Prim.Native.Nat.{_-_, _≤_}
 use native.Mathlib.Omega.{arith}
 use Rattle.engine.specs.Spans.{Uncovered}
@@ -8,38 +8,20 @@ use Rattle.engine.proofs.spans.covered_from.Statement.{statement}
 use Rattle.engine.proofs.spans.covered_from.Tie as tie
 
 abbrev Inv-loop : tie.InvT-loop
-Inv-loop cover i n a₀ a = Uncovered cover i a × (a ≤ n)
+Inv-loop runs j n r₀ r = Uncovered runs j r × (r ≤ n)
 
 abbrev μ-loop : tie.MeasureT-loop
-μ-loop cover i n a₀ a = n - a
+μ-loop runs j n r₀ r = n - r
 
 loop-holds : tie.Need-loop-holds Inv-loop μ-loop
-loop-holds c = ((omega arith, λ j h l. absurd (omega arith)), omega arith)
-
-shared-slice-read-if1 : tie.Need-shared-slice-read-if1 Inv-loop μ-loop
-shared-slice-read-if1 c = search needs
-
-returns : tie.Need-returns Inv-loop μ-loop
-returns c =
-    let at-loop = c .before .before .before in
-    at-loop .loop .inv
-
-add-a : tie.Need-add-a Inv-loop μ-loop
-add-a c = search needs
-
-loop-less : tie.Need-loop-less Inv-loop μ-loop
-loop-less c = search needs
+loop-holds c = ((omega arith, λ i h l. absurd (omega arith)), omega arith)
 
 loop-again : tie.Need-loop-again Inv-loop μ-loop
 loop-again c =
     let at-loop = c .before .before .before in
-    let entry = at-loop .before in
-    let a = entry .args in
+    let a = at-loop .before .args in
     let l = at-loop .loop in
-    (uncovered-more (a .cover .now) (a .i) (l .a) (l .inv .0) (c .if1 .left), omega arith)
-
-returns-2 : tie.Need-returns-2 Inv-loop μ-loop
-returns-2 c = c .before .loop .inv
+    (uncovered-more (a .runs .now) (a .j) (l .r) (l .inv .0) (c .if1 .left), omega arith)
 
 pub covered-from-spec : {M : Type 1} → statement M
 covered-from-spec =
@@ -48,9 +30,10 @@ covered-from-spec =
     Inv-loop
     μ-loop
     loop-holds
-    shared-slice-read-if1
-    returns
-    add-a
-    loop-less
+    (λ c. search needs)
+    (λ c. search needs)
+    (λ c. c .before .before .before .loop .inv)
+    (λ c. search needs)
+    (λ c. search needs)
     loop-again
-    returns-2)
+    (λ c. c .before .loop .inv))

@@ -8,7 +8,7 @@ shade-level-requires c κs =
     let then2 = c .before .before in
     let after-is-level = then2 .before in
     let then1 = after-is-level .before in
-    let entry = then1 .before .before .before .before .before in
+    let entry = then1 .before .before .before .before .before .before in
     ((after-is-level .is-level .ensures (then2 .if2 .taken), then1 .if1 .taken), entry .pre)
 
 pub shade-gradient-spec : {M : Type 1} → statement M

@@ -1,35 +1,48 @@
--- `spans::shade_parts` meets its contract: the pixels before a are stored, and the buffer holds the same coverage as before. Assumes nothing.
-use mathlib.Core.Path.{_≡_, refl, sym, subst, _∙_}
+-- `spans::shade_parts` meets its contract: the pixels before run j are stored. Assumes nothing.
+use mathlib.Core.Path.{_≡_, refl, _∙_}
 use Prim.Native.Nat.{ℕ, _+_, _-_, _*_, _≤_}
 use native.Mathlib.Omega.{arith}
-use lib.ListN.{length, take}
+use lib.ListN.{length}
 use Rattle.lists.proofs.Laws.{part-length}
+use Rattle.runs.specs.Runs.{startOf, expand, Runs}
+use Rattle.runs.proofs.Expand.{starts-rise, runs-few, first-runs, first-within}
 use Rattle.color.specs.declared.Pixel.{Pixel}
 use Rattle.raster.specs.Rows.{Stored}
 use Rattle.raster.proofs.Runs.{stored-none}
-use Rattle.blend.specs.Rows.{Coverage}
 use Rattle.engine.specs.Rows.{gradientTinted}
-use Rattle.engine.proofs.Parts.{stepped, stored-past, stored-through, stored-whole}
+use Rattle.engine.proofs.Parts.{stepped, first-covered, stored-past, stored-through, stored-whole}
 use borrow.Author.Needs.{needs}
 use Rattle.engine.proofs.spans.shade_parts.Statement.{statement}
 use Rattle.engine.proofs.spans.shade_parts.Tie as tie
 
 abbrev Inv-loop : tie.InvT-loop
-Inv-loop row₀ ramp buffer₀ mode g strip n a₀ row buffer a =
-    (a ≤ n) × (length buffer ≡ length buffer₀) × (take n buffer ≡ take n buffer₀)
-    × Stored (stepped mode (take n buffer₀) (λ i. gradientTinted g ramp (strip .x + i) (strip .y)) row₀) row₀ a row
+Inv-loop row₀ ramp buffer₀ runs count mode g strip j₀ row buffer j =
+    (j ≤ count) × (length buffer ≡ length buffer₀)
+    × Stored (stepped mode (expand runs count) (λ i. gradientTinted g ramp (strip .x + i) (strip .y)) row₀) row₀ (startOf runs j) row
 
 abbrev μ-loop : tie.MeasureT-loop
-μ-loop row₀ ramp buffer₀ mode g strip n a₀ row buffer a = n - a
+μ-loop row₀ ramp buffer₀ runs count mode g strip j₀ row buffer j = count - j
 
--- the paint of the ith pixel
-abbrev paint : tie.Start Inv-loop μ-loop → ℕ → Pixel
-paint c i = gradientTinted (c .args .g) (c .args .ramp .now) (c .args .strip .x + i) (c .args .strip .y)
+module _ (c : tie.Start Inv-loop μ-loop) where
+  -- the paint of the ith pixel
+  abbrev paint : ℕ → Pixel
+  paint i = gradientTinted (c .args .g) (c .args .ramp .now) (c .args .strip .x + i) (c .args .strip .y)
 
-covered-from-requires : tie.Need-covered-from-requires Inv-loop μ-loop
-covered-from-requires c κs =
-    let entry = c .before .before .before .before in
-    (omega arith, omega (arith, entry .pre .1 .0 .2))
+  made : Runs (c .args .runs .now) (c .args .count) (c .args .strip .length)
+  made = c .pre .1 .1 .0
+
+  few : c .args .count ≤ length (c .args .runs .now)
+  few = omega (arith, runs-few (c .args .runs .now) (c .args .count) (c .args .strip .length) made, c .pre .1 .0 .2)
+
+  -- where a run begins
+  within : (j : ℕ) → j ≤ c .args .count → startOf (c .args .runs .now) j ≤ c .args .strip .length
+  within = first-within (c .args .runs .now) (c .args .count) (c .args .strip .length) made
+
+  short : (j : ℕ) → j ≤ c .args .count → startOf (c .args .runs .now) j ≤ 1024
+  short j h = omega (arith, within j h, c .pre .1 .0 .0 .1)
+
+  rise : (j m : ℕ) → j ≤ m → m ≤ c .args .count → startOf (c .args .runs .now) j ≤ startOf (c .args .runs .now) m
+  rise = starts-rise (c .args .runs .now) (c .args .count) (made .rises)
 
 loop-holds : tie.Need-loop-holds Inv-loop μ-loop
 loop-holds c =
@@ -38,89 +51,93 @@ loop-holds c =
     let next = c .covered-from in (
       next .ensures .1,
       refl,
-      refl,
-      stored-past (a .mode) (a .strip .length) (paint entry) (a .buffer .now) (a .buffer .now) (a .row .now) refl (stored-none _ _) (next .result)
+      stored-past (a .runs .now) (a .count) (a .strip .length) (made entry) (a .mode) (paint entry) (a .row .now) (entry .pre .1 .0 .1) (a .row .now) 0
+          (stored-none _ _)
+          (next .result)
           (next .ensures .0)
-          (next .ensures .1)
-          (entry .pre .1 .0 .1),
+          (next .ensures .1),
     )
 
-covered-to-requires : tie.Need-covered-to-requires Inv-loop μ-loop
-covered-to-requires c κs =
-    let at-loop = c .before .before in
-    let entry = c .before .before .before .before .before .before .before .before in
-    (c .before .loop-test .taken, omega (arith, at-loop .loop .inv .1, entry .pre .1 .0 .2))
+-- the part of a turn
+module _ (c : tie.After-start2 Inv-loop μ-loop) where
+  low : c .before .before .before .before .loop .j ≤ c .before .before .covered-to .result
+  low = omega (arith, c .before .before .covered-to .ensures .0)
 
-part-shade-part-start : tie.Need-part-shade-part-start Inv-loop μ-loop
-part-shade-part-start c = omega (arith, c .covered-to .ensures .0)
+  rising : c .before .start .result ≤ c .start2 .result
+  rising =
+      omega (
+        arith,
+        c .start2 .ensures,
+        c .before .start .ensures,
+        rise (c .before .before .before .before .before .before .before .before .before .before) (c .before .before .before .before .loop .j) (c .before .before .covered-to .result) low (c .before .before .covered-to .ensures .1),
+      )
 
-part-shade-part-end : tie.Need-part-shade-part-end Inv-loop μ-loop
-part-shade-part-end c =
-    let at-loop = c .before .before .before in
-    let entry = c .before .before .before .before .before .before .before .before .before in
-    omega (arith, c .covered-to .ensures .1, at-loop .loop .inv .3 .long, entry .pre .1 .0 .1)
+  ends : c .start2 .result * 4 ≤ length (c .before .before .before .before .loop .row)
+  ends =
+      omega (arith, c .start2 .ensures, within (c .before .before .before .before .before .before .before .before .before .before) (c .before .before .covered-to .result) (c .before .before .covered-to .ensures .1), c .before .before .before .before .loop .inv .2 .long, c .before .before .before .before .before .before .before .before .before .before .pre .1 .0 .1)
 
 shade-part-requires : tie.Need-shade-part-requires Inv-loop μ-loop
 shade-part-requires c κs =
-    let after-covered-to = c .before .before in
-    let at-loop = after-covered-to .before .before .before in
-    let entry = at-loop .before .before .before .before .before .before in
-    let p = entry .pre in
-    let l = at-loop .loop in
-    let t = after-covered-to .covered-to .ensures in
-    let e = after-covered-to .covered-to .result in
-    let low : l .a ≤ e = omega (arith, t .0) in
-    let size : e * 4 - l .a * 4 ≡ (e - l .a) * 4 = omega arith in
-    let long = part-length (l .row) (l .a * 4) (e * 4) (omega (arith, low)) (omega (arith, t .1, l .inv .3 .long, p .1 .0 .1)) in
-    (p .0, ((p .1 .0 .0, low, t .1), ((long ∙ size, l .inv .1 ∙ p .1 .0 .2), subst Coverage (sym (l .inv .2)) (p .1 .1))))
-
-covered-from-requires-2 : tie.Need-covered-from-requires-2 Inv-loop μ-loop
-covered-from-requires-2 c κs =
-    let after-shade-part = c .before .before .before .before .before in
-    let after-covered-to = after-shade-part .before .before .before in
-    let at-loop = after-covered-to .before .before .before in
-    let entry = at-loop .before .before .before .before .before .before in
-    let long = after-shade-part .shade-part .kept .1 .1 .0 ∙ at-loop .loop .inv .1 ∙ entry .pre .1 .0 .2 in
-    (after-covered-to .covered-to .ensures .1, omega (arith, long))
+    let measured = c .before .before in
+    let t = measured .before .before .covered-to in
+    let l = measured .before .before .before .before .loop in
+    let entry = measured .before .before .before .before .before .before .before .before .before .before in
+    let a = entry .args in
+    let runs = a .runs .now in
+    let p = entry .pre .1 in
+    let from = measured .before .start in
+    let to = measured .start2 in
+    let size : to .result * 4 - from .result * 4 ≡ (startOf runs (t .result) - startOf runs (l .j)) * 4 = omega (arith, from .ensures, to .ensures) in (
+      entry .pre .0,
+      (
+        (
+          p .0 .0,
+          (
+            first-runs runs (a .count) (a .strip .length) (made entry) (t .result) (t .ensures .1),
+            low measured,
+            omega (arith, t .ensures .1, few entry),
+            within entry (t .result) (t .ensures .1),
+            first-covered runs (a .count) (a .strip .length) (made entry) (p .1 .1) (t .result) (t .ensures .1),
+          ),
+        ),
+        (
+          part-length (l .row) (from .result * 4) (to .result * 4) (omega (arith, rising measured)) (ends measured) ∙ size,
+          l .inv .1 ∙ p .0 .2 .0,
+        ),
+      ),
+    )
 
 loop-less : tie.Need-loop-less Inv-loop μ-loop
-loop-less c =
-    let after-covered-to = c .before .before .before .before .before .before .before .before .before in
-    omega (arith, c .covered-from2 .ensures .0 .0, c .covered-from2 .ensures .1, after-covered-to .covered-to .ensures .0)
+loop-less c = omega (arith, c .covered-from2 .ensures .0 .0, c .covered-from2 .ensures .1, c .before .before .before .before .before .before .before .before .before .before .covered-to .ensures .0)
 
 loop-again : tie.Need-loop-again Inv-loop μ-loop
 loop-again c =
-    let after-shade-part = c .before .before .before .before .before .before in
-    let after-covered-to = after-shade-part .before .before .before in
-    let at-loop = after-covered-to .before .before .before in
-    let entry = at-loop .before .before .before .before .before .before in
+    let call = c .before .before .before .before .before .shade-part in
+    let measured = c .before .before .before .before .before .before .before .before in
+    let t = measured .before .before .covered-to in
+    let l = measured .before .before .before .before .loop in
+    let entry = measured .before .before .before .before .before .before .before .before .before .before in
     let a = entry .args in
-    let n = a .strip .length in
-    let l = at-loop .loop in
-    let t = after-covered-to .covered-to in
-    let call = after-shade-part .shade-part in
     let next = c .covered-from2 in
-    let low : l .a ≤ t .result = omega (arith, t .ensures .0) in
-    let same = call .ensures .0 ∙ l .inv .2 in
-    let through = stored-through (a .mode) n (paint entry) (l .buffer) (a .buffer .now) (a .row .now) (l .inv .2) (l .inv .3) (t .result) (call .last .0) low
-    (t .ensures .1) (entry .pre .1 .0 .1) (call .ensures .1) in (
+    let through = stored-through (a .runs .now) (a .count) (a .strip .length) (made entry) (a .mode) (paint entry) (a .row .now) (entry .pre .1 .0 .1)
+    (l .row) (l .j) (t .result) (measured .before .start .result) (measured .start2 .result) (measured .before .start .ensures) (measured .start2 .ensures)
+    (l .inv .2) (call .last .0) (low measured) (t .ensures .1) (call .ensures) in (
       next .ensures .1,
       call .kept .1 .1 .0 ∙ l .inv .1,
-      same,
-      stored-past (a .mode) n (paint entry) (call .last .1 .1 .0) (a .buffer .now) (a .row .now) same through (next .result) (next .ensures .0)
-          (next .ensures .1)
-          (entry .pre .1 .0 .1),
+      stored-past (a .runs .now) (a .count) (a .strip .length) (made entry) (a .mode) (paint entry) (a .row .now) (entry .pre .1 .0 .1) _ (t .result)
+          through
+          (next .result)
+          (next .ensures .0)
+          (next .ensures .1),
     )
 
 returns : tie.Need-returns Inv-loop μ-loop
 returns c =
-    let at-loop = c .before in
-    let entry = at-loop .before .before .before .before .before .before in
+    let l = c .before .loop in
+    let entry = c .before .before .before .before .before .before .before in
     let a = entry .args in
-    let l = at-loop .loop in
-    let done : l .a ≡ a .strip .length = omega (arith, l .inv .0, c .loop-test .left) in
-    stored-whole (a .mode) (a .strip .length) (paint entry) (a .buffer .now) (a .row .now) (l .row) (l .a) (l .inv .3) done (entry .pre .1 .0 .1)
-    (omega (arith, entry .pre .1 .0 .2))
+    stored-whole (a .runs .now) (a .count) (a .strip .length) (made entry) (a .mode) (paint entry) (a .row .now) (entry .pre .1 .0 .1) (l .row) (l .j)
+    (l .inv .2) (omega (arith, l .inv .0, c .loop-test .left))
 
 pub shade-parts-spec : {M : Type 1} → statement M
 shade-parts-spec =
@@ -128,16 +145,18 @@ shade-parts-spec =
     (tie.spec
     Inv-loop
     μ-loop
-    covered-from-requires
+    (λ c κs. (omega arith, few (c .before .before .before .before)))
     loop-holds
-    covered-to-requires
-    (λ c. search needs)
-    (λ c. search needs)
-    (λ c. search needs)
-    part-shade-part-start
-    part-shade-part-end
+    (λ c κs. (c .loop-test .taken, few (c .before .before .before .before .before .before .before)))
+    (λ c κs. omega (arith, few (c .before .before .before .before .before .before .before .before), c .before .before .loop .inv .0))
+    (λ c. omega (arith, c .start .ensures, short (c .before .before .before .before .before .before .before .before .before) (c .before .before .before .loop .j) (c .before .before .before .loop .inv .0)))
+    (λ c κs. omega (arith, few (c .before .before .before .before .before .before .before .before .before), c .before .covered-to .ensures .1))
+    (λ c. omega (arith, c .start2 .ensures, short (c .before .before .before .before .before .before .before .before .before .before) (c .before .before .covered-to .result) (c .before .before .covered-to .ensures .1)))
+    (λ c. omega (arith, rising c))
+    (λ c. omega (arith, rising c))
+    ends
     shade-part-requires
-    covered-from-requires-2
+    (λ c κs. (c .before .before .before .before .before .before .before .before .before .covered-to .ensures .1, few (c .before .before .before .before .before .before .before .before .before .before .before .before .before .before .before .before .before)))
     loop-less
     loop-again
     (λ c. search needs)
