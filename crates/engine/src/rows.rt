@@ -68,23 +68,48 @@ pub fn fill(
         ⌝ }
 {
     let mut numbers = [0u32; BAND_NUMBERS];
-    let s = style(d, n, shade(d, &mut numbers[0..RAMP_NUMBERS]));
-    fill_with(
+    fill_draw(surface, scratch, mask, n, d, target, &mut numbers);
+}
+
+// The same with a run for its ramp and the edges of a band. What that holds afterwards is free.
+fn fill_draw(
+    surface: &mut [u8],
+    scratch: &mut [i32],
+    mask: &[u8],
+    n: usize,
+    d: &[u8],
+    target: Target,
+    numbers: &mut [u32],
+)
+    requires { ⌜ (length (now d) ≡ drawBytes) × AcceptedFields (now d) ⌝ }
+    requires { ⌜ Outlined (now scratch) n ⌝ }
+    requires { ⌜ Part target (now surface) × MaskFor (usesMask (now d)) (target .height * target .width) (now mask) ⌝ }
+    requires { ⌜ 2117 ≤ length (now numbers) ⌝ }
+    ensures { λ _. ⌜ now (scratch .exit) ≡ now (scratch .entry) ⌝ }
+    ensures { λ _. ⌜
+        now (surface .exit)
+        ≡ stepped target (unclampedOf (edgesOf (now (scratch .entry)) n) (now (d .entry)) (maskAt (target .width) (now (mask .entry)))) (now (surface .entry))
+        ⌝ }
+{
+    let shade = shade(d, &mut numbers[0..RAMP_NUMBERS]);
+    let style = style(d, n, shade);
+    let fill = Fill {
+        style,
+        target,
+        listed: 0,
+    };
+    fill_style(
         surface,
         scratch,
         scene::fields::scissors(d),
-        &mut numbers,
+        numbers,
         mask,
-        Fill {
-            style: s,
-            target,
-            listed: 0,
-        },
+        fill,
     );
 }
 
-// The same of a draw that was decoded, its ramp at the start of the numbers. What they hold behind it is free.
-fn fill_with(
+// The same of a draw that was decoded, its ramp at the start of the numbers.
+fn fill_style(
     surface: &mut [u8],
     scratch: &mut [i32],
     scissors: &[u8],
@@ -107,6 +132,42 @@ fn fill_with(
 {
     let mut buffer = [0u8; ROW_BYTES];
     let mut runs = [0u16; ROW_RUNS];
+    fill_with(
+        surface,
+        scratch,
+        scissors,
+        numbers,
+        mask,
+        &mut buffer,
+        &mut runs,
+        fill,
+    );
+}
+
+// The same with a buffer and runs for the longest row. What these hold afterwards is free.
+fn fill_with(
+    surface: &mut [u8],
+    scratch: &mut [i32],
+    scissors: &[u8],
+    numbers: &mut [u32],
+    mask: &[u8],
+    buffer: &mut [u8],
+    runs: &mut [u16],
+    fill: Fill,
+)
+    requires { ⌜ Outlined (now scratch) (fill .style .edges) × (rampNumbers + fill .style .edges ≤ length (now numbers)) ⌝ }
+    requires { ⌜ Scissors (fill .style) (now scissors) × Shaded (fill .style .shade) (take rampNumbers (now numbers)) ⌝ }
+    requires { ⌜ Part (fill .target) (now surface) × (5120 ≤ length (now buffer)) × (1024 ≤ length (now runs)) ⌝ }
+    requires { ⌜ MaskFor (fill .style .masked) (fill .target .height * fill .target .width) (now mask) ⌝ }
+    ensures { λ _. ⌜ now (scratch .exit) ≡ now (scratch .entry) ⌝ }
+    ensures { λ _. ⌜
+        now (surface .exit)
+        ≡ stepped (fill .target)
+        (λ x y. stepWith (fill .style) (edgesOf (now (scratch .entry)) (fill .style .edges)) (now (scissors .entry)) (take rampNumbers (now (numbers .entry)))
+        (maskAt (fill .target .width) (now (mask .entry)) x y) x y)
+        (now (surface .entry))
+        ⌝ }
+{
     let n = fill.target.area.x1 - fill.target.area.x0;
     let m = n * 5;
     draw_bands(
@@ -152,13 +213,28 @@ fn draw_bands(
     let mut y = target.area.y0;
     while y < y1 {
         let end = rect::least(y + BAND_ROWS, y1);
-        let listed = coverage::filter_edges(scratch, style.edges, y, end, &mut numbers[RAMP_NUMBERS..last]);
+        let listed = coverage::filter_edges(
+            scratch,
+            style.edges,
+            y,
+            end,
+            &mut numbers[RAMP_NUMBERS..last],
+        );
         let band = Fill {
             style,
             target: rows_of(target, y, end),
             listed,
         };
-        draw_rect(surface, scratch, scissors, numbers, mask, buffer, runs, band);
+        draw_rect(
+            surface,
+            scratch,
+            scissors,
+            numbers,
+            mask,
+            buffer,
+            runs,
+            band,
+        );
         y = end;
     }
 }

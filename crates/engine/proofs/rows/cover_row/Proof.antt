@@ -21,7 +21,7 @@ returns c =
       (
         subst (Runs (call .last .1 .1 .1 .0) (call .result)) long (call .ensures .1 .0),
         cover-plain (a .style) (edgesOf (a .scratch .now) (a .style .edges)) (a .scissors .now) (s .x) (s .y) (s .length) _ (not-true _ (c .if1 .taken))
-        (rw long at (call .ensures .1 .1)),
+            (rw long at (call .ensures .1 .1)),
       ),
     )
 
@@ -54,7 +54,7 @@ returns-2 c =
       (
         cut .ensures .0,
         cover-scissored (a .style) (edgesOf (a .scratch .now) (a .style .edges)) (a .scissors .now) (s .x) (s .y) (s .length) _ _
-        (not-false _ (else1 .if1 .left)) (rw (entry .pre .1 .1 .1) at (call .ensures .1 .1)) (cut .ensures .1),
+            (not-false _ (else1 .if1 .left)) (rw (entry .pre .1 .1 .1) at (call .ensures .1 .1)) (cut .ensures .1),
       ),
     )
 

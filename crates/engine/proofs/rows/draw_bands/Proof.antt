@@ -98,7 +98,7 @@ module _ (c : tie.After-filter-edges Inv-loop μ-loop) where
       let same = back-length before list rampNumbers (rampNumbers + edges) (omega arith) room (long ∙ omega arith) in (
         omega (arith, few, room, same),
         subst (Band (c .before .before .before .before .before .loop .scratch) edges (c .before .before .before .before .before .loop .y) (c .before .before .before .least .result)) (sym (list-given before list edges room long (c .filter-edges .result) few))
-        (c .filter-edges .ensures .1),
+            (c .filter-edges .ensures .1),
       )
 
 draw-rect-requires : tie.Need-draw-rect-requires Inv-loop μ-loop
@@ -149,8 +149,8 @@ loop-again c =
       call .ensures .0 ∙ l .inv .1,
       kept after-filter-edges,
       back-length (l .numbers) (list after-filter-edges) rampNumbers (rampNumbers + a .fill .style .edges) (omega arith) (room after-filter-edges)
-      (long after-filter-edges ∙ omega arith)
-      ∙ l .inv .3,
+          (long after-filter-edges ∙ omega arith)
+          ∙ l .inv .3,
       call .kept .1 .1 .1 .1 .1 .0 ∙ l .inv .4,
       call .kept .1 .1 .1 .1 .1 .1 .0 ∙ l .inv .5,
     )

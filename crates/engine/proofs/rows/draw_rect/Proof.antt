@@ -85,7 +85,7 @@ draw-row-requires c κs =
     let on : OnSurface (record { x = a .fill .target .area .x0; y = l .y; length = a .fill .target .area .x1 - a .fill .target .area .x0 }) =
     (omega (arith, placed .high, placed .on .high, in-loop .loop-test .taken), omega (arith, placed .wide, placed .on .wide, placed .on .across)) in (
       subst (λ (z : List ℤ). Outlined z (a .fill .style .edges) × ListedFor z (a .fill .style .edges) (a .numbers .now) (a .fill .listed) (l .y)) (sym (l .inv .1))
-      (p .0 .0, (p .0 .1 .0, p .0 .1 .1 .row (l .y) (l .inv .0 .low) (in-loop .loop-test .taken))),
+          (p .0 .0, (p .0 .1 .0, p .0 .1 .1 .row (l .y) (l .inv .0 .low) (in-loop .loop-test .taken))),
       (
         p .1 .0,
         ((on, lent after-row-bytes .long, (l .inv .2 ∙ p .1 .1 .0 .1 .0, l .inv .3 ∙ p .1 .1 .0 .1 .1)), through after-mask-bytes .long),

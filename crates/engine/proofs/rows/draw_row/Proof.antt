@@ -66,7 +66,7 @@ returns c =
     let s = a .fill .strip in (
       r .ensures .0,
       row-steps (a .fill .style) (edgesOf (a .scratch .now) (a .fill .style .edges)) (a .scissors .now) (s .x) (s .y) (s .length) _ (a .row .now)
-      (take rampNumbers (a .numbers .now)) (a .mask .now) (call .last .0) (r .ensures .1 .1) (call .ensures),
+          (take rampNumbers (a .numbers .now)) (a .mask .now) (call .last .0) (r .ensures .1 .1) (call .ensures),
     )
 
 pub draw-row-spec : {M : Type 1} → statement M

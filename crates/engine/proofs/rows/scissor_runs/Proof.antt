@@ -33,7 +33,7 @@ collect-requires c κs =
     let long = cut-length after-scissor-row in (
       (omega (arith, long, entry .pre .1 .0 .2), omega (arith, long, entry .pre .1 .0 .0)),
       cut-small (a .scissors .now) (a .count) (a .strip .x) (a .strip .y) (cut .last .1 .1 .1 .1 .0) (laid .last .1 .1 .0) (cut .ensures)
-      (subst Coverage (sym (laid .ensures)) (entry .pre .1 .1 .1)),
+          (subst Coverage (sym (laid .ensures)) (entry .pre .1 .1 .1)),
     )
 
 returns : tie.Need-returns
@@ -48,8 +48,8 @@ returns c =
     let laid = after-expand-row .expand-row in (
       subst (Runs (made .last .1 .0) (made .result)) (cut-length after-scissor-row) (made .ensures .0 .0),
       made .ensures .1
-      ∙ cut-row (a .scissors .now) (a .count) (a .strip .x) (a .strip .y) (cut .last .1 .1 .1 .1 .0) (laid .last .1 .1 .0) (cut .ensures) (a .strip .length) _
-      (laid .ensures) (laid .kept .1 .1 .0 ∙ entry .pre .1 .0 .1),
+          ∙ cut-row (a .scissors .now) (a .count) (a .strip .x) (a .strip .y) (cut .last .1 .1 .1 .1 .0) (laid .last .1 .1 .0) (cut .ensures) (a .strip .length) _
+          (laid .ensures) (laid .kept .1 .1 .0 ∙ entry .pre .1 .0 .1),
     )
 
 pub scissor-runs-spec : {M : Type 1} → statement M
