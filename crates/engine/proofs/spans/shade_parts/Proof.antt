@@ -1,5 +1,6 @@
 -- `spans::shade_parts` meets its contract: the pixels before run j are stored. Assumes nothing.
 use mathlib.Core.Path.{_≡_, refl, _∙_}
+use mathlib.Core.List.{List}
 use Prim.Native.Nat.{ℕ, _+_, _-_, _*_, _≤_}
 use native.Mathlib.Omega.{arith}
 use lib.ListN.{length}
@@ -54,17 +55,20 @@ loop-holds c =
 
 -- the runs of a turn's part
 module _ (c : tie.After-covered-to Inv-loop μ-loop) where
+  abbrev lent : List ℕ
+  lent = c .before .before .before .before .before .before .before .before .args .runs .now
+
   low : c .before .before .loop .j ≤ c .covered-to .result
   low = omega (arith, c .covered-to .ensures .0)
 
-  rise : let runs = c .before .before .before .before .before .before .before .before .args .runs .now in startOf runs (c .before .before .loop .j) ≤ startOf runs (c .covered-to .result)
+  rise : startOf lent (c .before .before .loop .j) ≤ startOf lent (c .covered-to .result)
   rise =
       let entry = c .before .before .before .before .before .before .before .before in
       let m = c .covered-to in
-      starts-rise (entry .args .runs .now) (entry .args .count) (made entry .rises) (c .before .before .loop .j) (m .result) low (m .ensures .1)
+      starts-rise lent (entry .args .count) (made entry .rises) (c .before .before .loop .j) (m .result) low (m .ensures .1)
 
   -- where it ends
-  end : let a = c .before .before .before .before .before .before .before .before .args in startOf (a .runs .now) (c .covered-to .result) ≤ a .strip .length
+  end : startOf lent (c .covered-to .result) ≤ c .before .before .before .before .before .before .before .before .args .strip .length
   end = within (c .before .before .before .before .before .before .before .before) (c .covered-to .result) (c .covered-to .ensures .1)
 
 -- and its pixels
