@@ -6,7 +6,7 @@ use paint::AnyGradient;
 use raster::Range;
 ghost use mathlib.Core.Path.{_≡_};
 ghost use mathlib.Core.Bool.{true};
-ghost use Prim.Native.Nat.{ℕ, _+_, _-_, _*_, _≤_, _<_};
+ghost use Prim.Native.Nat.{_+_, _-_, _*_, _≤_, _<_};
 ghost use lib.ListN.{length, getD};
 ghost use Rattle.runs.specs.Runs.{startOf, expand};
 ghost use Rattle.raster.specs.Surface.{run, pixelIn};

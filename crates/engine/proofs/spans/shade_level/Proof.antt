@@ -1,6 +1,6 @@
 -- `spans::shade_level` meets its contract: the first pixel's paint, blended along the row.
 use mathlib.Core.Path.{_≡_, _∙_}
-use Prim.Native.Nat.{ℕ, _≤_}
+use Prim.Native.Nat.{_≤_}
 use native.Mathlib.Omega.{arith}
 use lib.ListN.{length, drop}
 use Rattle.lists.proofs.Laws.{part-length}
@@ -32,7 +32,8 @@ pixel-requires : tie.Need-pixel-requires
 pixel-requires c κs =
     let after-gradient-row = c .before .before .before in
     let entry = after-gradient-row .before .before .before .before .before .before in
-    omega (arith, room entry, first-given (entry .args .buffer .now) (after-gradient-row .gradient-row .last .1 .0) 4 (painted after-gradient-row) (room entry))
+    let q = after-gradient-row .gradient-row .last .1 .0 in
+    omega (arith, room entry, first-given (entry .args .buffer .now) q 4 (painted after-gradient-row) (room entry))
 
 composite-runs-requires : tie.Need-composite-runs-requires
 composite-runs-requires c κs =

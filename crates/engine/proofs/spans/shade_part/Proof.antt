@@ -52,7 +52,8 @@ module _ (c : tie.After-start2) where
 painted : (c : tie.After-gradient-row) → length (c .gradient-row .last .1 .0) ≡ long (c .before .before .before)
 painted c =
     let measured = c .before .before .before in
-    c .gradient-row .kept .1 .0 ∙ part-length (measured .before .before .before .before .before .before .args .buffer .now) 0 (long measured) (omega arith) (within measured) ∙ all measured
+    let entry = measured .before .before .before .before .before .before in
+    c .gradient-row .kept .1 .0 ∙ part-length (entry .args .buffer .now) 0 (long measured) (omega arith) (within measured) ∙ all measured
 
 gradient-row-requires : tie.Need-gradient-row-requires
 gradient-row-requires c κs =
@@ -73,12 +74,13 @@ composite-painted-runs-requires c κs =
     let a = entry .args in
     let p = part entry in
     let q = after-gradient-row .gradient-row .last .1 .0 in
+    let given = painted after-gradient-row in
     let size : long measured ≡ (startOf (a .runs .now) (a .part .to) - startOf (a .runs .now) (a .part .from)) * 4 =
     omega (arith, measured .start2 .ensures, measured .before .start .ensures) in (
       (subst (Runs (a .runs .now) (a .part .to)) (sym (measured .start2 .ensures)) (p .0), p .1, omega arith, p .2),
       (
         (
-          ap length (first-of _ (long measured) ∙ first-part q (behind measured) (long measured) (painted after-gradient-row)) ∙ painted after-gradient-row ∙ size,
+          ap length (first-of _ (long measured) ∙ first-part q (behind measured) (long measured) given) ∙ given ∙ size,
           entry .pre .1 .1 .0,
         ),
         p .4,

@@ -1,5 +1,6 @@
 -- `spans::shade_parts` meets its contract: the pixels before run j are stored. Assumes nothing.
 use mathlib.Core.Path.{_≡_, refl, _∙_}
+use mathlib.Core.List.{List}
 use Prim.Native.Nat.{ℕ, _+_, _-_, _*_, _≤_}
 use native.Mathlib.Omega.{arith}
 use lib.ListN.{length}
@@ -38,12 +39,6 @@ module _ (c : tie.Start Inv-loop μ-loop) where
   within : (j : ℕ) → j ≤ c .args .count → startOf (c .args .runs .now) j ≤ c .args .strip .length
   within = first-within (c .args .runs .now) (c .args .count) (c .args .strip .length) made
 
-  short : (j : ℕ) → j ≤ c .args .count → startOf (c .args .runs .now) j ≤ 1024
-  short j h = omega (arith, within j h, c .pre .1 .0 .0 .1)
-
-  rise : (j m : ℕ) → j ≤ m → m ≤ c .args .count → startOf (c .args .runs .now) j ≤ startOf (c .args .runs .now) m
-  rise = starts-rise (c .args .runs .now) (c .args .count) (made .rises)
-
 loop-holds : tie.Need-loop-holds Inv-loop μ-loop
 loop-holds c =
     let entry = c .before .before .before .before .before in
@@ -58,23 +53,44 @@ loop-holds c =
           (next .ensures .1),
     )
 
--- the part of a turn
-module _ (c : tie.After-start2 Inv-loop μ-loop) where
-  low : c .before .before .before .before .loop .j ≤ c .before .before .covered-to .result
-  low = omega (arith, c .before .before .covered-to .ensures .0)
+-- the runs of a turn's part
+module _ (c : tie.After-covered-to Inv-loop μ-loop) where
+  abbrev lent : List ℕ
+  lent = c .before .before .before .before .before .before .before .before .args .runs .now
 
+  low : c .before .before .loop .j ≤ c .covered-to .result
+  low = omega (arith, c .covered-to .ensures .0)
+
+  rise : startOf lent (c .before .before .loop .j) ≤ startOf lent (c .covered-to .result)
+  rise =
+      let entry = c .before .before .before .before .before .before .before .before in
+      let m = c .covered-to in
+      starts-rise lent (entry .args .count) (made entry .rises) (c .before .before .loop .j) (m .result) low (m .ensures .1)
+
+  -- where it ends
+  end : startOf lent (c .covered-to .result) ≤ c .before .before .before .before .before .before .before .before .args .strip .length
+  end = within (c .before .before .before .before .before .before .before .before) (c .covered-to .result) (c .covered-to .ensures .1)
+
+-- and its pixels
+module _ (c : tie.After-start2 Inv-loop μ-loop) where
   rising : c .before .start .result ≤ c .start2 .result
-  rising =
-      omega (
-        arith,
-        c .start2 .ensures,
-        c .before .start .ensures,
-        rise (c .before .before .before .before .before .before .before .before .before .before) (c .before .before .before .before .loop .j) (c .before .before .covered-to .result) low (c .before .before .covered-to .ensures .1),
-      )
+  rising = omega (arith, c .start2 .ensures, c .before .start .ensures, rise (c .before .before))
 
   ends : c .start2 .result * 4 ≤ length (c .before .before .before .before .loop .row)
   ends =
-      omega (arith, c .start2 .ensures, within (c .before .before .before .before .before .before .before .before .before .before) (c .before .before .covered-to .result) (c .before .before .covered-to .ensures .1), c .before .before .before .before .loop .inv .2 .long, c .before .before .before .before .before .before .before .before .before .before .pre .1 .0 .1)
+      let entry = c .before .before .before .before .before .before .before .before .before .before in
+      omega (arith, c .start2 .ensures, end (c .before .before), c .before .before .before .before .loop .inv .2 .long, entry .pre .1 .0 .1)
+
+mul-from : tie.Need-mul-from Inv-loop μ-loop
+mul-from c =
+    let at-loop = c .before .before .before in
+    let entry = at-loop .before .before .before .before .before .before in
+    omega (arith, c .start .ensures, within entry (at-loop .loop .j) (at-loop .loop .inv .0), entry .pre .1 .0 .0 .1)
+
+mul-to : tie.Need-mul-to Inv-loop μ-loop
+mul-to c =
+    let entry = c .before .before .before .before .before .before .before .before .before .before in
+    omega (arith, c .start2 .ensures, end (c .before .before), entry .pre .1 .0 .0 .1)
 
 shade-part-requires : tie.Need-shade-part-requires Inv-loop μ-loop
 shade-part-requires c κs =
@@ -94,9 +110,9 @@ shade-part-requires c κs =
           p .0 .0,
           (
             first-runs runs (a .count) (a .strip .length) (made entry) (t .result) (t .ensures .1),
-            low measured,
+            low (measured .before .before),
             omega (arith, t .ensures .1, few entry),
-            within entry (t .result) (t .ensures .1),
+            end (measured .before .before),
             first-covered runs (a .count) (a .strip .length) (made entry) (p .1 .1) (t .result) (t .ensures .1),
           ),
         ),
@@ -107,8 +123,16 @@ shade-part-requires c κs =
       ),
     )
 
+covered-from-requires-2 : tie.Need-covered-from-requires-2 Inv-loop μ-loop
+covered-from-requires-2 c κs =
+    let after-covered-to = c .before .before .before .before .before .before .before .before .before in
+    let entry = after-covered-to .before .before .before .before .before .before .before .before in
+    (after-covered-to .covered-to .ensures .1, few entry)
+
 loop-less : tie.Need-loop-less Inv-loop μ-loop
-loop-less c = omega (arith, c .covered-from2 .ensures .0 .0, c .covered-from2 .ensures .1, c .before .before .before .before .before .before .before .before .before .before .covered-to .ensures .0)
+loop-less c =
+    let after-covered-to = c .before .before .before .before .before .before .before .before .before .before in
+    omega (arith, c .covered-from2 .ensures .0 .0, c .covered-from2 .ensures .1, after-covered-to .covered-to .ensures .0)
 
 loop-again : tie.Need-loop-again Inv-loop μ-loop
 loop-again c =
@@ -121,7 +145,7 @@ loop-again c =
     let next = c .covered-from2 in
     let through = stored-through (a .runs .now) (a .count) (a .strip .length) (made entry) (a .mode) (paint entry) (a .row .now) (entry .pre .1 .0 .1)
     (l .row) (l .j) (t .result) (measured .before .start .result) (measured .start2 .result) (measured .before .start .ensures) (measured .start2 .ensures)
-    (l .inv .2) (call .last .0) (low measured) (t .ensures .1) (call .ensures) in (
+    (l .inv .2) (call .last .0) (low (measured .before .before)) (t .ensures .1) (call .ensures) in (
       next .ensures .1,
       call .kept .1 .1 .0 ∙ l .inv .1,
       stored-past (a .runs .now) (a .count) (a .strip .length) (made entry) (a .mode) (paint entry) (a .row .now) (entry .pre .1 .0 .1) _ (t .result)
@@ -149,14 +173,14 @@ shade-parts-spec =
     loop-holds
     (λ c κs. (c .loop-test .taken, few (c .before .before .before .before .before .before .before)))
     (λ c κs. omega (arith, few (c .before .before .before .before .before .before .before .before), c .before .before .loop .inv .0))
-    (λ c. omega (arith, c .start .ensures, short (c .before .before .before .before .before .before .before .before .before) (c .before .before .before .loop .j) (c .before .before .before .loop .inv .0)))
+    mul-from
     (λ c κs. omega (arith, few (c .before .before .before .before .before .before .before .before .before), c .before .covered-to .ensures .1))
-    (λ c. omega (arith, c .start2 .ensures, short (c .before .before .before .before .before .before .before .before .before .before) (c .before .before .covered-to .result) (c .before .before .covered-to .ensures .1)))
+    mul-to
     (λ c. omega (arith, rising c))
     (λ c. omega (arith, rising c))
     ends
     shade-part-requires
-    (λ c κs. (c .before .before .before .before .before .before .before .before .before .covered-to .ensures .1, few (c .before .before .before .before .before .before .before .before .before .before .before .before .before .before .before .before .before)))
+    covered-from-requires-2
     loop-less
     loop-again
     (λ c. search needs)
