@@ -1,6 +1,7 @@
 // Porter-Duff blending of premultiplied bytes under a coverage of 0 to 16 samples.
 pub mod bytewise;
 pub mod factor;
+pub mod masked;
 pub mod row;
 pub mod span;
 pub mod step;

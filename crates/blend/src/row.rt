@@ -1,8 +1,8 @@
 // The step along a part of a row, by its coverage as bytes or as runs, with a mask or without. The row's pixels are taken as they stand: who lends
 // one with stray bytes clamps it first.
+use crate::masked::composite_masked;
 use crate::span::composite_painted;
 use crate::span::composite_span;
-use crate::step::composite_on;
 use color::Pixel;
 use raster::Range;
 ghost use mathlib.Core.Path.{_≡_};
@@ -41,15 +41,18 @@ pub fn composite_row_masked(mode: u16, coverage: &[u8], mask: &[u8], src: &[u8],
 {
     let mut i = 0;
     while i < coverage.len() {
-        let p = composite_on(
+        let e = span_end(coverage, i);
+        let from = i * 4;
+        let to = e * 4;
+        composite_masked(
             mode,
             coverage[i],
-            mask[i],
-            raster::pixel(src, i),
-            raster::pixel(row, i),
+            &mask[i..e],
+            &src[from..to],
+            &mut row[from..to],
+            e - i,
         );
-        raster::put_pixel(row, i, p);
-        i += 1;
+        i = e;
     }
 }
 
