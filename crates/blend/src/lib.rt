@@ -7,6 +7,7 @@ pub mod span;
 pub mod step;
 
 pub use crate::factor::is_mode;
+pub use crate::row::composite_masked_runs;
 pub use crate::row::composite_painted_runs;
 pub use crate::row::composite_row;
 pub use crate::row::composite_row_masked;

@@ -147,6 +147,48 @@ pub fn composite_painted_runs(
     }
 }
 
+// The same through a mask of one byte for each of these pixels.
+pub fn composite_masked_runs(
+    mode: u16,
+    runs: &[u16],
+    n: usize,
+    some: Range,
+    mask: &[u8],
+    src: &[u8],
+    row: &mut [u8],
+    w: usize,
+)
+    requires { ⌜ Runs (now runs) n w × (some .from ≤ some .to) × (some .to ≤ n) × (n ≤ length (now runs)) ⌝ }
+    requires { ⌜ (length (now src) ≡ lengthOf (now runs) some * 4) × (length (now row) ≡ lengthOf (now runs) some * 4) ⌝ }
+    requires { ⌜ Coverage (expand (now runs) n) × (length (now mask) ≡ lengthOf (now runs) some) ⌝ }
+    ensures { λ _. ⌜
+        now (row .exit)
+        ≡ run (lengthOf (now (runs .entry)) some)
+        (λ i. compositeOn mode (getD (expand (now (runs .entry)) n) (startOf (now (runs .entry)) (some .from) + i) 0) (getD (now (mask .entry)) i 0)
+        (pixelIn (now (src .entry)) i) (pixelIn (now (row .entry)) i))
+        ⌝ }
+{
+    let end = some.to;
+    let first = start_of(runs, some.from);
+    let mut j = some.from;
+    let mut a = 0;
+    while j < end {
+        let e = (runs[j] / 32) as usize - first;
+        let from = a * 4;
+        let to = e * 4;
+        composite_masked(
+            mode,
+            (runs[j] % 32) as u8,
+            &mask[a..e],
+            &src[from..to],
+            &mut row[from..to],
+            e - a,
+        );
+        a = e;
+        j += 1;
+    }
+}
+
 // Where run j begins.
 fn start_of(runs: &[u16], j: usize) -> usize
     requires { ⌜ j ≤ length (now runs) ⌝ }
