@@ -1,7 +1,7 @@
 -- Rows made byte by byte: bytes that make the right pixels are a run of them.
 use mathlib.Core.Path.{_≡_, refl, ap, _∙_}
 use mathlib.Core.List.{List, [], _∷_}
-use Prim.Native.Nat.{ℕ, _+_, _-_, _*_, _≤_, _<_}
+use Prim.Native.Nat.{ℕ, _+_, _-_, _*_, _/_, _%_, _≤_, _<_}
 use native.Mathlib.Omega.{arith}
 use lib.ListN.{getD}
 use Rattle.lists.specs.Lists.{tab}
@@ -10,9 +10,9 @@ use Rattle.color.specs.declared.Pixel.{Pixel}
 use Rattle.raster.specs.Surface.{run, pixelIn}
 use Rattle.raster.proofs.Pixels.{run-at}
 use Rattle.raster.proofs.Runs.{run-is}
-use Rattle.blend.specs.PorterDuff.{modeSrcOver, blended, storedUnmasked, sourceFactor, destinationFactor}
+use Rattle.blend.specs.PorterDuff.{modeSrcOver, blended, stored, storedUnmasked, sourceFactor, destinationFactor}
 use Rattle.blend.specs.Unmasked.{unmaskedByte, unmaskedOn}
-use Rattle.blend.specs.Spans.{keepPixel, storedPixel, wordOf}
+use Rattle.blend.specs.Spans.{keepPixel, storedPixel, maskedPixel, wordOf}
 use Rattle.blend.proofs.Channel.{covered-byte}
 
 -- four bytes of a table, one after the other
@@ -36,6 +36,13 @@ storedAt k s d j = storedUnmasked k (getD s j 0) (getD d j 0)
 
 pub stored-bytes : (n k : ℕ) (s d : List ℕ) → tab (n * 4) (storedAt k s d) ≡ run n (λ i. storedPixel k (pixelIn s i) (pixelIn d i))
 stored-bytes n k s d = bytes-are-pixels n (storedAt k s d) (λ i. storedPixel k (pixelIn s i) (pixelIn d i)) (λ i l. refl)
+
+-- ---- bytes that are stored under a mask, with a byte of it for each
+abbrev pub maskedAt : ℕ → List ℕ → List ℕ → List ℕ → ℕ → ℕ
+maskedAt k m s d j = stored k (getD m j 0) (getD s j 0) (getD d j 0)
+
+pub masked-bytes : (n k : ℕ) (m s d : List ℕ) → tab (n * 4) (maskedAt k m s d) ≡ run n (λ i. maskedPixel k (pixelIn m i) (pixelIn s i) (pixelIn d i))
+masked-bytes n k m s d = bytes-are-pixels n (maskedAt k m s d) (λ i. maskedPixel k (pixelIn m i) (pixelIn s i) (pixelIn d i)) (λ i l. refl)
 
 -- ---- bytes under SrcOver, with what they keep of what is under them in f
 abbrev pub overAt : List ℕ → List ℕ → List ℕ → ℕ → ℕ
@@ -78,3 +85,11 @@ module _ (n : ℕ) (s f d : List ℕ) (e : f ≡ run n (λ i. keepPixel (pixelIn
 -- ---- a pixel's number tells whether its alpha is 255
 pub word-opaque : (p : Pixel) → p .r < 256 → p .g < 256 → p .b < 256 → p .a < 256 → 4278190080 ≤ wordOf p → p .a ≡ 255
 word-opaque p r g b a h = omega arith
+
+-- ---- and a number whose four bytes are f
+pub four-bytes : (f : ℕ) → f < 256
+    → (f * 16843009 % 256 ≡ f) × (f * 16843009 / 256 % 256 ≡ f) × (f * 16843009 / 65536 % 256 ≡ f) × (f * 16843009 / 16777216 ≡ f)
+four-bytes f h =
+    let high : f * 16843009 / 256 ≡ f * 65793 = omega arith in
+    let higher : f * 16843009 / 65536 ≡ f * 257 = omega arith in
+    (omega arith, rw high (omega arith), rw higher (omega arith), omega arith)

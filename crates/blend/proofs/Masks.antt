@@ -1,5 +1,5 @@
 -- The step under a mask (paper 02, P6): sizes, the quotient by 4,080, and what it is with m = 255 and with no sample covered.
-use mathlib.Core.Path.{_≡_, _∙_}
+use mathlib.Core.Path.{_≡_, sym, ap, ap₂, _∙_}
 use mathlib.Core.List.{List}
 use Prim.Native.Nat.{ℕ, _+_, _-_, _*_, _/_, _≤_, _<_}
 use native.Mathlib.Nat.{mul-le-mul, mul-le-mul-right}
@@ -7,10 +7,13 @@ use native.Mathlib.Omega.{arith}
 use lib.ListN.{length, getD}
 use Rattle.color.specs.declared.Pixel.{Pixel}
 use Rattle.raster.specs.Surface.{run, pixelIn}
+use Rattle.raster.proofs.Pixels.{run-at}
 use Rattle.raster.proofs.Runs.{run-same}
-use Rattle.blend.specs.PorterDuff.{stored, storedUnmasked, compositeByte, compositeOn}
+use Rattle.blend.specs.PorterDuff.{blended, stored, storedUnmasked, sourceFactor, destinationFactor, compositeByte, compositeOn}
 use Rattle.blend.specs.Unmasked.{unmaskedByte, unmaskedOn}
 use Rattle.blend.specs.Rows.{Coverage, compositeRow}
+use Rattle.blend.specs.Spans.{fourOf, maskedPixel}
+use Rattle.blend.proofs.Channel.{covered-byte}
 
 -- ---- the quotient by 4,080 is one by 16, then by 255
 pub by-4080 : (x : ℕ) → x / 16 / 255 ≡ x / 4080
@@ -58,6 +61,37 @@ whole-mask-step mode k s d h =
 pub whole-mask-row : (mode : ℕ) (ks : List ℕ) (paint : ℕ → Pixel) (d r : List ℕ) → Coverage ks
     → r ≡ run (length ks) (λ i. unmaskedOn mode (getD ks i 0) (paint i) (pixelIn d i)) → r ≡ compositeRow mode ks (λ i. 255) paint d
 whole-mask-row mode ks paint d r h o = o ∙ run-same (length ks) _ _ (λ i l. whole-mask-step mode (getD ks i 0) (paint i) (pixelIn d i) (h i l))
+
+-- ---- what is stored is B, as it is where all is covered and nothing masked, by the mask's weight
+masked-byte : (mode k m sa da s d : ℕ) → compositeByte mode k m sa da s d ≡ stored k m (unmaskedByte mode 16 sa da s d) d
+unfolding compositeByte unmaskedByte
+masked-byte mode k m sa da s d = rw (covered-byte (blended s (sourceFactor mode da) d (destinationFactor mode sa)) d)
+
+pub masked-step : (mode k m : ℕ) (s d : Pixel) → compositeOn mode k m s d ≡ maskedPixel k (fourOf m) (unmaskedOn mode 16 s d) d
+masked-step mode k m s d =
+    rw (
+      masked-byte mode k m (s .a) (d .a) (s .r) (d .r),
+      masked-byte mode k m (s .a) (d .a) (s .g) (d .g),
+      masked-byte mode k m (s .a) (d .a) (s .b) (d .b),
+      masked-byte mode k m (s .a) (d .a) (s .a) (d .a),
+    )
+
+-- a row of it, of a row of B and a mask spread over the bytes
+pub masked-pixels : (n mode k : ℕ) (mask src d b wide r : List ℕ) → b ≡ run n (λ i. unmaskedOn mode 16 (pixelIn src i) (pixelIn d i))
+    → wide ≡ run n (λ i. fourOf (getD mask i 0)) → r ≡ run n (λ i. maskedPixel k (pixelIn wide i) (pixelIn b i) (pixelIn d i))
+    → r ≡ run n (λ i. compositeOn mode k (getD mask i 0) (pixelIn src i) (pixelIn d i))
+masked-pixels n mode k mask src d b wide r e f o =
+    o
+    ∙ run-same n (λ i. maskedPixel k (pixelIn wide i) (pixelIn b i) (pixelIn d i)) (λ i. compositeOn mode k (getD mask i 0) (pixelIn src i) (pixelIn d i))
+    (λ i l.
+    ap₂ (λ (m c : Pixel). maskedPixel k m c (pixelIn d i)) (weight i l) (made i l)
+    ∙ sym (masked-step mode k (getD mask i 0) (pixelIn src i) (pixelIn d i)))
+  where
+    weight : (i : ℕ) → i < n → pixelIn wide i ≡ fourOf (getD mask i 0)
+    weight i l = ap (λ (s : List ℕ). pixelIn s i) f ∙ run-at n (λ i. fourOf (getD mask i 0)) i l
+
+    made : (i : ℕ) → i < n → pixelIn b i ≡ unmaskedOn mode 16 (pixelIn src i) (pixelIn d i)
+    made i l = ap (λ (s : List ℕ). pixelIn s i) e ∙ run-at n (λ i. unmaskedOn mode 16 (pixelIn src i) (pixelIn d i)) i l
 
 -- ---- with no sample covered a pixel keeps its bytes, whatever m is
 uncovered-byte : (m b d : ℕ) → stored 0 m b d ≡ d

@@ -4,6 +4,7 @@ use mathlib.Core.List.{List, _++_}
 use Prim.Native.Nat.{ℕ, suc, _+_, _-_, _*_, _≤_, _<_}
 use native.Mathlib.Omega.{arith}
 use lib.ListN.{length, getD, take, drop, length-take}
+use lib.Seq.{getD-take, getD-drop}
 use borrow.Author.Count.{below-more}
 use Rattle.runs.specs.Runs.{endOf, startOf, levelOf, expand, Runs}
 use Rattle.runs.proofs.Expand.{starts-rise, runs-length, runs-at, runs-within}
@@ -45,6 +46,10 @@ pub part-paint : (s : List ℕ) (i e j : ℕ) → j < e - i → pixelIn (take (e
 part-paint s i e j h =
     let w : e * 4 - i * 4 ≡ (e - i) * 4 = omega arith in
     rw w (pixel-take (drop (i * 4) s) (e - i) j h ∙ pixel-drop s i j (i + j) refl)
+
+-- and a mask
+pub part-mask : (s : List ℕ) (i e j : ℕ) → j < e - i → getD (take (e - i) (drop i s)) j 0 ≡ getD s (i + j) 0
+part-mask s i e j h = getD-take (e - i) (drop i s) j 0 h ∙ getD-drop i s j 0
 
 -- a paint of which c pixels of n are lent, all of them p
 pub laid-part : (n c w : ℕ) (p : Pixel) (s : List ℕ) → s ≡ run n (λ i. p) → c ≤ n → w ≡ c * 4 → take w s ≡ run c (λ i. p)

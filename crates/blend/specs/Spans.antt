@@ -10,7 +10,7 @@ use Rattle.runs.specs.Runs.{startOf}
 use Rattle.color.specs.declared.Pixel.{Pixel}
 use Rattle.raster.specs.declared.Range.{Range}
 use Rattle.raster.specs.Surface.{pixelIn}
-use Rattle.blend.specs.PorterDuff.{modeSrc, modeSrcOver, blended, storedUnmasked}
+use Rattle.blend.specs.PorterDuff.{modeSrc, modeSrcOver, blended, stored, storedUnmasked}
 
 -- from i to before e every pixel has the coverage of i
 pub record Span (ks : List ℕ) (i e : ℕ) : Type 0 where
@@ -38,9 +38,13 @@ Opaque src n = (i : ℕ) → i < n → pixelIn src i .a ≡ 255
 abbrev pub wordOf : Pixel → ℕ
 wordOf p = p .r + p .g * 256 + p .b * 65536 + p .a * 16777216
 
+-- four bytes that are the same
+abbrev pub fourOf : ℕ → Pixel
+fourOf c = record { r = c; g = c; b = c; a = c }
+
 -- what a pixel's bytes keep of what is under them, under SrcOver
 abbrev pub keepPixel : Pixel → Pixel
-keepPixel s = record { r = 255 - s .a; g = 255 - s .a; b = 255 - s .a; a = 255 - s .a }
+keepPixel s = fourOf (255 - s .a)
 
 -- B of each channel
 abbrev pub blendedPixel : Pixel → ℕ → Pixel → ℕ → Pixel
@@ -58,4 +62,13 @@ storedPixel k b d = record {
   g = storedUnmasked k (b .g) (d .g);
   b = storedUnmasked k (b .b) (d .b);
   a = storedUnmasked k (b .a) (d .a);
+}
+
+-- and under a mask that has a byte for each of its bytes
+abbrev pub maskedPixel : ℕ → Pixel → Pixel → Pixel → Pixel
+maskedPixel k m b d = record {
+  r = stored k (m .r) (b .r) (d .r);
+  g = stored k (m .g) (b .g) (d .g);
+  b = stored k (m .b) (b .b) (d .b);
+  a = stored k (m .a) (b .a) (d .a);
 }

@@ -1,15 +1,16 @@
 // Rows of pixels byte by byte, where a byte of the result needs no other byte of its pixel: loops that become vector code.
 use crate::step::least;
+use crate::step::masked_byte;
 use crate::step::stored_byte;
 use color::Pixel;
 ghost use mathlib.Core.Path.{_≡_};
 ghost use mathlib.Core.Bool.{true};
 ghost use Prim.Native.Nat.{_*_, _≤_};
-ghost use lib.ListN.{length};
+ghost use lib.ListN.{length, getD};
 ghost use Rattle.raster.specs.Surface.{run, pixelIn};
 ghost use Rattle.blend.specs.PorterDuff.{modeSrcOver, blended};
 ghost use Rattle.blend.specs.Unmasked.{unmaskedOn};
-ghost use Rattle.blend.specs.Spans.{keepPixel, storedPixel, wordOf, Opaque};
+ghost use Rattle.blend.specs.Spans.{fourOf, keepPixel, storedPixel, maskedPixel, wordOf, Opaque};
 
 // All bytes of the paint.
 pub fn copy_row(src: &[u8], row: &mut [u8])
@@ -74,7 +75,34 @@ pub fn keep_row(src: &[u8], keep: &mut [u8], n: usize)
     let mut i = 0;
     while i < n {
         let p = raster::pixel(src, i);
-        raster::put_pixel(keep, i, keep_pixel(p));
+        raster::put_pixel(keep, i, four(255 - p.a));
+        i += 1;
+    }
+}
+
+// n pixels over others, under one coverage and a mask that has a byte for each of their bytes.
+pub fn masked_row(coverage: u8, src: &[u8], wide: &[u8], row: &mut [u8], n: usize)
+    requires { ⌜ (coverage ≤ 16) × (length (now src) ≡ n * 4) × (length (now wide) ≡ n * 4) × (length (now row) ≡ n * 4) ⌝ }
+    ensures { λ _. ⌜
+        now (row .exit)
+        ≡ run n (λ i. maskedPixel coverage (pixelIn (now (wide .entry)) i) (pixelIn (now (src .entry)) i) (pixelIn (now (row .entry)) i))
+        ⌝ }
+{
+    let mut i = 0;
+    while i < row.len() {
+        row[i] = masked_byte(coverage, wide[i], src[i], row[i]);
+        i += 1;
+    }
+}
+
+// A mask's n bytes, each as often as a pixel has bytes.
+pub fn spread_row(mask: &[u8], wide: &mut [u8], n: usize)
+    requires { ⌜ (length (now mask) ≡ n) × (length (now wide) ≡ n * 4) ⌝ }
+    ensures { λ _. ⌜ now (wide .exit) ≡ run n (λ i. fourOf (getD (now (mask .entry)) i 0)) ⌝ }
+{
+    let mut i = 0;
+    while i < n {
+        raster::put_pixel(wide, i, four(mask[i]));
         i += 1;
     }
 }
@@ -101,16 +129,16 @@ fn over_byte(s: u8, keep: u8, d: u8) -> u8
     least((s as u16) + ((x + (x >> 8)) >> 8), 255) as u8
 }
 
-// What a pixel's bytes keep of what is under them.
-pub fn keep_pixel(src: Pixel) -> Pixel
-    ensures { λ r. ⌜ r ≡ keepPixel src ⌝ }
+// A pixel of one byte four times: four bytes of one number are one store.
+pub fn four(c: u8) -> Pixel
+    ensures { λ r. ⌜ r ≡ fourOf c ⌝ }
 {
-    let keep = 255 - src.a;
+    let w = (c as u32) * 16843009;
     Pixel {
-        r: keep,
-        g: keep,
-        b: keep,
-        a: keep,
+        r: (w % 256) as u8,
+        g: (w / 256 % 256) as u8,
+        b: (w / 65536 % 256) as u8,
+        a: (w / 16777216) as u8,
     }
 }
 

@@ -1,11 +1,13 @@
 // Porter-Duff blending of premultiplied bytes under a coverage of 0 to 16 samples.
 pub mod bytewise;
 pub mod factor;
+pub mod masked;
 pub mod row;
 pub mod span;
 pub mod step;
 
 pub use crate::factor::is_mode;
+pub use crate::row::composite_masked_runs;
 pub use crate::row::composite_painted_runs;
 pub use crate::row::composite_row;
 pub use crate::row::composite_row_masked;

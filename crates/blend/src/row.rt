@@ -1,8 +1,8 @@
 // The step along a part of a row, by its coverage as bytes or as runs, with a mask or without. The row's pixels are taken as they stand: who lends
 // one with stray bytes clamps it first.
+use crate::masked::composite_masked;
 use crate::span::composite_painted;
 use crate::span::composite_span;
-use crate::step::composite_on;
 use color::Pixel;
 use raster::Range;
 ghost use mathlib.Core.Path.{_≡_};
@@ -41,15 +41,18 @@ pub fn composite_row_masked(mode: u16, coverage: &[u8], mask: &[u8], src: &[u8],
 {
     let mut i = 0;
     while i < coverage.len() {
-        let p = composite_on(
+        let e = span_end(coverage, i);
+        let from = i * 4;
+        let to = e * 4;
+        composite_masked(
             mode,
             coverage[i],
-            mask[i],
-            raster::pixel(src, i),
-            raster::pixel(row, i),
+            &mask[i..e],
+            &src[from..to],
+            &mut row[from..to],
+            e - i,
         );
-        raster::put_pixel(row, i, p);
-        i += 1;
+        i = e;
     }
 }
 
@@ -135,6 +138,48 @@ pub fn composite_painted_runs(
         composite_painted(
             mode,
             (runs[j] % 32) as u8,
+            &src[from..to],
+            &mut row[from..to],
+            e - a,
+        );
+        a = e;
+        j += 1;
+    }
+}
+
+// The same through a mask of one byte for each of these pixels.
+pub fn composite_masked_runs(
+    mode: u16,
+    runs: &[u16],
+    n: usize,
+    some: Range,
+    mask: &[u8],
+    src: &[u8],
+    row: &mut [u8],
+    w: usize,
+)
+    requires { ⌜ Runs (now runs) n w × (some .from ≤ some .to) × (some .to ≤ n) × (n ≤ length (now runs)) ⌝ }
+    requires { ⌜ (length (now src) ≡ lengthOf (now runs) some * 4) × (length (now row) ≡ lengthOf (now runs) some * 4) ⌝ }
+    requires { ⌜ Coverage (expand (now runs) n) × (length (now mask) ≡ lengthOf (now runs) some) ⌝ }
+    ensures { λ _. ⌜
+        now (row .exit)
+        ≡ run (lengthOf (now (runs .entry)) some)
+        (λ i. compositeOn mode (getD (expand (now (runs .entry)) n) (startOf (now (runs .entry)) (some .from) + i) 0) (getD (now (mask .entry)) i 0)
+        (pixelIn (now (src .entry)) i) (pixelIn (now (row .entry)) i))
+        ⌝ }
+{
+    let end = some.to;
+    let first = start_of(runs, some.from);
+    let mut j = some.from;
+    let mut a = 0;
+    while j < end {
+        let e = (runs[j] / 32) as usize - first;
+        let from = a * 4;
+        let to = e * 4;
+        composite_masked(
+            mode,
+            (runs[j] % 32) as u8,
+            &mask[a..e],
             &src[from..to],
             &mut row[from..to],
             e - a,

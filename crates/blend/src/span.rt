@@ -1,7 +1,7 @@
 // n pixels under one coverage: left as they are, stored, or blended.
 use crate::bytewise::copy_row;
+use crate::bytewise::four;
 use crate::bytewise::is_opaque;
-use crate::bytewise::keep_pixel;
 use crate::bytewise::keep_row;
 use crate::bytewise::over_row;
 use crate::bytewise::over_row_under;
@@ -33,11 +33,9 @@ pub fn composite_span(mode: u16, coverage: u8, src: Pixel, row: &mut [u8], n: us
         store_span(coverage, src, row, n);
         return;
     }
-    if 3 < n {
-        if mode == SRC_OVER {
-            over_span(coverage, src, row, n);
-            return;
-        }
+    if mode == SRC_OVER {
+        over_span(coverage, src, row, n);
+        return;
     }
     blend_span(mode, coverage, src, row, n);
 }
@@ -54,11 +52,9 @@ pub fn composite_painted(mode: u16, coverage: u8, src: &[u8], row: &mut [u8], n:
         store_painted(coverage, src, row, n);
         return;
     }
-    if 3 < n {
-        if mode == SRC_OVER {
-            over_painted(coverage, src, row, n);
-            return;
-        }
+    if mode == SRC_OVER {
+        over_painted(coverage, src, row, n);
+        return;
     }
     blend_painted(mode, coverage, src, row, n);
 }
@@ -122,7 +118,7 @@ fn over_span(coverage: u8, src: Pixel, row: &mut [u8], n: usize)
     let mut paint = [0; 64];
     let mut keep = [0; 64];
     raster::fill_row(&mut paint, 16, src);
-    raster::fill_row(&mut keep, 16, keep_pixel(src));
+    raster::fill_row(&mut keep, 16, four(255 - src.a));
     over_laid(coverage, &paint, &keep, row, n);
 }
 
@@ -211,7 +207,7 @@ fn over_part(coverage: u8, src: &[u8], keep: &[u8], row: &mut [u8], n: usize)
 }
 
 // The smaller of two places.
-fn sooner(a: usize, b: usize) -> usize
+pub fn sooner(a: usize, b: usize) -> usize
     ensures { λ r. ⌜ r ≡ min a b ⌝ }
 {
     if a < b { a } else { b }

@@ -183,11 +183,11 @@ pub fn stored_byte(coverage: u8, b: u8, d: u8) -> u8
 }
 
 // What is stored of B over d, under the mask's byte: 4,080 is 16 times 255.
-fn masked_byte(coverage: u8, mask: u8, b: u8, d: u8) -> u8
+pub fn masked_byte(coverage: u8, mask: u8, b: u8, d: u8) -> u8
     requires { ⌜ coverage ≤ 16 ⌝ }
     ensures { λ r. ⌜ r ≡ stored coverage mask b d ⌝ }
 {
-    let w = (coverage as u32) * (mask as u32);
-    let n = (b as u32) * w + (d as u32) * (4080 - w) + 2040;
+    let w = (coverage as u16) * (mask as u16);
+    let n = (b as u32) * (w as u32) + (d as u32) * ((4080 - w) as u32) + 2040;
     over_255((n >> 4) as u16)
 }

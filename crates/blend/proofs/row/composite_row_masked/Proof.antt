@@ -1,13 +1,15 @@
--- `blend::composite_row_masked` meets its contract: the pixels before i are stored, and the others are as they were. Assumes nothing.
-use mathlib.Core.Path.{_≡_, ap₂, _∙_}
-use Prim.Native.Nat.{ℕ, _-_, _≤_}
+-- `blend::composite_row_masked` meets its contract: the spans before i are stored, and the other pixels are as they were. Assumes nothing.
+use mathlib.Core.Path.{_≡_, sym, ap, ap₂, _∙_}
+use Prim.Native.Nat.{ℕ, _+_, _-_, _*_, _≤_}
 use native.Mathlib.Omega.{arith}
-use lib.ListN.{length, getD}
+use lib.ListN.{length, getD, take, drop}
+use Rattle.lists.proofs.Laws.{part-length}
 use Rattle.color.specs.declared.Pixel.{Pixel}
 use Rattle.raster.specs.Surface.{pixelIn}
 use Rattle.raster.specs.Rows.{Stored}
-use Rattle.raster.proofs.Runs.{stored-none, stored-step, stored-all}
+use Rattle.raster.proofs.Runs.{stored-none, stored-all}
 use Rattle.blend.specs.PorterDuff.{compositeOn}
+use Rattle.blend.proofs.Spans.{part-turn, part-paint, part-mask}
 use borrow.Author.Needs.{needs}
 use Rattle.blend.proofs.row.composite_row_masked.Statement.{statement}
 use Rattle.blend.proofs.row.composite_row_masked.Tie as tie
@@ -19,59 +21,66 @@ Inv-loop mode coverage mask src row₀ i₀ row i =
 abbrev μ-loop : tie.MeasureT-loop
 μ-loop mode coverage mask src row₀ i₀ row i = length coverage - i
 
+-- the span of the turn lies within the mask, the paint and the row
+module _ (c : tie.After-span-end Inv-loop μ-loop) where
+  abbrev entry : tie.Start Inv-loop μ-loop
+  entry = c .before .before .before .before .before .before .before
+
+  low : c .before .before .loop .i ≤ c .span-end .result
+  low = omega (arith, c .span-end .ensures .some)
+
+  mask-long : c .span-end .result ≤ length (entry .args .mask .now)
+  mask-long = omega (arith, c .span-end .ensures .within, entry .pre .1 .1)
+
+  paint-long : c .span-end .result * 4 ≤ length (entry .args .src .now)
+  paint-long = omega (arith, c .span-end .ensures .within, entry .pre .0 .0)
+
+  row-long : c .span-end .result * 4 ≤ length (c .before .before .loop .row)
+  row-long = omega (arith, c .span-end .ensures .within, entry .pre .0 .1, c .before .before .loop .inv .1 .long)
+
 loop-holds : tie.Need-loop-holds Inv-loop μ-loop
 loop-holds c = (omega arith, stored-none _ _)
 
-shared-slice-read-composite-on : tie.Need-shared-slice-read-composite-on Inv-loop μ-loop
-shared-slice-read-composite-on c = search needs
-
-pixel-requires : tie.Need-pixel-requires Inv-loop μ-loop
-pixel-requires c κs = search needs
-
-pixel-requires-2 : tie.Need-pixel-requires-2 Inv-loop μ-loop
-pixel-requires-2 c κs = search needs
-
-shared-slice-read-composite-on-2 : tie.Need-shared-slice-read-composite-on-2 Inv-loop μ-loop
-shared-slice-read-composite-on-2 c = search needs
-
-composite-on-requires : tie.Need-composite-on-requires Inv-loop μ-loop
-composite-on-requires c κs =
-    let at-loop = c .before .before .before .before .before .before in
-    let entry = at-loop .before .before .before .before .before in
-    entry .pre .1 .0 (at-loop .loop .i) (omega arith)
-
-put-pixel-requires : tie.Need-put-pixel-requires Inv-loop μ-loop
-put-pixel-requires c κs = search needs
-
-add-i : tie.Need-add-i Inv-loop μ-loop
-add-i c = search needs
-
-loop-less : tie.Need-loop-less Inv-loop μ-loop
-loop-less c = search needs
+composite-masked-requires : tie.Need-composite-masked-requires Inv-loop μ-loop
+composite-masked-requires c κs =
+    let after-span-end = c .before .before .before .before in
+    let a = entry after-span-end .args in
+    let l = after-span-end .before .before .loop in
+    let e = after-span-end .span-end .result in
+    let t = after-span-end .span-end .ensures in
+    let less : l .i * 4 ≤ e * 4 = omega (arith, low after-span-end) in
+    let size : e * 4 - l .i * 4 ≡ (e - l .i) * 4 = omega arith in (
+      entry after-span-end .pre .1 .0 (l .i) (omega (arith, t .some, t .within)),
+      part-length (a .mask .now) (l .i) e (low after-span-end) (mask-long after-span-end),
+      part-length (a .src .now) (l .i * 4) (e * 4) less (paint-long after-span-end) ∙ size,
+      part-length (l .row) (l .i * 4) (e * 4) less (row-long after-span-end) ∙ size,
+    )
 
 loop-again : tie.Need-loop-again Inv-loop μ-loop
 loop-again c =
-    let after-put-pixel = c .before .before in
-    let after-composite-on = after-put-pixel .before .before in
-    let after-pixel2 = after-composite-on .before in
-    let after-pixel = after-pixel2 .before .before in
-    let in-loop = after-pixel .before .before .before in
-    let at-loop = in-loop .before in
-    let entry = at-loop .before .before .before .before .before in
-    let a = entry .args in
-    let step : ℕ → Pixel → Pixel = λ j. compositeOn (a .mode) (getD (a .coverage .now) j 0) (getD (a .mask .now) j 0) (pixelIn (a .src .now) j) in
-    let made = after-composite-on .composite-on in
-    let put = after-put-pixel .put-pixel in
-    let l = at-loop .loop in (
-      omega (arith, in-loop .loop-test .taken),
-      stored-step step (l .inv .1) (put .last .0) (made .result) (put .ensures)
-          (made .ensures ∙ ap₂ (compositeOn (a .mode) (getD (a .coverage .now) (l .i) 0) (getD (a .mask .now) (l .i) 0)) (after-pixel .pixel .ensures)
-          (after-pixel2 .pixel2 .ensures))
-          (omega (arith, entry .pre .0 .1, in-loop .loop-test .taken)),
+    let after-composite-masked = c .before .before in
+    let after-span-end = after-composite-masked .before .before .before .before .before in
+    let at-loop = after-span-end .before .before in
+    let start = entry after-span-end in
+    let a = start .args in
+    let l = at-loop .loop in
+    let e = after-span-end .span-end .result in
+    let t = after-span-end .span-end .ensures in
+    let call = after-composite-masked .composite-masked in
+    let k : ℕ → ℕ = λ j. getD (a .coverage .now) j 0 in
+    let m : ℕ → ℕ = λ j. getD (a .mask .now) j 0 in
+    let lent : ℕ → Pixel → Pixel = λ j.
+    compositeOn (a .mode) (k (l .i)) (getD (take (e - l .i) (drop (l .i) (a .mask .now))) j 0)
+    (pixelIn (take (e * 4 - l .i * 4) (drop (l .i * 4) (a .src .now))) j) in (
+      t .within,
+      part-turn (λ j. compositeOn (a .mode) (k j) (m j) (pixelIn (a .src .now) j)) lent (l .row) (a .row .now) (call .last .1 .1 .1 .1 .0) (l .i) e
+          (low after-span-end)
+          (omega (arith, t .within, start .pre .0 .1)) (l .inv .1)
+          (λ j h p.
+          ap₂ (λ (m : ℕ) (q : Pixel). compositeOn (a .mode) (k (l .i)) m q p) (part-mask (a .mask .now) (l .i) e j h) (part-paint (a .src .now) (l .i) e j h)
+          ∙ ap (λ (k : ℕ). compositeOn (a .mode) k (m (l .i + j)) (pixelIn (a .src .now) (l .i + j)) p) (sym (t .level (l .i + j) (omega arith) (omega arith))))
+          (call .ensures),
     )
-
-same-length : tie.Need-same-length Inv-loop μ-loop
-same-length c = search needs
 
 returns : tie.Need-returns Inv-loop μ-loop
 returns c =
@@ -85,14 +94,22 @@ composite-row-masked-spec =
     Inv-loop
     μ-loop
     loop-holds
-    shared-slice-read-composite-on
-    shared-slice-read-composite-on-2
-    pixel-requires
-    pixel-requires-2
-    composite-on-requires
-    put-pixel-requires
-    add-i
-    loop-less
+    (λ c κs. search needs)
+    (λ c. search needs)
+    (λ c. search needs)
+    (λ c. search needs)
+    (λ c. search needs)
+    (λ c. low (c .before))
+    (λ c. mask-long (c .before))
+    (λ c. search needs)
+    (λ c. omega (arith, low (c .before .before)))
+    (λ c. paint-long (c .before .before))
+    (λ c. search needs)
+    (λ c. omega (arith, low (c .before .before .before)))
+    (λ c. row-long (c .before .before .before))
+    (λ c. search needs)
+    composite-masked-requires
+    (λ c. omega (arith, c .before .before .before .before .before .before .before .span-end .ensures .some))
     loop-again
-    same-length
+    (λ c. search needs)
     returns)

@@ -34,7 +34,7 @@ returns-2 c =
     (byte (i * 4 + 3)) (after-hides-all .hides-all .ensures (then2 .if2 .taken) i l)))
 
 returns-3 : tie.Need-returns-3
-returns-3 c = rw (c .before .before .before .before .if4 .taken) (c .before .before .over-painted .ensures)
+returns-3 c = rw (c .before .before .before .before .if3 .taken) (c .before .before .over-painted .ensures)
 
 returns-4 : tie.Need-returns-4
 returns-4 c = c .before .before .blend-painted .ensures

@@ -19,21 +19,21 @@ first s p e = ap (λ (t : List ℕ). pixelIn t 0) e ∙ run-at 16 (λ i. p) 0 (o
 
 over-laid-requires : tie.Need-over-laid-requires
 over-laid-requires c κs =
-    let after-keep-pixel = c .before .before .before .before .before in
-    let entry = c .before .before .before .before .before .before .before .before .before .before .before in
-    let laid = c .before .before .before .before .before .before .before .before .fill-row in
+    let after-four = c .before .before .before .before .before in
+    let entry = c .before .before .before .before .before .before .before .before .before .before .before .before in
+    let laid = c .before .before .before .before .before .before .before .before .before .fill-row in
     let e = sym (first (laid .last .0) (entry .args .src) (laid .ensures)) in (
       entry .pre,
       (
         laid .ensures ∙ ap (λ (p : Pixel). run 16 (λ i. p)) e,
-        c .before .before .before .before .fill-row2 .ensures ∙ ap (λ (p : Pixel). run 16 (λ i. p)) (after-keep-pixel .keep-pixel .ensures ∙ ap keepPixel e),
+        c .before .before .before .before .fill-row2 .ensures ∙ ap (λ (p : Pixel). run 16 (λ i. p)) (after-four .four .ensures ∙ ap keepPixel e),
       ),
     )
 
 returns : tie.Need-returns
 returns c =
-    let a = c .before .before .before .before .before .before .before .before .before .before .before .before .before .before .args in
-    let laid = c .before .before .before .before .before .before .before .before .before .before .before .fill-row in
+    let a = c .before .before .before .before .before .before .before .before .before .before .before .before .before .before .before .args in
+    let laid = c .before .before .before .before .before .before .before .before .before .before .before .before .fill-row in
     c .before .before .over-laid .ensures
     ∙ ap (λ (p : Pixel). run (a .n) (λ i. unmaskedOn modeSrcOver (a .coverage) p (pixelIn (a .row .now) i))) (first (laid .last .0) (a .src) (laid .ensures))
 
@@ -43,6 +43,7 @@ over-span-spec =
     (tie.spec
     (λ c. search needs)
     (λ c κs. search needs)
+    (λ c. search needs)
     (λ c. search needs)
     (λ c κs. tt)
     (λ c κs. search needs)

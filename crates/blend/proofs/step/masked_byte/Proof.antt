@@ -1,5 +1,5 @@
 -- `blend::masked_byte` meets its contract: 4,080 parts of two bytes are small. Assumes nothing.
-use mathlib.Core.Path.{_≡_, sym, ap, _∙_}
+use mathlib.Core.Path.{sym, ap, _∙_}
 use Prim.Native.Nat.{ℕ, _+_, _-_, _*_, _/_, _≤_}
 use native.Mathlib.Nat.{mul-assoc}
 use native.Mathlib.Omega.{arith}
@@ -28,8 +28,10 @@ masked-byte-spec =
     tie.close
     (tie.spec
     (λ c. record { fits = omega (arith, light c) })
+    (λ c. record { fits = omega (arith, light c) })
     (λ c. record { fits = omega (arith, small c) })
     (λ c. omega (arith, light c))
+    (λ c. record { fits = omega (arith, light c) })
     (λ c. record { fits = omega (arith, small c) })
     (λ c. record { fits = omega (arith, small c) })
     (λ c. record { fits = omega (arith, small c) })
