@@ -34,12 +34,16 @@ add-result-3 c = search needs
 
 returns : tie.Need-returns
 returns c =
-    let entry = c .before .before .before .before .before in
+    let after-not-zero3 = c .before in
+    let after-not-zero2 = after-not-zero3 .before in
+    let after-not-zero = after-not-zero2 .before in
+    let branch1 = after-not-zero .before in
+    let entry = branch1 .before in
     let f : ℤ → ℕ = λ z. oneIf (insideBy true z) in (
-      rw (c .before .before .before .before .if1 .taken)
-          (four-counts (c .before .before .before .not-zero .ensures .0 ∙ ap f (toZ-ofZ (entry .fits .a))) (c .before .before .not-zero2 .ensures .0 ∙ ap f (toZ-ofZ (entry .fits .b)))
-          (c .before .not-zero3 .ensures .0 ∙ ap f (toZ-ofZ (entry .fits .c))) (c .not-zero4 .ensures .0 ∙ ap f (toZ-ofZ (entry .fits .d)))),
-      omega (arith, c .before .before .before .not-zero .ensures .1, c .before .before .not-zero2 .ensures .1, c .before .not-zero3 .ensures .1, c .not-zero4 .ensures .1),
+      rw (branch1 .if1 .taken)
+          (four-counts (after-not-zero .not-zero .ensures .0 ∙ ap f (toZ-ofZ (entry .fits .a))) (after-not-zero2 .not-zero2 .ensures .0 ∙ ap f (toZ-ofZ (entry .fits .b)))
+          (after-not-zero3 .not-zero3 .ensures .0 ∙ ap f (toZ-ofZ (entry .fits .c))) (c .not-zero4 .ensures .0 ∙ ap f (toZ-ofZ (entry .fits .d)))),
+      omega (arith, after-not-zero .not-zero .ensures .1, after-not-zero2 .not-zero2 .ensures .1, after-not-zero3 .not-zero3 .ensures .1, c .not-zero4 .ensures .1),
     )
 
 is-odd-requires : tie.Need-is-odd-requires
@@ -65,12 +69,16 @@ add-result-6 c = search needs
 
 returns-2 : tie.Need-returns-2
 returns-2 c =
-    let entry = c .before .before .before .before .before in
+    let after-is-odd3 = c .before in
+    let after-is-odd2 = after-is-odd3 .before in
+    let after-is-odd = after-is-odd2 .before in
+    let branch1 = after-is-odd .before in
+    let entry = branch1 .before in
     let f : ℤ → ℕ = λ z. oneIf (insideBy false z) in (
-      rw (c .before .before .before .before .if1 .left)
-          (four-counts (c .before .before .before .is-odd .ensures .0 ∙ ap f (toZ-ofZ (entry .fits .a))) (c .before .before .is-odd2 .ensures .0 ∙ ap f (toZ-ofZ (entry .fits .b)))
-          (c .before .is-odd3 .ensures .0 ∙ ap f (toZ-ofZ (entry .fits .c))) (c .is-odd4 .ensures .0 ∙ ap f (toZ-ofZ (entry .fits .d)))),
-      omega (arith, c .before .before .before .is-odd .ensures .1, c .before .before .is-odd2 .ensures .1, c .before .is-odd3 .ensures .1, c .is-odd4 .ensures .1),
+      rw (branch1 .if1 .left)
+          (four-counts (after-is-odd .is-odd .ensures .0 ∙ ap f (toZ-ofZ (entry .fits .a))) (after-is-odd2 .is-odd2 .ensures .0 ∙ ap f (toZ-ofZ (entry .fits .b)))
+          (after-is-odd3 .is-odd3 .ensures .0 ∙ ap f (toZ-ofZ (entry .fits .c))) (c .is-odd4 .ensures .0 ∙ ap f (toZ-ofZ (entry .fits .d)))),
+      omega (arith, after-is-odd .is-odd .ensures .1, after-is-odd2 .is-odd2 .ensures .1, after-is-odd3 .is-odd3 .ensures .1, c .is-odd4 .ensures .1),
     )
 
 pub count-inside-spec : {M : Type 1} → statement M
