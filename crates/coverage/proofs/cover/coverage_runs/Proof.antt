@@ -55,7 +55,9 @@ part-window-runs-end c = search needs
 
 -- as many pixels as are lent
 width : (c : tie.After-least Inv-loop μ-loop) → let l = c .before .before .loop in
-    (l .i ≤ c .least .result) × (c .least .result ≤ length (l .marks)) × (length (take (c .least .result - l .i) (drop (l .i) (l .marks))) ≡ c .least .result - l .i)
+    (l .i ≤ c .least .result)
+    × (c .least .result ≤ length (l .marks))
+    × (length (take (c .least .result - l .i) (drop (l .i) (l .marks))) ≡ c .least .result - l .i)
 width c =
     let l = c .before .before .loop in
     let e = c .least .result in
@@ -68,9 +70,10 @@ window-runs-requires c κs =
     let after-least = c .before .before .before in
     let turn = after-least .before .before in
     let entry = turn .before .before .before .before .before in
+    let a = entry .args in
     let l = turn .loop in
     let w = width after-least in (
-      subst (λ (s : List ℤ). Outlined s (entry .args .line .edges) × Needed s (entry .args .line .edges) (entry .args .line .y) (entry .args .list .now)) (sym (l .inv .1)) (entry .pre .0),
+      subst (λ (s : List ℤ). Outlined s (a .line .edges) × Needed s (a .line .edges) (a .line .y) (a .list .now)) (sym (l .inv .1)) (entry .pre .0),
       (
         (
           entry .pre .1 .0,

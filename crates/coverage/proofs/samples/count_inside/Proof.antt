@@ -39,11 +39,14 @@ returns c =
     let after-not-zero = after-not-zero2 .before in
     let branch1 = after-not-zero .before in
     let entry = branch1 .before in
+    let p = after-not-zero .not-zero .ensures in
+    let q = after-not-zero2 .not-zero2 .ensures in
+    let r = after-not-zero3 .not-zero3 .ensures in
     let f : ℤ → ℕ = λ z. oneIf (insideBy true z) in (
       rw (branch1 .if1 .taken)
-          (four-counts (after-not-zero .not-zero .ensures .0 ∙ ap f (toZ-ofZ (entry .fits .a))) (after-not-zero2 .not-zero2 .ensures .0 ∙ ap f (toZ-ofZ (entry .fits .b)))
-          (after-not-zero3 .not-zero3 .ensures .0 ∙ ap f (toZ-ofZ (entry .fits .c))) (c .not-zero4 .ensures .0 ∙ ap f (toZ-ofZ (entry .fits .d)))),
-      omega (arith, after-not-zero .not-zero .ensures .1, after-not-zero2 .not-zero2 .ensures .1, after-not-zero3 .not-zero3 .ensures .1, c .not-zero4 .ensures .1),
+          (four-counts (p .0 ∙ ap f (toZ-ofZ (entry .fits .a))) (q .0 ∙ ap f (toZ-ofZ (entry .fits .b)))
+          (r .0 ∙ ap f (toZ-ofZ (entry .fits .c))) (c .not-zero4 .ensures .0 ∙ ap f (toZ-ofZ (entry .fits .d)))),
+      omega (arith, p .1, q .1, r .1, c .not-zero4 .ensures .1),
     )
 
 is-odd-requires : tie.Need-is-odd-requires
@@ -74,11 +77,14 @@ returns-2 c =
     let after-is-odd = after-is-odd2 .before in
     let branch1 = after-is-odd .before in
     let entry = branch1 .before in
+    let p = after-is-odd .is-odd .ensures in
+    let q = after-is-odd2 .is-odd2 .ensures in
+    let r = after-is-odd3 .is-odd3 .ensures in
     let f : ℤ → ℕ = λ z. oneIf (insideBy false z) in (
       rw (branch1 .if1 .left)
-          (four-counts (after-is-odd .is-odd .ensures .0 ∙ ap f (toZ-ofZ (entry .fits .a))) (after-is-odd2 .is-odd2 .ensures .0 ∙ ap f (toZ-ofZ (entry .fits .b)))
-          (after-is-odd3 .is-odd3 .ensures .0 ∙ ap f (toZ-ofZ (entry .fits .c))) (c .is-odd4 .ensures .0 ∙ ap f (toZ-ofZ (entry .fits .d)))),
-      omega (arith, after-is-odd .is-odd .ensures .1, after-is-odd2 .is-odd2 .ensures .1, after-is-odd3 .is-odd3 .ensures .1, c .is-odd4 .ensures .1),
+          (four-counts (p .0 ∙ ap f (toZ-ofZ (entry .fits .a))) (q .0 ∙ ap f (toZ-ofZ (entry .fits .b)))
+          (r .0 ∙ ap f (toZ-ofZ (entry .fits .c))) (c .is-odd4 .ensures .0 ∙ ap f (toZ-ofZ (entry .fits .d)))),
+      omega (arith, p .1, q .1, r .1, c .is-odd4 .ensures .1),
     )
 
 pub count-inside-spec : {M : Type 1} → statement M

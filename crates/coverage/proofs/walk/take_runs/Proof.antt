@@ -96,15 +96,18 @@ add-push-3 c =
     omega (arith, test .loop-test .taken, entry .pre .1 .1 .2)
 
 -- the runs have room for the row
-room : (c : tie.At-loop Inv-loop μ-loop) → (c .before .before .before .before .before .before .before .before .before .before .before .args .from + length (c .before .before .before .before .before .before .before .before .before .before .before .args .marks .now) ≤ length (c .loop .runs))
+room : (c : tie.At-loop Inv-loop μ-loop)
+    → let a = c .before .before .before .before .before .before .before .before .before .before .before .args in
+    a .from + length (a .marks .now) ≤ length (c .loop .runs)
 room c =
     let after-push = c .before .before .before in
     let entry = after-push .before .before .before .before .before .before .before .before in
     omega (arith, c .loop .inv .2, after-push .push .ensures .0 .1, entry .pre .1 .1 .1)
 
 -- the pixel that is taken
-taken : (c : tie.After-take-cell Inv-loop μ-loop) → (c .take-cell .result .count ≡ pixelOf (c .before .before .before .before .before .before .before .before .before .before .before .before .before .before .args .nonzero) (c .before .before .before .before .before .before .before .before .before .before .before .before .before .before .args .sums .now) (c .before .before .before .loop .e))
-    × (c .take-cell .result .full ≤ 16)
+taken : (c : tie.After-take-cell Inv-loop μ-loop)
+    → let a = c .before .before .before .before .before .before .before .before .before .before .before .before .before .before .args in
+    (c .take-cell .result .count ≡ pixelOf (a .nonzero) (a .sums .now) (c .before .before .before .loop .e)) × (c .take-cell .result .full ≤ 16)
 taken c =
     let entry = c .before .before .before .before .before .before .before .before .before .before .before .before .before .before in
     let a = entry .args in
@@ -147,7 +150,8 @@ add-push-4 c =
 add-push-5 : tie.Need-add-push-5 Inv-loop μ-loop
 add-push-5 c =
     let after-next-mark2 = c .before in
-    let entry = after-next-mark2 .before .before .before .before .before .before .before .before .before .before .before .before .before .before .before .before .before .before .before .before in
+    let turn = after-next-mark2 .before .before .before .before .before .before .before .before .before in
+    let entry = turn .before .before .before .before .before .before .before .before .before .before .before in
     omega (arith, after-next-mark2 .next-mark2 .ensures .high, entry .pre .1 .1 .2)
 
 push-requires-3 : tie.Need-push-requires-3 Inv-loop μ-loop
