@@ -1,12 +1,12 @@
 -- Marks in two levels: one more mark, none, and pixels without one.
 use mathlib.Core.Path.{_≡_, refl, sym, ap, _∙_}
 use mathlib.Core.List.{List}
-use mathlib.Core.Bool.{Bool, true, false}
+use mathlib.Core.Bool.{Bool, true, false, cond}
 use Prim.Native.Nat.{ℕ, _+_, _*_, _/_, _≤_, _<_, min, max}
 use native.Mathlib.Omega.{arith}
 use native.Mathlib.Decide.{ℕ-discrete}
-use lib.Dec.{ltb}
-use borrow.Author.Tests.{ltb-true, ltb-false}
+use lib.Dec.{eqb, ltb}
+use borrow.Author.Tests.{eqb-false, ltb-true, ltb-false}
 use lib.ListN.{length, getD, set, length-set}
 use lib.Seq.{getD-set-same, getD-set-other}
 use Rattle.lists.specs.Lists.{tab}
@@ -36,7 +36,7 @@ module _ (groups : List ℕ) (p : ℕ) (h : p < 1024) (long : length groups ≡ 
       getD-set-other (set (set groups (p / 32) 1) 32 (min (getD groups 32 0) p)) 33 j (max (getD groups 33 0) (p + 1)) 0 (λ q. absurd (omega (arith, q)))
       ∙ getD-set-other (set groups (p / 32) 1) 32 j (min (getD groups 32 0) p) 0 (λ q. absurd (omega (arith, q)))
 
-pub touched-grouped : (marks groups : List ℕ) (p : ℕ) → p < length marks → Grouped marks groups → Grouped (set marks p 1) (touched groups p)
+touched-grouped : (marks groups : List ℕ) (p : ℕ) → p < length marks → Grouped marks groups → Grouped (set marks p 1) (touched groups p)
 touched-grouped marks groups p h g = record {
   wide = omega (arith, wide, g .wide);
   long = touched-long groups p low (g .long);
@@ -65,6 +65,31 @@ touched-grouped marks groups p h g = record {
     none i l q (no e) =
         other i (λ s. e (ap (λ (j : ℕ). j / 32) s))
         ∙ g .none i l (sym (getD-set-other groups (p / 32) (i / 32) 1 0 e) ∙ sym (group-touched groups p low (g .long) (i / 32) (omega (arith, g .wide))) ∙ q)
+
+-- a mark over a mark
+again-grouped : (marks groups : List ℕ) (p : ℕ) → p < length marks → (getD marks p 0 ≡ 0 → ⊥) → Grouped marks groups → Grouped (set marks p 1) groups
+again-grouped marks groups p h m g = record {
+  wide = omega (arith, wide, g .wide);
+  long = g .long;
+  none = λ i l q. by i (g .none i (omega (arith, wide)) q);
+  first = λ i l q. by i (g .first i (omega (arith, wide)) q);
+  last = λ i l q. by i (g .last i (omega (arith, wide)) q);
+  within = omega (arith, wide, g .within);
+}
+  where
+    wide : length (set marks p 1) ≡ length marks
+    wide = length-set marks p 1
+
+    by : (i : ℕ) → getD marks i 0 ≡ 0 → getD (set marks p 1) i 0 ≡ 0
+    by i q = getD-set-other marks p i 1 0 (λ e. m (ap (λ (j : ℕ). getD marks j 0) (sym e) ∙ q)) ∙ q
+
+pub marked-grouped : (marks groups : List ℕ) (p mark : ℕ) → p < length marks → mark ≡ getD marks p 0 → Grouped marks groups
+    → Grouped (set marks p 1) (cond (eqb mark 0) (touched groups p) groups)
+marked-grouped marks groups p mark h o g = by (eqb mark 0) refl
+  where
+    by : (t : Bool) → eqb mark 0 ≡ t → Grouped (set marks p 1) (cond t (touched groups p) groups)
+    by true q = touched-grouped marks groups p h g
+    by false q = again-grouped marks groups p h (λ e. eqb-false mark 0 q (o ∙ e)) g
 
 -- no pixel is marked
 pub none-grouped : (marks groups : List ℕ) (n : ℕ) → marks ≡ tab n (λ j. 0) → length marks ≡ n → n ≤ 1024 → length groups ≡ 34 → getD groups 33 0 ≡ 0

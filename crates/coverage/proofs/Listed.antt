@@ -31,13 +31,16 @@ use Rattle.coverage.proofs.Turn.{mark-same}
 -- ---- an edge apart from a band misses each of its rows
 module _ (y0 y1 : ℤ) (from end y : ℕ) (a : from ≤ y) (b : y < end) where
   low : (z : ℤ) → T (leZ z (sample (4 * from))) → leZ z (sample (4 * y)) ≡ true
-  low z t = is-true (leZ z (sample (4 * y))) (le (var z) (num (64 * (4 * y) + 32)) (omega (arith, from-le (var z) (num (64 * (4 * from) + 32)) (leZ-yes t))) .le)
+  low z t = is-true (leZ z (sample (4 * y)))
+      (le (var z) (num (64 * (4 * y) + 32)) (omega (arith, from-le (var z) (num (64 * (4 * from) + 32)) (leZ-yes t))) .le)
 
   high : (z : ℤ) → T (ltZ (sample (4 * end - 1)) z) → ltZ (sample (4 * y + 3)) z ≡ true
-  high z t = is-true (ltZ (sample (4 * y + 3)) z) (lt (num (64 * (4 * y + 3) + 32)) (var z) (omega (arith, from-lt (num (64 * (4 * end - 1) + 32)) (var z) (ltZ-yes t))) .lt)
+  high z t = is-true (ltZ (sample (4 * y + 3)) z)
+      (lt (num (64 * (4 * y + 3) + 32)) (var z) (omega (arith, from-lt (num (64 * (4 * end - 1) + 32)) (var z) (ltZ-yes t))) .lt)
 
   over : (z : ℤ) → T (ltZ (sample (4 * end - 1)) z) → leZ z (sample (4 * y)) ≡ false
-  over z t = is-false (leZ z (sample (4 * y))) (λ u. omega (arith, from-lt (num (64 * (4 * end - 1) + 32)) (var z) (ltZ-yes t), from-le (var z) (num (64 * (4 * y) + 32)) (leZ-yes u)))
+  over z t = is-false (leZ z (sample (4 * y)))
+      (λ u. omega (arith, from-lt (num (64 * (4 * end - 1) + 32)) (var z) (ltZ-yes t), from-le (var z) (num (64 * (4 * y) + 32)) (leZ-yes u)))
 
   apart-misses : apart y0 y1 from end ≡ true → missed y0 y1 y ≡ true
   apart-misses q = by (leZ y0 (sample (4 * from))) refl (subst T (sym q) tt)
@@ -92,14 +95,17 @@ module _ (P : ℕ → Bool) (js : List ℕ) (n : ℕ) (k : Kept P js n) where
   front j h = List·getD-append js (n ∷ []) 0 j h
 
   reach-put : (j : ℕ) → j ≤ length js → reach (js ++ (n ∷ [])) (n + 1) j ≡ reach js n j
-  reach-put j h = ap (λ (t : Bool). cond t (getD (js ++ (n ∷ [])) j 0) (n + 1)) (lt-ltb j (length (js ++ (n ∷ []))) (omega (arith, long))) ∙ by (ltb j (length js)) refl
+  reach-put j h =
+      ap (λ (t : Bool). cond t (getD (js ++ (n ∷ [])) j 0) (n + 1)) (lt-ltb j (length (js ++ (n ∷ []))) (omega (arith, long)))
+      ∙ by (ltb j (length js)) refl
     where
       by : (t : Bool) → ltb j (length js) ≡ t → getD (js ++ (n ∷ [])) j 0 ≡ cond t (getD js j 0) n
       by true q = front j (ltb-true j (length js) q)
       by false q = getD-at js n [] 0 j (omega (arith, ltb-false j (length js) q))
 
   reach-last : reach (js ++ (n ∷ [])) (n + 1) (length js + 1) ≡ n + 1
-  reach-last = ap (λ (t : Bool). cond t (getD (js ++ (n ∷ [])) (length js + 1) 0) (n + 1)) (le-ltb (length js + 1) (length (js ++ (n ∷ []))) (omega (arith, long)))
+  reach-last =
+      ap (λ (t : Bool). cond t (getD (js ++ (n ∷ [])) (length js + 1) 0) (n + 1)) (le-ltb (length js + 1) (length (js ++ (n ∷ []))) (omega (arith, long)))
 
   end-at : getD (js ++ (n ∷ [])) (length js) 0 ≡ n
   end-at = getD-at js n [] 0 (length js) refl
@@ -124,9 +130,12 @@ module _ (P : ℕ → Bool) (js : List ℕ) (n : ℕ) (k : Kept P js n) where
           let l : j < length js = omega (arith, long) in
           omega (arith, front j l, reach-put (j + 1) (omega arith), k .rise j l)
 
-      gap : (j i : ℕ) → j < length (js ++ (n ∷ [])) → getD (js ++ (n ∷ [])) j 0 < i → i < reach (js ++ (n ∷ [])) (n + 1) (j + 1) → Dec (j ≡ length js) → P i ≡ true
+      gap : (j i : ℕ) → j < length (js ++ (n ∷ [])) → getD (js ++ (n ∷ [])) j 0 < i → i < reach (js ++ (n ∷ [])) (n + 1) (j + 1)
+          → Dec (j ≡ length js) → P i ≡ true
       gap j i h a b (yes e) =
-          absurd (omega (arith, end-at, reach-last, subst (λ (m : ℕ). getD (js ++ (n ∷ [])) m 0 < i) e a, subst (λ (m : ℕ). i < reach (js ++ (n ∷ [])) (n + 1) (m + 1)) e b))
+          let low = subst (λ (m : ℕ). getD (js ++ (n ∷ [])) m 0 < i) e a in
+          let high = subst (λ (m : ℕ). i < reach (js ++ (n ∷ [])) (n + 1) (m + 1)) e b in
+          absurd (omega (arith, end-at, reach-last, low, high))
       gap j i h a b (no e) =
           let l : j < length js = omega (arith, long) in
           k .gap j i l (omega (arith, front j l)) (omega (arith, reach-put (j + 1) (omega arith)))
@@ -136,14 +145,21 @@ module _ (l : List ℤ) (from end : ℕ) where
   out i = apart (edgeAt l i .y0) (edgeAt l i .y1) from end
 
   listed-kept : (n : ℕ) → Kept out (listed l from end n) n
-  listed-kept zero = record { below = λ j h. absurd (omega (arith, h)); rise = λ j h. absurd (omega (arith, h)); first = λ i h. absurd (omega (arith, h)); gap = λ j i h a b. absurd (omega (arith, h)) }
+  listed-kept zero = record {
+    below = λ j h. absurd (omega (arith, h));
+    rise = λ j h. absurd (omega (arith, h));
+    first = λ i h. absurd (omega (arith, h));
+    gap = λ j i h a b. absurd (omega (arith, h));
+  }
   listed-kept (suc n) = by (out n) refl (listed-kept n)
     where
       one : n + 1 ≡ suc n
       one = omega arith
 
       by : (t : Bool) → out n ≡ t → Kept out (listed l from end n) n → Kept out (listed l from end n ++ cond t [] (n ∷ [])) (suc n)
-      by true q k = subst (Kept out (listed l from end n ++ [])) one (subst (λ (js : List ℕ). Kept out js (n + 1)) (sym (append-nil (listed l from end n))) (kept-more out (listed l from end n) n k q))
+      by true q k =
+          subst (Kept out (listed l from end n ++ [])) one
+          (subst (λ (js : List ℕ). Kept out js (n + 1)) (sym (append-nil (listed l from end n))) (kept-more out (listed l from end n) n k q))
       by false q k = subst (Kept out (listed l from end n ++ (n ∷ []))) one (kept-put out (listed l from end n) n k)
 
   -- of a row of the band
@@ -184,7 +200,8 @@ module _ (l : List ℤ) (y c w : ℕ) where
       → laid (n * 4) m l (tab m (all p)) ≡ laid (n * 4) m l (tab m (all e))
   gap-laid n m p e h g = ap (laid (n * 4) m l) (tab-same m (all p) (all e) (λ x k. gap-sums p e x h g))
 
-  pub gap-marks : (d : List ℕ) (p e : ℕ) → p ≤ e → ((i : ℕ) → p ≤ i → i < e → missed (edgeAt l i .y0) (edgeAt l i .y1) y ≡ true) → Marked d (all p) → Marked d (all e)
+  pub gap-marks : (d : List ℕ) (p e : ℕ) → p ≤ e → ((i : ℕ) → p ≤ i → i < e → missed (edgeAt l i .y0) (edgeAt l i .y1) y ≡ true)
+      → Marked d (all p) → Marked d (all e)
   gap-marks d p e h g = mark-same d (all p) (all e) (λ x k. gap-sums p e x h g)
 
 -- ---- the jth turn of a loop over a list of places

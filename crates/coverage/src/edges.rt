@@ -52,8 +52,9 @@ fn put(
     if cover.len() <= p {
         return;
     }
+    let mark = cover[p];
     cover[p] = 1;
-    touch(groups, p);
+    touch(groups, p, mark);
     let i = base + (at * 4 + r);
     let v = scratch[i] + by;
     scratch[i] = v;

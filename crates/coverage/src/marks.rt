@@ -4,7 +4,9 @@ use crate::zero::zero_counts;
 use rect::least;
 use rect::most;
 ghost use mathlib.Core.Path.{_≡_};
+ghost use mathlib.Core.Bool.{cond};
 ghost use Prim.Native.Nat.{_<_, _≤_};
+ghost use lib.Dec.{eqb};
 ghost use lib.ListN.{length};
 ghost use Rattle.coverage.specs.Marks.{touched, Grouped};
 
@@ -18,11 +20,14 @@ pub fn unmark(marks: &mut [u8], groups: &mut [u16])
     groups[33] = 0;
 }
 
-// Notes that pixel p is marked: its group, and the first and the last such pixel.
-pub fn touch(groups: &mut [u16], p: usize)
+// Notes that pixel p is marked, if it was not: its group, and the first and the last such pixel.
+pub fn touch(groups: &mut [u16], p: usize, mark: u8)
     requires { ⌜ (p < 1024) × (length (now groups) ≡ 34) ⌝ }
-    ensures { λ _. ⌜ now (groups .exit) ≡ touched (now (groups .entry)) p ⌝ }
+    ensures { λ _. ⌜ now (groups .exit) ≡ cond (eqb mark 0) (touched (now (groups .entry)) p) (now (groups .entry)) ⌝ }
 {
+    if mark != 0 {
+        return;
+    }
     let first = least(groups[32] as usize, p);
     let end = most(groups[33] as usize, p + 1);
     groups[p / 32] = 1;

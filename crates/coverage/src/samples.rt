@@ -3,7 +3,7 @@ use crate::Cell;
 use crate::Taken;
 use crate::zero::zero_numbers;
 ghost use mathlib.Core.Path.{_≡_};
-ghost use mathlib.Core.Bool.{cond};
+ghost use mathlib.Core.Bool.{true, false, cond};
 ghost use Prim.Native.Nat.{ℕ, _+_, _*_, _<_, _≤_};
 ghost use lib.Dec.{eqb};
 ghost use lib.ListN.{length};
@@ -11,15 +11,28 @@ ghost use Rattle.lists.specs.Lists.{tab};
 ghost use Rattle.coverage.specs.Winding.{insideBy, oneIf};
 ghost use Rattle.coverage.specs.Scanline.{at, laid, zeros, Low, takenFrom, lineFrom, fullOf, cellOf, cellFrom, cellAfter, pixelOf, Bounded, Marked, Tame};
 
-// 1 where the winding number is inside: not zero, or, by the even-odd rule, odd.
-fn one_inside(nonzero: bool, w: i32) -> u8
-    ensures { λ r. ⌜ (r ≡ oneIf (insideBy nonzero w)) × (r ≤ 1) ⌝ }
+// 1 where the winding number is not zero.
+fn not_zero(w: i32) -> u8
+    ensures { λ r. ⌜ (r ≡ oneIf (insideBy true w)) × (r ≤ 1) ⌝ }
+{
+    if w != 0 { 1 } else { 0 }
+}
+
+// 1 where it is odd.
+fn is_odd(w: i32) -> u8
+    ensures { λ r. ⌜ (r ≡ oneIf (insideBy false w)) × (r ≤ 1) ⌝ }
+{
+    if w % 2 != 0 { 1 } else { 0 }
+}
+
+// How many of four winding numbers are inside. The fill rule is asked for once, so that the four are counted side by side.
+fn count_inside(nonzero: bool, a: i32, b: i32, c: i32, d: i32) -> u8
+    ensures { λ r. ⌜ (r ≡ oneIf (insideBy nonzero a) + oneIf (insideBy nonzero b) + oneIf (insideBy nonzero c) + oneIf (insideBy nonzero d)) × (r ≤ 4) ⌝ }
 {
     if nonzero {
-        if w != 0 { 1 } else { 0 }
-    } else {
-        if w % 2 != 0 { 1 } else { 0 }
+        return not_zero(a) + not_zero(b) + not_zero(c) + not_zero(d);
     }
+    is_odd(a) + is_odd(b) + is_odd(c) + is_odd(d)
 }
 
 // Four columns of a sample row, after the winding number z.
@@ -33,10 +46,7 @@ fn take_four(nonzero: bool, z: i32, a: i32, b: i32, c: i32, d: i32) -> Taken
     let zd = zc + d;
     Taken {
         sum: zd,
-        count: one_inside(nonzero, za)
-            + one_inside(nonzero, zb)
-            + one_inside(nonzero, zc)
-            + one_inside(nonzero, zd),
+        count: count_inside(nonzero, za, zb, zc, zd),
     }
 }
 
@@ -72,11 +82,7 @@ fn cell_of(nonzero: bool, t: Taken, u: Taken, v: Taken, w: Taken) -> Cell
 fn full_of(nonzero: bool, a: i32, b: i32, c: i32, d: i32) -> u8
     ensures { λ r. ⌜ r ≡ fullOf nonzero a b c d ⌝ }
 {
-    (one_inside(nonzero, a)
-        + one_inside(nonzero, b)
-        + one_inside(nonzero, c)
-        + one_inside(nonzero, d))
-        * 4
+    count_inside(nonzero, a, b, c, d) * 4
 }
 
 // Pixel p, after z, with its 16 numbers, which are set to 0.

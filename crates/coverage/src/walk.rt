@@ -66,16 +66,29 @@ fn next_mark(marks: &[u8], groups: &[u16], p: usize) -> usize
     marks.len()
 }
 
-// Where to look after e: at the next group, at the next pixel, or at e itself, which is marked.
+// Where to look after e: at the next group, or at the first marked pixel of this one.
 fn skip(marks: &[u8], groups: &[u16], e: usize) -> usize
     requires { ⌜ (e < length (now marks)) × Grouped (now marks) (now groups) ⌝ }
     ensures { λ r. ⌜ Blank (now (marks .entry)) e r ⌝ }
 {
+    let end = least(e / 32 * 32 + 32, marks.len());
     if groups[e / 32] == 0 {
-        return least(e / 32 * 32 + 32, marks.len());
+        return end;
     }
-    if marks[e] == 0 {
-        return e + 1;
+    scan(marks, e, end)
+}
+
+// The first marked pixel from p on and before end, or end.
+fn scan(marks: &[u8], p: usize, end: usize) -> usize
+    requires { ⌜ (p ≤ end) × (end ≤ length (now marks)) ⌝ }
+    ensures { λ r. ⌜ Blank (now (marks .entry)) p r ⌝ }
+{
+    let mut e = p;
+    while e < end {
+        if marks[e] != 0 {
+            return e;
+        }
+        e += 1;
     }
-    e
+    end
 }

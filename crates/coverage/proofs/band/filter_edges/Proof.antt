@@ -68,20 +68,22 @@ loop-less c = search needs
 
 loop-again : tie.Need-loop-again Inv-loop μ-loop
 loop-again c =
-    let s = c .before .before .before .before .before .before in
-    let a = s .args in
-    let l = c .before .before .before .before .loop in
-    let t = apart (edgeAt (a .scratch .now) (l .i) .y0) (edgeAt (a .scratch .now) (l .i) .y1) (a .from) (a .end) in
-    let e = c .needed .ensures in
-    let m = s .pre .0 .small (l .i) (omega arith) in
-    let e0 : c .needed .result ≡ cond t 0 1 =
-    e .0
-    ∙ ap₂ (λ (p q : ℤ). cond (apart p q (a .from) (a .end)) 0 1) (clean (edgeAt (a .scratch .now) (l .i) .y0) (m .y0)) (clean (edgeAt (a .scratch .now) (l .i) .y1) (m .y1)) in (
+    let turn = c .before .before .before .before in
+    let entry = turn .before .before in
+    let a = entry .args in
+    let l = turn .loop in
+    let e = edgeAt (a .scratch .now) (l .i) in
+    let t = apart (e .y0) (e .y1) (a .from) (a .end) in
+    let n = c .needed .ensures in
+    let m = entry .pre .0 .small (l .i) (omega arith) in
+    let counted : c .needed .result ≡ cond t 0 1 =
+    n .0 ∙ ap₂ (λ (p q : ℤ). cond (apart p q (a .from) (a .end)) 0 1) (clean (e .y0) (m .y0)) (clean (e .y1) (m .y1)) in
+    let here : l .k < length (l .list) = omega (arith, l .inv .1, l .inv .2, entry .pre .1 .2) in (
       search needs,
-      omega (arith, e .1, l .inv .1),
+      omega (arith, n .1, l .inv .1),
       simp length-set (omega arith),
-      ap (λ (m : ℕ). take (l .k + m) (set (l .list) (l .k) (l .i))) e0
-          ∙ list-turn (l .list) (listed (a .scratch .now) (a .from) (a .end) (l .i)) (l .k) (l .i) t (omega (arith, l .inv .1, l .inv .2, s .pre .1 .2)) (l .inv .3)
+      ap (λ (m : ℕ). take (l .k + m) (set (l .list) (l .k) (l .i))) counted
+          ∙ list-turn (l .list) (listed (a .scratch .now) (a .from) (a .end) (l .i)) (l .k) (l .i) t here (l .inv .3)
           ∙ sym (upto-more (l .i) (λ i. cond (apart (edgeAt (a .scratch .now) i .y0) (edgeAt (a .scratch .now) i .y1) (a .from) (a .end)) [] (i ∷ []))),
     )
 

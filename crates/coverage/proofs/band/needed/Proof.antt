@@ -26,10 +26,12 @@ last s = toZ-pos w32 (omega arith) ∙ ap pos (as-sample (s .args .end) (omega a
     as-sample : (y : ℕ) → 0 < y → 256 * y - 32 ≡ 64 * (4 * y - 1) + 32
     as-sample y h = omega arith
 
-low : (s : tie.Start) (z : ℤ) {t : Bool} → SFits w32 z → leZ (toZ w32 (ofZ w32 z)) (toZ w32 (256 * s .args .from + 32)) ≡ t → leZ z (sample (4 * s .args .from)) ≡ t
+low : (s : tie.Start) (z : ℤ) {t : Bool} → SFits w32 z
+    → leZ (toZ w32 (ofZ w32 z)) (toZ w32 (256 * s .args .from + 32)) ≡ t → leZ z (sample (4 * s .args .from)) ≡ t
 low s z f e = rw (toZ-ofZ f, first s) at e
 
-high : (s : tie.Start) (z : ℤ) {t : Bool} → SFits w32 z → ltZ (toZ w32 (256 * s .args .end - 32)) (toZ w32 (ofZ w32 z)) ≡ t → ltZ (sample (4 * s .args .end - 1)) z ≡ t
+high : (s : tie.Start) (z : ℤ) {t : Bool} → SFits w32 z
+    → ltZ (toZ w32 (256 * s .args .end - 32)) (toZ w32 (ofZ w32 z)) ≡ t → ltZ (sample (4 * s .args .end - 1)) z ≡ t
 high s z f e = rw (toZ-ofZ f, last s) at e
 
 mul-first : tie.Need-mul-first
@@ -63,12 +65,16 @@ returns-2 c =
 returns-3 : tie.Need-returns-3
 returns-3 c =
     let s = c .before .before .before in
-    (rw (low s (s .args .y0) (s .fits .y0) (c .before .before .if1 .left), high s (s .args .y0) (s .fits .y0) (c .before .if3 .taken), high s (s .args .y1) (s .fits .y1) (c .if4 .taken)), omega arith)
+    let p = low s (s .args .y0) (s .fits .y0) (c .before .before .if1 .left) in
+    let q = high s (s .args .y0) (s .fits .y0) (c .before .if3 .taken) in
+    (rw (p, q, high s (s .args .y1) (s .fits .y1) (c .if4 .taken)), omega arith)
 
 returns-4 : tie.Need-returns-4
 returns-4 c =
     let s = c .before .before .before in
-    (rw (low s (s .args .y0) (s .fits .y0) (c .before .before .if1 .left), high s (s .args .y0) (s .fits .y0) (c .before .if3 .taken), high s (s .args .y1) (s .fits .y1) (c .if4 .left)), omega arith)
+    let p = low s (s .args .y0) (s .fits .y0) (c .before .before .if1 .left) in
+    let q = high s (s .args .y0) (s .fits .y0) (c .before .if3 .taken) in
+    (rw (p, q, high s (s .args .y1) (s .fits .y1) (c .if4 .left)), omega arith)
 
 returns-5 : tie.Need-returns-5
 returns-5 c =

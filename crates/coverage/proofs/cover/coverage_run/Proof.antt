@@ -76,15 +76,17 @@ part-take-row-end c = search needs
 
 take-row-requires : tie.Need-take-row-requires
 take-row-requires c κs =
-    let entry = c .before .before .before .before .before .before .before .before .before .before .before .before .before .before .before .before .before in
+    let after-add-edges = c .before .before .before .before .before .before in
+    let after-unmark = after-add-edges .before .before .before .before .before .before .before in
+    let entry = after-unmark .before .before .before .before in
     let a = entry .args in
-    let g = c .before .before .before .before .before .before .add-edges in
-    let w = length (c .before .before .before .before .before .before .before .before .before .before .before .before .before .unmark .last .0) in
+    let g = after-add-edges .add-edges in
+    let w = length (after-unmark .unmark .last .0) in
     let es = edgesOf (a .scratch .now) (a .n) in
     let d = g .last .1 .1 .1 .1 .0 in
     let k : length d ≡ w = g .kept .1 .1 .1 .1 .0 in
     let few : length es ≤ 1000000 = omega (arith, tab-length (a .n) (edgeAt (a .scratch .now)), entry .pre .0 .few) in
-    subst (λ (u : List ℤ). (length u ≡ length d * 16) × (Marked d (at u) × Tame u (length d * 4))) (sym (lent (c .before .before .before .before .before .before))) (
+    subst (λ (u : List ℤ). (length u ≡ length d * 16) × (Marked d (at u) × Tame u (length d * 4))) (sym (lent after-add-edges)) (
       sums-long (4 * a .x) w (a .y) es ∙ ap (λ (n : ℕ). n * 16) (sym k),
       (
         sums-marked (4 * a .x) w (a .y) es d k (g .ensures .1 .0),
@@ -100,11 +102,14 @@ same-length-2 c = search needs
 
 returns : tie.Need-returns
 returns c =
-    let entry = c .before .before .before .before .before .before .before .before .before .before .before .before .before .before .before .before .before .before .before .before .before in
+    let after-take-row = c .before .before .before in
+    let after-add-edges = after-take-row .before .before .before .before .before .before .before in
+    let after-unmark = after-add-edges .before .before .before .before .before .before .before in
+    let entry = after-unmark .before .before .before .before in
     let a = entry .args in
-    let u = c .before .before .before .before .before .before .before .before .before .before .before .before .before .before .before .before .before .unmark in
-    let g = c .before .before .before .before .before .before .before .before .before .before .add-edges in
-    let t = c .before .before .before .take-row in
+    let u = after-unmark .unmark in
+    let g = after-add-edges .add-edges in
+    let t = after-take-row .take-row in
     let w = length (u .last .0) in
     let es = edgesOf (a .scratch .now) (a .n) in
     let long = sums-long (4 * a .x) w (a .y) es in
@@ -112,8 +117,8 @@ returns c =
     let k : length (g .last .1 .1 .1 .1 .0) ≡ w = g .kept .1 .1 .1 .1 .0 in (
       given-back (a .n * 4) (w * 16) (a .scratch .now) (sumsOf (4 * a .x) w (a .y) es) (g .last .0) r long (g .ensures .0) (t .last .0)
           (clear-laid (a .scratch .now) (a .n) (w * 16) r (entry .pre .0 .clear)
-          ∙ ap (laid (a .n * 4) (w * 16) (a .scratch .now)) (sym (t .ensures .0 ∙ ap zeros (ap length (lent (c .before .before .before .before .before .before .before .before .before .before)) ∙ long)))),
-      t .ensures .1 ∙ ap₂ (λ (n : ℕ) (u : List ℤ). tab n (pixelOf (a .nonzero) u)) k (lent (c .before .before .before .before .before .before .before .before .before .before)) ∙ window-covers (a .x) w (a .y) es (a .nonzero)
+          ∙ ap (laid (a .n * 4) (w * 16) (a .scratch .now)) (sym (t .ensures .0 ∙ ap zeros (ap length (lent after-add-edges) ∙ long)))),
+      t .ensures .1 ∙ ap₂ (λ (n : ℕ) (u : List ℤ). tab n (pixelOf (a .nonzero) u)) k (lent after-add-edges) ∙ window-covers (a .x) w (a .y) es (a .nonzero)
           ∙ ap (λ (n : ℕ). tab n (λ i. coverage es (a .nonzero) (a .x + i) (a .y))) (u .kept .0),
     )
 

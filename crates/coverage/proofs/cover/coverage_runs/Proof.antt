@@ -55,7 +55,9 @@ part-window-runs-end c = search needs
 
 -- as many pixels as are lent
 width : (c : tie.After-least Inv-loop μ-loop) → let l = c .before .before .loop in
-    (l .i ≤ c .least .result) × (c .least .result ≤ length (l .marks)) × (length (take (c .least .result - l .i) (drop (l .i) (l .marks))) ≡ c .least .result - l .i)
+    (l .i ≤ c .least .result)
+    × (c .least .result ≤ length (l .marks))
+    × (length (take (c .least .result - l .i) (drop (l .i) (l .marks))) ≡ c .least .result - l .i)
 width c =
     let l = c .before .before .loop in
     let e = c .least .result in
@@ -65,16 +67,18 @@ width c =
 
 window-runs-requires : tie.Need-window-runs-requires Inv-loop μ-loop
 window-runs-requires c κs =
-    let entry = c .before .before .before .before .before .before .before .before .before .before in
-    let l = c .before .before .before .before .before .loop in
-    let t = c .before .before .before in
-    let w = width t in (
-      subst (λ (s : List ℤ). Outlined s (entry .args .line .edges) × Needed s (entry .args .line .edges) (entry .args .line .y) (entry .args .list .now)) (sym (l .inv .1)) (entry .pre .0),
+    let after-least = c .before .before .before in
+    let turn = after-least .before .before in
+    let entry = turn .before .before .before .before .before in
+    let a = entry .args in
+    let l = turn .loop in
+    let w = width after-least in (
+      subst (λ (s : List ℤ). Outlined s (a .line .edges) × Needed s (a .line .edges) (a .line .y) (a .list .now)) (sym (l .inv .1)) (entry .pre .0),
       (
         (
           entry .pre .1 .0,
           omega (arith, w .0, w .1, w .2, l .inv .2, entry .pre .1 .1),
-          omega (arith, w .2, t .least .ensures, ap length (l .inv .1), entry .pre .0 .0 .few, entry .pre .0 .0 .room),
+          omega (arith, w .2, after-least .least .ensures, ap length (l .inv .1), entry .pre .0 .0 .few, entry .pre .0 .0 .room),
         ),
         (l .inv .4, omega (arith, w .0, w .1, w .2, l .inv .2, l .inv .3, entry .pre .1 .2)),
       ),

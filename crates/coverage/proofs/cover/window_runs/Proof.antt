@@ -91,17 +91,19 @@ slice-aggregate-take-runs c = search needs
 
 take-runs-requires : tie.Need-take-runs-requires
 take-runs-requires c κs =
-    let entry = c .before .before .before .before .before .before .before .before .before .before .before .before .before .before .before .before .before .before .before .before .before .before in
+    let after-add-listed = c .before .before .before .before .before .before .before .before in
+    let after-unmark = after-add-listed .before .before .before .before .before .before .before .before in
+    let entry = after-unmark .before .before .before .before .before .before in
     let a = entry .args in
-    let g = c .before .before .before .before .before .before .before .before .add-listed in
-    let u = c .before .before .before .before .before .before .before .before .before .before .before .before .before .before .before .before .unmark in
+    let g = after-add-listed .add-listed in
+    let u = after-unmark .unmark in
     let w = length (u .last .0) in
     let es = edgesOf (a .scratch .now) (a .line .edges) in
     let x = a .line .x + a .from in
     let d = g .last .1 .1 .1 .1 .1 .0 in
     let k : length d ≡ w = g .kept .1 .1 .1 .1 .1 .0 in
     let few : length es ≤ 1000000 = omega (arith, tab-length (a .line .edges) (edgeAt (a .scratch .now)), entry .pre .0 .0 .few) in (
-      subst (λ (t : List ℤ). (length t ≡ length d * 16) × Marked d (at t) × Tame t (length d * 4)) (sym (lent (c .before .before .before .before .before .before .before .before))) (
+      subst (λ (t : List ℤ). (length t ≡ length d * 16) × Marked d (at t) × Tame t (length d * 4)) (sym (lent after-add-listed)) (
         sums-long (4 * x) w (a .line .y) es ∙ ap (λ (n : ℕ). n * 16) (sym k),
         sums-marked (4 * x) w (a .line .y) es d k (g .ensures .1 .0),
         subst (λ (n : ℕ). Tame (sumsOf (4 * x) w (a .line .y) es) (n * 4)) (sym k) (sums-tame (4 * x) w (a .line .y) es few),
@@ -123,11 +125,14 @@ same-length-3 c = search needs
 
 returns : tie.Need-returns
 returns c =
-    let entry = c .before .before .before .before .before .before .before .before .before .before .before .before .before .before .before .before .before .before .before .before .before .before .before .before .before .before in
+    let after-take-runs = c .before .before .before in
+    let after-add-listed = after-take-runs .before .before .before .before .before .before .before .before .before in
+    let after-unmark = after-add-listed .before .before .before .before .before .before .before .before in
+    let entry = after-unmark .before .before .before .before .before .before in
     let a = entry .args in
-    let u = c .before .before .before .before .before .before .before .before .before .before .before .before .before .before .before .before .before .before .before .before .unmark in
-    let g = c .before .before .before .before .before .before .before .before .before .before .before .before .add-listed in
-    let t = c .before .before .before .take-runs in
+    let u = after-unmark .unmark in
+    let g = after-add-listed .add-listed in
+    let t = after-take-runs .take-runs in
     let w = length (u .last .0) in
     let n = a .line .edges in
     let es = edgesOf (a .scratch .now) n in
@@ -137,7 +142,7 @@ returns c =
     let k : length (g .last .1 .1 .1 .1 .1 .0) ≡ w = g .kept .1 .1 .1 .1 .1 .0 in (
       given-back (n * 4) (w * 16) (a .scratch .now) (sumsOf (4 * x) w (a .line .y) es) (g .last .0) r long (g .ensures .0) (t .last .0)
           (clear-laid (a .scratch .now) n (w * 16) r (entry .pre .0 .0 .clear)
-          ∙ ap (laid (n * 4) (w * 16) (a .scratch .now)) (sym (t .ensures .0 ∙ ap zeros (ap length (lent (c .before .before .before .before .before .before .before .before .before .before .before .before)) ∙ long)))),
+          ∙ ap (laid (n * 4) (w * 16) (a .scratch .now)) (sym (t .ensures .0 ∙ ap zeros (ap length (lent after-add-listed) ∙ long)))),
       (
         (
           subst (λ (p : ℕ). Runs (t .last .1 .1 .1 .1 .0) (t .result) (a .from + p)) (k ∙ u .kept .0) (t .ensures .1 .0 .0),
@@ -145,7 +150,7 @@ returns c =
         ),
         t .ensures .1 .1
             ∙ ap (λ (q : List ℕ). expand (a .runs .now) (a .n) ++ q)
-            (ap₂ (λ (m : ℕ) (q : List ℤ). tab m (pixelOf (a .line .nonzero) q)) k (lent (c .before .before .before .before .before .before .before .before .before .before .before .before)) ∙ window-covers x w (a .line .y) es (a .line .nonzero)
+            (ap₂ (λ (m : ℕ) (q : List ℤ). tab m (pixelOf (a .line .nonzero) q)) k (lent after-add-listed) ∙ window-covers x w (a .line .y) es (a .line .nonzero)
             ∙ ap (λ (m : ℕ). tab m (λ i. coverage es (a .line .nonzero) (x + i) (a .line .y))) (u .kept .0)),
       ),
     )

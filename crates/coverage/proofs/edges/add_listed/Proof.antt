@@ -67,14 +67,16 @@ cast-add-edge c = omega (arith, c .shared-slice-known2 .given (c .before .before
 
 add-edge-requires : tie.Need-add-edge-requires Inv-loop μ-loop
 add-edge-requires c κs =
-    let entry = c .before .before .before .before .before .before .before .before .before in
+    let test = c .before .before .before .before in
+    let turn = test .before in
+    let entry = turn .before .before .before .before in
     let a = entry .args in
-    let l = c .before .before .before .before .before .loop in
-    let here = c .before .before .before .before .loop-test .taken in
+    let l = turn .loop in
+    let here = test .loop-test .taken in
     let i = getD (a .list .now) (l .j) 0 in
     let low = entry .pre .1 .1 .1 .below (l .j) here in (
       (low, entry .pre .0 .0, omega (arith, l .inv .2, entry .pre .0 .1), l .inv .5),
-      turn-asks (a .n) (length (a .cover .now)) (a .c) (a .y) (a .scratch .now) (entry .pre .1 .0 .room) i low (l .scratch) (stands (c .before .before .before .before)) (length (l .cover))
+      turn-asks (a .n) (length (a .cover .now)) (a .c) (a .y) (a .scratch .now) (entry .pre .1 .0 .room) i low (l .scratch) (stands test) (length (l .cover))
           (l .inv .2) (l .cover) (entry .pre .1 .0) (l .inv .1)
           (subst (λ (m : ℕ). Marked (l .cover) (sumsAt (a .c) (length (a .cover .now) * 4) (a .y) (edgesOf (a .scratch .now) m)))
           (reach-at (a .list .now) (a .n) (l .j) here) (l .inv .4)),

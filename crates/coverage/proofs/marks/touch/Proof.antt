@@ -1,10 +1,14 @@
 -- `coverage::marks::touch` meets its contract. Assumes nothing.
 use mathlib.Core.Path.{refl}
 use native.Mathlib.Omega.{arith}
+use borrow.Author.Tests.{eq-eqb, ne-eqb}
 use Rattle.coverage.specs.Marks.{touched}
 use borrow.Author.Needs.{needs}
 use Rattle.coverage.proofs.marks.touch.Statement.{statement}
 use Rattle.coverage.proofs.marks.touch.Tie as tie
+
+returns : tie.Need-returns
+returns c = let entry = c .before .before in rw (ne-eqb (entry .args .mark) 0 (c .if1 .taken)) refl
 
 slice-read-least : tie.Need-slice-read-least
 slice-read-least c = search needs
@@ -34,13 +38,13 @@ slice-write-groups : tie.Need-slice-write-groups
 slice-write-groups c = search needs
 
 cast-groups : tie.Need-cast-groups
-cast-groups c = omega (arith, c .before .before .least .ensures, c .before .before .before .before .before .pre .0)
+cast-groups c = omega (arith, c .before .before .least .ensures, c .before .before .before .before .before .before .pre .0)
 
 slice-write-groups-2 : tie.Need-slice-write-groups-2
 slice-write-groups-2 c = search needs
 
 cast-groups-2 : tie.Need-cast-groups-2
-cast-groups-2 c = omega (arith, c .most .ensures, c .before .slice-known3 .given 33, c .before .before .before .before .before .pre .0)
+cast-groups-2 c = omega (arith, c .most .ensures, c .before .slice-known3 .given 33, c .before .before .before .before .before .before .pre .0)
 
 slice-write-groups-3 : tie.Need-slice-write-groups-3
 slice-write-groups-3 c = search needs
@@ -48,14 +52,17 @@ slice-write-groups-3 c = search needs
 same-length : tie.Need-same-length
 same-length c = search needs
 
-returns : tie.Need-returns
+returns-2 : tie.Need-returns-2
 unfolding touched
-returns c = rw (c .before .before .least .ensures, c .most .ensures) refl
+returns-2 c =
+    let entry = c .before .before .before .before .before .before in
+    rw (eq-eqb (entry .args .mark) 0 (c .before .before .before .before .if1 .left), c .before .before .least .ensures, c .most .ensures) refl
 
 pub touch-spec : {M : Type 1} → statement M
 touch-spec =
     tie.close
     (tie.spec
+    returns
     slice-read-least
     cast-least
     least-requires
@@ -70,4 +77,4 @@ touch-spec =
     cast-groups-2
     slice-write-groups-3
     same-length
-    returns)
+    returns-2)

@@ -27,15 +27,13 @@ zd c = add (keep w32 (zc c) tt) (sized 1000000 (c .args .d) tt (c .pre .4))
 returns : tie.Need-returns
 unfolding takenFrom
 returns c =
-    let entry = c .before .before .before .before in
+    let entry = c .before in
     let f : ℤ → ℕ = λ z. oneIf (insideBy (entry .args .nonzero) z) in (
       ap₂ (λ (z : ℤ) (n : ℕ). record { sum = z; count = n }) (keep w32 (zd entry) tt .same)
-          (four-counts
-          (c .before .before .before .one-inside .ensures .0 ∙ ap f (keep w32 (za entry) tt .same))
-          (c .before .before .one-inside2 .ensures .0 ∙ ap f (keep w32 (zb entry) tt .same))
-          (c .before .one-inside3 .ensures .0 ∙ ap f (keep w32 (zc entry) tt .same))
-          (c .one-inside4 .ensures .0 ∙ ap f (keep w32 (zd entry) tt .same))),
-      search needs,
+          (c .count-inside .ensures .0
+          ∙ four-counts (ap f (keep w32 (za entry) tt .same)) (ap f (keep w32 (zb entry) tt .same)) (ap f (keep w32 (zc entry) tt .same))
+          (ap f (keep w32 (zd entry) tt .same))),
+      c .count-inside .ensures .1,
     )
 
 pub take-four-spec : {M : Type 1} → statement M
@@ -47,10 +45,4 @@ take-four-spec =
     (λ c. need (zc c) tt)
     (λ c. need (zd c) tt)
     (λ c κs. search needs)
-    (λ c κs. search needs)
-    (λ c. search needs)
-    (λ c κs. search needs)
-    (λ c. search needs)
-    (λ c κs. search needs)
-    (λ c. search needs)
     returns)

@@ -54,15 +54,17 @@ first-run : (c : tie.After-push Inv-loop μ-loop)
     Walked (a .nonzero) (a .sums .now) (a .from) (c .before .before .next-mark .result) noCell (a .sums .now) (c .push .last .0) (c .push .result)
     × Longer (pixelOf (a .nonzero) (a .sums .now)) (a .runs .now) (a .n) 0 (c .push .last .0) (c .push .result) (c .before .before .next-mark .result)
 first-run c =
-    let entry = c .before .before .before .before .before .before .before .before in
+    let after-next-mark = c .before .before in
+    let after-least = after-next-mark .before in
+    let entry = after-least .before .before .before .before .before in
     let a = entry .args in
-    let m = c .before .before .next-mark in
+    let m = after-next-mark .next-mark in
     let p = c .push in
-    let f = blank-first (a .marks .now) (a .groups .now) (c .before .before .before .least .result) (entry .pre .1 .0) (c .before .before .before .least .ensures) in
+    let f = blank-first (a .marks .now) (a .groups .now) (after-least .least .result) (entry .pre .1 .0) (after-least .least .ensures) in
     walked-blank (a .nonzero) (a .sums .now) (a .marks .now) (a .from) 0 (a .n) noCell (a .sums .now) (a .runs .now)
     (walked-first (a .nonzero) (a .sums .now) (a .marks .now) (a .from) (a .runs .now) (a .n) (entry .pre .1 .1 .0)) (entry .pre .0 .0) (entry .pre .0 .1)
     (m .result) (p .result) (a .from + m .result - a .from) (p .last .0)
-    (blank-more (a .marks .now) 0 (c .before .before .before .least .result) (m .result) f (m .ensures)) (p .ensures .0 .0) (omega arith) (p .ensures .1)
+    (blank-more (a .marks .now) 0 (after-least .least .result) (m .result) f (m .ensures)) (p .ensures .0 .0) (omega arith) (p .ensures .1)
 
 loop-holds : tie.Need-loop-holds Inv-loop μ-loop
 loop-holds c = (c .before .before .before .before .next-mark .ensures .high, refl, refl, first-run (c .before .before) .0, λ h q. q)
@@ -82,18 +84,30 @@ add-p : tie.Need-add-p Inv-loop μ-loop
 add-p c = search needs
 
 add-push-2 : tie.Need-add-push-2 Inv-loop μ-loop
-add-push-2 c = omega (arith, c .before .before .before .before .before .loop .inv .0, c .before .before .before .before .before .before .before .before .before .before .before .before .before .before .before .before .pre .1 .1 .2)
+add-push-2 c =
+    let turn = c .before .before .before .before .before in
+    let entry = turn .before .before .before .before .before .before .before .before .before .before .before in
+    omega (arith, turn .loop .inv .0, entry .pre .1 .1 .2)
 
 add-push-3 : tie.Need-add-push-3 Inv-loop μ-loop
-add-push-3 c = omega (arith, c .before .before .before .before .loop-test .taken, c .before .before .before .before .before .before .before .before .before .before .before .before .before .before .before .before .pre .1 .1 .2)
+add-push-3 c =
+    let test = c .before .before .before .before in
+    let entry = test .before .before .before .before .before .before .before .before .before .before .before .before in
+    omega (arith, test .loop-test .taken, entry .pre .1 .1 .2)
 
 -- the runs have room for the row
-room : (c : tie.At-loop Inv-loop μ-loop) → (c .before .before .before .before .before .before .before .before .before .before .before .args .from + length (c .before .before .before .before .before .before .before .before .before .before .before .args .marks .now) ≤ length (c .loop .runs))
-room c = omega (arith, c .loop .inv .2, c .before .before .before .push .ensures .0 .1, c .before .before .before .before .before .before .before .before .before .before .before .pre .1 .1 .1)
+room : (c : tie.At-loop Inv-loop μ-loop)
+    → let a = c .before .before .before .before .before .before .before .before .before .before .before .args in
+    a .from + length (a .marks .now) ≤ length (c .loop .runs)
+room c =
+    let after-push = c .before .before .before in
+    let entry = after-push .before .before .before .before .before .before .before .before in
+    omega (arith, c .loop .inv .2, after-push .push .ensures .0 .1, entry .pre .1 .1 .1)
 
 -- the pixel that is taken
-taken : (c : tie.After-take-cell Inv-loop μ-loop) → (c .take-cell .result .count ≡ pixelOf (c .before .before .before .before .before .before .before .before .before .before .before .before .before .before .args .nonzero) (c .before .before .before .before .before .before .before .before .before .before .before .before .before .before .args .sums .now) (c .before .before .before .loop .e))
-    × (c .take-cell .result .full ≤ 16)
+taken : (c : tie.After-take-cell Inv-loop μ-loop)
+    → let a = c .before .before .before .before .before .before .before .before .before .before .before .before .before .before .args in
+    (c .take-cell .result .count ≡ pixelOf (a .nonzero) (a .sums .now) (c .before .before .before .loop .e)) × (c .take-cell .result .full ≤ 16)
 taken c =
     let entry = c .before .before .before .before .before .before .before .before .before .before .before .before .before .before in
     let a = entry .args in
@@ -122,42 +136,65 @@ push-requires-2 c κs =
     )
 
 next-mark-requires-2 : tie.Need-next-mark-requires-2 Inv-loop μ-loop
-next-mark-requires-2 c κs = (omega (arith, c .before .before .before .before .before .before .before .loop-test .taken), c .before .before .before .before .before .before .before .before .before .before .before .before .before .before .before .before .before .before .before .pre .1 .0)
+next-mark-requires-2 c κs =
+    let test = c .before .before .before .before .before .before .before in
+    let entry = test .before .before .before .before .before .before .before .before .before .before .before .before in
+    (omega (arith, test .loop-test .taken), entry .pre .1 .0)
 
 add-push-4 : tie.Need-add-push-4 Inv-loop μ-loop
-add-push-4 c = omega (arith, c .before .before .before .before .before .before .before .before .before .loop-test .taken, c .before .before .before .before .before .before .before .before .before .before .before .before .before .before .before .before .before .before .before .before .before .pre .1 .1 .2)
+add-push-4 c =
+    let test = c .before .before .before .before .before .before .before .before .before in
+    let entry = test .before .before .before .before .before .before .before .before .before .before .before .before in
+    omega (arith, test .loop-test .taken, entry .pre .1 .1 .2)
 
 add-push-5 : tie.Need-add-push-5 Inv-loop μ-loop
-add-push-5 c = omega (arith, c .before .next-mark2 .ensures .high, c .before .before .before .before .before .before .before .before .before .before .before .before .before .before .before .before .before .before .before .before .before .pre .1 .1 .2)
+add-push-5 c =
+    let after-next-mark2 = c .before in
+    let turn = after-next-mark2 .before .before .before .before .before .before .before .before .before in
+    let entry = turn .before .before .before .before .before .before .before .before .before .before .before in
+    omega (arith, after-next-mark2 .next-mark2 .ensures .high, entry .pre .1 .1 .2)
 
 push-requires-3 : tie.Need-push-requires-3 Inv-loop μ-loop
 push-requires-3 c κs =
-    let entry = c .before .before .before .before .before .before .before .before .before .before .before .before .before .before .before .before .before .before .before .before .before in
-    let b = c .before .next-mark2 .ensures in
-    let p = c .before .before .before .before .push2 in (
+    let after-next-mark2 = c .before in
+    let after-push2 = after-next-mark2 .before .before .before in
+    let after-take-cell = after-push2 .before .before .before in
+    let turn = after-take-cell .before .before .before in
+    let entry = turn .before .before .before .before .before .before .before .before .before .before .before in
+    let b = after-next-mark2 .next-mark2 .ensures in
+    let p = after-push2 .push2 in (
       p .ensures .0 .0,
       (
         omega (arith, b .low),
-        omega (arith, b .high, room (c .before .before .before .before .before .before .before .before .before .before), p .ensures .0 .1),
+        omega (arith, b .high, room turn, p .ensures .0 .1),
         omega (arith, b .high, entry .pre .1 .1 .2),
-        omega (arith, taken (c .before .before .before .before .before .before .before) .1),
+        omega (arith, taken after-take-cell .1),
       ),
     )
 
 loop-less : tie.Need-loop-less Inv-loop μ-loop
-loop-less c = omega (arith, c .before .before .before .before .before .before .before .before .before .before .before .before .loop-test .taken, c .before .before .before .before .next-mark2 .ensures .low, c .before .before .before .before .next-mark2 .ensures .high)
+loop-less c =
+    let after-next-mark2 = c .before .before .before .before in
+    let test = after-next-mark2 .before .before .before .before .before .before .before .before in
+    omega (arith, test .loop-test .taken, after-next-mark2 .next-mark2 .ensures .low, after-next-mark2 .next-mark2 .ensures .high)
 
 loop-again : tie.Need-loop-again Inv-loop μ-loop
 loop-again c =
-    let entry = c .before .before .before .before .before .before .before .before .before .before .before .before .before .before .before .before .before .before .before .before .before .before .before .before in
+    let after-push3 = c .before .before in
+    let after-next-mark2 = after-push3 .before .before in
+    let after-push2 = after-next-mark2 .before .before .before in
+    let after-take-cell = after-push2 .before .before .before in
+    let test = after-take-cell .before .before in
+    let turn = test .before in
+    let entry = turn .before .before .before .before .before .before .before .before .before .before .before in
     let a = entry .args in
-    let l = c .before .before .before .before .before .before .before .before .before .before .before .before .before .loop in
-    let t = c .before .before .before .before .before .before .before .before .before .before .take-cell in
-    let p = c .before .before .before .before .before .before .before .push2 in
-    let m = c .before .before .before .before .next-mark2 in
-    let q = c .before .before .push3 in
+    let l = turn .loop in
+    let t = after-take-cell .take-cell in
+    let p = after-push2 .push2 in
+    let m = after-next-mark2 .next-mark2 in
+    let q = after-push3 .push3 in
     let u = walked-cell (a .nonzero) (a .sums .now) (a .marks .now) (a .from) (l .e) (l .m) (l .z) (l .sums) (l .runs) (l .inv .3) (entry .pre .0 .0)
-    (t .result) (c .before .before .before .before .before .before .before .before .before .before .before .before .loop-test .taken) (t .ensures .0) (t .last .0) (t .ensures .1) (p .result) (a .from + (l .e + 1) - (a .from + l .e)) (p .last .0)
+    (t .result) (test .loop-test .taken) (t .ensures .0) (t .last .0) (t .ensures .1) (p .result) (a .from + (l .e + 1) - (a .from + l .e)) (p .last .0)
     (p .ensures .0 .0) (omega arith) (p .ensures .1) in
     let w = walked-blank (a .nonzero) (a .sums .now) (a .marks .now) (a .from) (l .e + 1) (p .result) (t .result) (t .last .0) (p .last .0) (u .0)
     (entry .pre .0 .0) (entry .pre .0 .1) (m .result) (q .result) (a .from + m .result - (a .from + (l .e + 1))) (q .last .0) (m .ensures) (q .ensures .0 .0)
