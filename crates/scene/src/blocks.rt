@@ -8,8 +8,10 @@ use crate::layout::PAYLOAD_BYTES;
 use crate::layout::PAYLOAD_WORDS;
 use fixed::u16_at;
 ghost use mathlib.Core.Path.{_≡_};
+ghost use mathlib.Core.Bool.{_&&_};
 ghost use Prim.Native.Nat.{_+_, _*_, _<_, _≤_};
 ghost use lib.ListN.{length, take, drop};
+ghost use lib.Dec.{eqb};
 ghost use Rattle.scene.specs.Layout.{blockBytes, payloadBytes, checkModulus, drawBytes};
 ghost use Rattle.scene.specs.Blocks.{checksumOf, blockRight, blockOf, drawOf, sameDraw};
 
@@ -77,17 +79,23 @@ pub fn copy(s: &[u8], at: usize, out: &mut [u8])
     }
 }
 
-// Whether the bytes of two draws are the same.
+// Whether the bytes of two draws are the same, by a loop that looks at every byte, and so at many at a time.
 pub fn same_draw(a: &[u8], b: &[u8]) -> bool
     requires { ⌜ (length (now a) ≡ drawBytes) × (length (now b) ≡ drawBytes) ⌝ }
     ensures { λ r. ⌜ r ≡ sameDraw (now (a .entry)) (now (b .entry)) ⌝ }
 {
+    let mut same = true;
     let mut i = 0;
     while i < DRAW_BYTES {
-        if a[i] != b[i] {
-            return false;
-        }
+        same = still_same(same, a[i], b[i]);
         i += 1;
     }
-    true
+    same
+}
+
+// Whether all was the same so far, and two bytes are.
+pub fn still_same(all: bool, x: u8, y: u8) -> bool
+    ensures { λ r. ⌜ r ≡ (all && eqb x y) ⌝ }
+{
+    if x == y { all } else { false }
 }
