@@ -19,10 +19,12 @@ abbrev μ-loop : tie.MeasureT-loop
 loop-again : tie.Need-loop-again Inv-loop μ-loop
 loop-again c =
     let l = c .before .before .before .loop in
-    let a = c .before .before .before .before .before .args in
-    (search needs, c .still-plain .ensures
-    ∙ ap (λ (t : Bool). t && isPlain (getD (a .segments .now) (l .i) 0)) (l .inv .1)
-    ∙ sym (ap (plainTo (a .segments .now)) (add-one (l .i))))
+    let a = c .before .before .before .before .before .args in (
+      search needs,
+      c .still-plain .ensures
+          ∙ ap (λ (t : Bool). t && isPlain (getD (a .segments .now) (l .i) 0)) (l .inv .1)
+          ∙ sym (ap (plainTo (a .segments .now)) (add-one (l .i))),
+    )
 
 returns : tie.Need-returns Inv-loop μ-loop
 returns c =

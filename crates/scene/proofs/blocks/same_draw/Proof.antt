@@ -21,10 +21,12 @@ abbrev μ-loop : tie.MeasureT-loop
 loop-again : tie.Need-loop-again Inv-loop μ-loop
 loop-again c =
     let l = c .before .before .before .before .loop in
-    let a = c .before .before .before .before .before .before .before .args in
-    (search needs, c .still-same .ensures
-    ∙ ap (λ (t : Bool). t && eqb (getD (a .a .now) (l .i) 0) (getD (a .b .now) (l .i) 0)) (l .inv .1)
-    ∙ sym (same-more (a .a .now) (a .b .now) (l .i)))
+    let a = c .before .before .before .before .before .before .before .args in (
+      search needs,
+      c .still-same .ensures
+          ∙ ap (λ (t : Bool). t && eqb (getD (a .a .now) (l .i) 0) (getD (a .b .now) (l .i) 0)) (l .inv .1)
+          ∙ sym (same-more (a .a .now) (a .b .now) (l .i)),
+    )
 
 returns : tie.Need-returns Inv-loop μ-loop
 unfolding sameDraw

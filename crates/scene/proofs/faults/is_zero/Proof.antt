@@ -28,8 +28,8 @@ loop-again c =
       omega arith,
       omega arith,
       c .still-same .ensures
-      ∙ ap (λ (t : Bool). t && eqb (getD (a .d .now) (l .at) 0) 0) (l .inv .2)
-      ∙ sym (zero-turn (a .d .now) (a .from) (a .to) (l .at) (l .inv .0)),
+          ∙ ap (λ (t : Bool). t && eqb (getD (a .d .now) (l .at) 0) 0) (l .inv .2)
+          ∙ sym (zero-turn (a .d .now) (a .from) (a .to) (l .at) (l .inv .0)),
     )
 
 returns : tie.Need-returns Inv-loop μ-loop
