@@ -9,7 +9,7 @@ use native.Mathlib.Omega.{arith}
 use lib.Dec.{T, leb, eqb, le→leb}
 use lib.ListN.{length, getD}
 use lib.IntN.{ℤ, pos, negsuc, natAbs, _+ℤ_, _*ℤ_, +ℤ-idl}
-use borrow.Author.Tests.{leb-true, eqb-true}
+use borrow.Author.Tests.{leb-true, eqb-true, eq-eqb, le-leb, lt-leb}
 use mir.Syntax.{w16}
 use mir.Val.{SFits}
 use Rattle.codes.specs.Codes.{acceptedCode}
@@ -50,6 +50,20 @@ plain byte h =
     let b = both (eqb (byte % 2) 0) (leb byte 12) h in
     let e = eqb-true (byte % 2) 0 (b .0) in
     record { absolute = rw e; few = leb-true byte 12 (b .1) }
+
+-- told by one number: an odd byte is raised above the last plain one
+pub is-plain : (byte : ℕ) → byte + byte % 2 * 13 ≤ 12 → isPlain byte ≡ true
+is-plain byte h =
+    let even : byte % 2 ≡ 0 = omega arith in
+    let few : byte ≤ 12 = omega arith in
+    rw (eq-eqb (byte % 2) 0 even, le-leb byte 12 few)
+
+pub not-plain : (byte : ℕ) → 12 < byte + byte % 2 * 13 → isPlain byte ≡ false
+not-plain byte h = by (eqb (byte % 2) 0) refl
+  where
+    by : (t : Bool) → eqb (byte % 2) 0 ≡ t → (t && leb byte 12) ≡ false
+    by true e = let even = eqb-true (byte % 2) 0 e in lt-leb byte 12 (omega arith)
+    by false e = refl
 
 pub plain-below : (ss : List ℕ) (n : ℕ) → plainTo ss n ≡ true → (i : ℕ) → i < n → getD ss i 0 < 18
 plain-below ss zero h i l = absurd (not-suc-le-zero l)
@@ -125,7 +139,8 @@ module _ (m : FixedMatrix) (small : isSmall m ≡ true) where
   unfolding isSmall
   point-on p n =
       let b = both (axisSmall (m .sx) (m .shx) (m .tx)) (axisSmall (m .shy) (m .sy) (m .ty)) small in
-      two (leb (natAbs (transform m p .x)) 8388608) (leb (natAbs (transform m p .y)) 8388608) (axis-in (m .sx) (m .shx) (m .tx) p n (b .0)) (axis-in (m .shy) (m .sy) (m .ty) p n (b .1))
+      two (leb (natAbs (transform m p .x)) 8388608) (leb (natAbs (transform m p .y)) 8388608)
+      (axis-in (m .sx) (m .shx) (m .tx) p n (b .0)) (axis-in (m .shy) (m .sy) (m .ty) p n (b .1))
 
   curve-on : (c : Curve) → T (curveInRange c) → T (curveOnGrid m c)
   curve-on c h =
@@ -148,7 +163,8 @@ module _ (m : FixedMatrix) (small : isSmall m ≡ true) where
         let b = bytes (at + 1) in
         coordinate-in (i16At cs at) (signed-fits w16 (u16At cs at) (omega arith))
 
-    ends-in : (pen : Pen) (byte : ℕ) (c : Curve) → T (inRange (pen .start)) → T (curveInRange c) → T (inRange (penAfter pen byte c .start)) × T (inRange (penAfter pen byte c .current))
+    ends-in : (pen : Pen) (byte : ℕ) (c : Curve) → T (inRange (pen .start)) → T (curveInRange c)
+        → T (inRange (penAfter pen byte c .start)) × T (inRange (penAfter pen byte c .current))
     unfolding penAfter
     ends-in pen byte c s h =
         let e = both-right (inRange (c .p2)) (inRange (c .p3)) (both-right (inRange (c .p1)) (inRange (c .p2) && inRange (c .p3)) h) in

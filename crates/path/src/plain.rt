@@ -14,7 +14,7 @@ ghost use Rattle.path.specs.Limits.{Limited};
 const MOST_SEGMENTS: usize = 128;
 
 // The last of the plain segments: a cubic.
-const LAST_PLAIN: u8 = 12;
+const LAST_PLAIN: u32 = 12;
 
 // Whether the matrix is small, and the first n segments are plain.
 pub fn is_plain(m: FixedMatrix, segments: &[u8], n: usize) -> bool
@@ -45,14 +45,17 @@ fn all_plain(segments: &[u8], n: usize) -> bool
     plain
 }
 
-// Whether all were plain so far, and a segment is.
+// Whether all were plain so far, and a segment is. One number tells it, so that many segments go at a time: an odd byte, whose coordinates are
+// relative, is raised above the last plain one.
 fn still_plain(all: bool, byte: u8) -> bool
     ensures { λ r. ⌜ r ≡ (all && isPlain byte) ⌝ }
 {
-    if byte % 2 != 0 {
-        return false;
+    let n = byte as u32;
+    if n + n % 2 * 13 <= LAST_PLAIN {
+        all
+    } else {
+        false
     }
-    if byte <= LAST_PLAIN { all } else { false }
 }
 
 // How many coordinates the first n segments take.

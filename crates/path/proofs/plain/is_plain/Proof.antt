@@ -12,7 +12,8 @@ returns-2 : tie.Need-returns-2
 returns-2 c =
     let test = c .before in
     let small = test .before in
-    rw (le-leb (small .before .before .before .args .n) 128 (small .before .if1 .left), sym (small .is-small .ensures) ∙ test .if2 .taken) (c .all-plain .ensures)
+    rw (le-leb (small .before .before .before .args .n) 128 (small .before .if1 .left), sym (small .is-small .ensures) ∙ test .if2 .taken)
+    (c .all-plain .ensures)
 
 returns-3 : tie.Need-returns-3
 returns-3 c =

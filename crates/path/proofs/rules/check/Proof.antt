@@ -1,10 +1,10 @@
 -- `path::rules::check` meets its contract. Assumes nothing.
-use mathlib.Core.Path.{_≡_, refl, sym, _∙_}
-use mathlib.Core.Bool.{Bool, true, false, not, _&&_}
+use mathlib.Core.Path.{_≡_, sym, _∙_}
+use mathlib.Core.Bool.{true, _&&_}
 use native.Mathlib.Omega.{arith}
 use Prim.Native.Nat.{_≤_}
 use lib.Dec.{leb}
-use borrow.Author.Tests.{leb-true}
+use borrow.Author.Tests.{leb-true, not-false}
 use borrow.Author.Needs.{needs}
 use Rattle.rect.proofs.Laws.{both}
 use Rattle.path.specs.Plain.{isSmall, plainTo}
@@ -18,12 +18,9 @@ entry c = c .before .before .before .before
 passed : (c : tie.Else1) → let a = entry c .args in (a .n ≤ 128) × ((isSmall (a .m) ≡ true) × (plainTo (a .segments .now) (a .n) ≡ true))
 passed c =
     let a = entry c .args in
-    let first = both (leb (a .n) 128) (isSmall (a .m) && plainTo (a .segments .now) (a .n)) (sym (c .before .is-plain .ensures) ∙ held (c .before .is-plain .result) (c .if1 .left)) in
+    let answer = c .before .is-plain in
+    let first = both (leb (a .n) 128) (isSmall (a .m) && plainTo (a .segments .now) (a .n)) (sym (answer .ensures) ∙ not-false _ (c .if1 .left)) in
     (leb-true (a .n) 128 (first .0), both (isSmall (a .m)) (plainTo (a .segments .now) (a .n)) (first .1))
-  where
-    held : (t : Bool) → not t ≡ false → t ≡ true
-    held true e = refl
-    held false e = sym e
 
 returns-3 : tie.Need-returns-3
 returns-3 c =
