@@ -1,5 +1,6 @@
 -- One axis of a point, of numbers that locals hold: what is asked of them, and what comes back.
 use mathlib.Core.Path.{_≡_, _∙_, sym, subst}
+use mathlib.Core.Bool.{Bool}
 use Prim.Native.Nat.{_≤_, _<_, _^_}
 use lib.Dec.{T, leb, leb→le, lit<}
 use lib.IntN.{ℤ, pos, natAbs, _+ℤ_, _-ℤ_, _*ℤ_}
@@ -11,6 +12,7 @@ use Rattle.fixed.proofs.Signed.{back, clean, abs-fits}
 use Rattle.path.specs.declared.Point.{Point}
 use Rattle.path.specs.Matrices.{transformAxis}
 use Rattle.path.specs.Segments.{point}
+use Rattle.path.specs.Plain.{axisSmall}
 use Rattle.path.specs.Limits.{Near}
 
 -- ---- the mirrored point
@@ -55,6 +57,14 @@ module _ (a b t : ℤ) (p : Point) (ha : natAbs a ≤ 16777216) (hb : natAbs b �
         clean w32 32768 (p .x) tt (n .x),
         clean w32 32768 (p .y) tt (n .y),
       ) at e
+
+-- ---- whether an axis is small
+module _ (a b t : ℤ) (ha : natAbs a ≤ 16777216) (hb : natAbs b ≤ 16777216) (ht : natAbs t ≤ 2147483648) where
+  pub small-asked : (natAbs (toZ w64 (ofZ w64 a)) ≤ 16777216) × (natAbs (toZ w64 (ofZ w64 b)) ≤ 16777216) × (natAbs (toZ w64 (ofZ w64 t)) ≤ 2147483648)
+  small-asked = rw (clean w64 16777216 a tt ha, clean w64 16777216 b tt hb, clean w64 2147483648 t tt ht) (ha, hb, ht)
+
+  pub small-told : (r : Bool) → r ≡ axisSmall (toZ w64 (ofZ w64 a)) (toZ w64 (ofZ w64 b)) (toZ w64 (ofZ w64 t)) → r ≡ axisSmall a b t
+  small-told r e = rw (clean w64 16777216 a tt ha, clean w64 16777216 b tt hb, clean w64 2147483648 t tt ht) at e
 
 -- a result that is small enough, cast to 32 bits
 pub landed : (z r : ℤ) → T (leb (natAbs z) 8388608) → mag r < 2 ^ 63 → r ≡ z → SFits w32 (toZ w64 (ofZ w64 r))

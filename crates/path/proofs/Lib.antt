@@ -7,6 +7,7 @@
 --     Sizes     a size judged by two tests
 --     Axes      one axis of a point: mirrored, with a coordinate added, transformed
 --     Traces    the points of a segment and the pen after it, by its kind
+--     Untraced  plain segments under a small matrix are accepted
 pub mod Entries
 pub mod Codes
 pub mod Faults
@@ -14,3 +15,4 @@ mod Ands
 mod Sizes
 mod Axes
 mod Traces
+mod Untraced

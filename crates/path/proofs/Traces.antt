@@ -2,13 +2,14 @@
 use mathlib.Core.Path.{_≡_, refl, subst}
 use mathlib.Core.List.{List}
 use mathlib.Core.Bool.{Bool, true, false, cond, _||_}
-use Prim.Native.Nat.{ℕ, zero, suc, _+_, _*_, _/_, _≤_, _<_}
+use Prim.Native.Nat.{ℕ, zero, suc, _+_, _*_, _/_, _%_, _^_, _≤_, _<_}
 use native.Mathlib.Omega.{arith}
-use lib.Dec.{T, leb, ltb, lit≤, leb→le}
-use borrow.Author.Tests.{ltb-true}
+use lib.Dec.{T, leb, ltb, eqb, lit≤, leb→le}
+use borrow.Author.Tests.{ltb-true, eqb-true}
 use lib.ListN.{length, getD}
 use lib.IntN.{ℤ, pos, _+ℤ_}
 use Rattle.fixed.proofs.Upto.{upto}
+use Rattle.fixed.proofs.Tests.{is-true}
 use Rattle.path.specs.declared.Point.{Point}
 use Rattle.path.specs.declared.Pen.{Pen}
 use Rattle.path.specs.declared.Walk.{Walk}
@@ -23,6 +24,14 @@ few byte = leb (coordinatesTaken byte) 6
 pub takes-few : (byte : ℕ) → byte < 18 → coordinatesTaken byte ≤ 6
 unfolding few
 takes-few byte h = leb→le (coordinatesTaken byte) 6 (upto few 18 tt byte h)
+
+-- four bits for each command
+packed : ℕ → Bool
+packed byte = eqb (17821667872 / 2 ^ (byte / 2 * 4) % 16) (coordinatesTaken byte)
+
+pub packed-takes : (byte : ℕ) → byte < 18 → 17821667872 / 2 ^ (byte / 2 * 4) % 16 ≡ coordinatesTaken byte
+unfolding packed
+packed-takes byte h = eqb-true (17821667872 / 2 ^ (byte / 2 * 4) % 16) (coordinatesTaken byte) (is-true (packed byte) (upto packed 18 tt byte h))
 
 -- a curve takes a point at least
 some : ℕ → Bool

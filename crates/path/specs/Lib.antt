@@ -7,3 +7,4 @@ pub mod Stored
 pub mod Closed
 pub mod Limits
 pub mod Answers
+pub mod Plain

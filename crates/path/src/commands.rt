@@ -24,8 +24,8 @@ pub const FIRST_ARC: u8 = 9;
 
 pub const LAST_ARC: u8 = 12;
 
-// By the command.
-const TAKEN: [usize; 9] = [0, 2, 2, 1, 1, 4, 6, 2, 4];
+// How many coordinates a segment takes, four bits for each command, the first lowest.
+const TAKEN: u64 = 0x426411220;
 
 pub fn split(byte: u8) -> Segment
     ensures { λ r. ⌜ r ≡ splitAs byte ⌝ }
@@ -50,6 +50,6 @@ pub fn taken(byte: u8) -> usize
     ensures { λ r. ⌜ (r ≡ coordinatesTaken byte) × (r ≤ 6) ⌝ }
 {
     let s = split(byte);
-    let command = s.command as usize;
-    TAKEN[command]
+    let place = s.command as u64 * 4;
+    (TAKEN >> place) as usize % 16
 }

@@ -3,6 +3,7 @@ pub mod commands;
 pub mod curves;
 pub mod edges;
 pub mod moves;
+pub mod plain;
 pub mod rules;
 pub mod tracing;
 pub mod transform;

@@ -10,6 +10,8 @@ use crate::commands::FIRST_ARC;
 use crate::commands::LAST_ARC;
 use crate::commands::split;
 use crate::commands::taken;
+use crate::plain::is_plain;
+use crate::plain::taken_by;
 use crate::tracing::trace;
 use codes::ACCEPTED;
 use codes::ILLEGAL_ARGUMENT;
@@ -24,6 +26,27 @@ ghost use Rattle.path.specs.Limits.{Limited, NearCurve, Ready};
 
 // The first fault among the first n segments.
 pub fn check(m: FixedMatrix, segments: &[u8], coordinates: &[u8], n: usize) -> Checked
+    requires { ⌜ Limited m × (n ≤ length (now segments)) ⌝ }
+    ensures { λ r. ⌜ r ≡ checkedTo m (now (segments .entry)) (now (coordinates .entry)) n ⌝ }
+{
+    if !is_plain(m, segments, n) {
+        return check_each(m, segments, coordinates, n);
+    }
+    let used = taken_by(segments, n);
+    if coordinates.len() < 2 * used {
+        return check_each(m, segments, coordinates, n);
+    }
+    Checked {
+        fault: PathFault {
+            code: ACCEPTED,
+            segment: n,
+        },
+        used,
+    }
+}
+
+// The same, point by point.
+fn check_each(m: FixedMatrix, segments: &[u8], coordinates: &[u8], n: usize) -> Checked
     requires { ⌜ Limited m × (n ≤ length (now segments)) ⌝ }
     ensures { λ r. ⌜ r ≡ checkedTo m (now (segments .entry)) (now (coordinates .entry)) n ⌝ }
 {

@@ -13,6 +13,7 @@ ghost use lib.Dec.{leb};
 ghost use Rattle.path.specs.Matrices.{entriesIn, matrixInLimits, isFlat, transformAxis, transform, surfaceLimit, onSurfaceGrid};
 ghost use Rattle.path.specs.Segments.{point};
 ghost use Rattle.path.specs.Answers.{converted};
+ghost use Rattle.path.specs.Plain.{axisSmall, isSmall};
 ghost use Rattle.path.specs.Limits.{Limited, Near};
 
 impl Matrix {
@@ -71,6 +72,14 @@ impl FixedMatrix {
         self.sx * self.sy - self.shx * self.shy == 0
     }
 
+    // Whether the sizes of the entries tell that every point in range is taken to one that is not too far out.
+    pub fn is_small(self) -> bool
+        requires { ⌜ Limited self ⌝ }
+        ensures { λ r. ⌜ r ≡ isSmall self ⌝ }
+    {
+        axis_small(self.sx, self.shx, self.tx) && axis_small(self.shy, self.sy, self.ty)
+    }
+
     // Whether a point is taken to one that is not too far out.
     pub fn reaches(self, p: Point) -> bool
         requires { ⌜ Limited self × Near p ⌝ }
@@ -111,6 +120,24 @@ fn axis(a: i64, b: i64, t: i64, x: i32, y: i32) -> i64
     ensures { λ r. ⌜ r ≡ transformAxis a b t (point x y) ⌝ }
 {
     (a * (x as i64) + b * (y as i64) + t + 128) >> 8
+}
+
+// Whether a x + b y + t + 128 is at most 2^31 in size, where x and y are at most 2^15.
+fn axis_small(a: i64, b: i64, t: i64) -> bool
+    requires { ⌜ (natAbs a ≤ 16777216) × (natAbs b ≤ 16777216) × (natAbs t ≤ 2147483648) ⌝ }
+    ensures { λ r. ⌜ r ≡ axisSmall a b t ⌝ }
+{
+    (size(a) + size(b)) * 32768 + size(t) <= 2147483520
+}
+
+// A number without its sign.
+fn size(z: i64) -> u64
+    ensures { λ r. ⌜ r ≡ natAbs z ⌝ }
+{
+    if z < 0 {
+        return (-1 - z) as u64 + 1;
+    }
+    z as u64
 }
 
 fn on_grid(z: i64) -> bool

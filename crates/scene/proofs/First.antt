@@ -1,15 +1,16 @@
 -- The first fault of several: a turn of a loop that meets none, and one that meets it.
 use mathlib.Core.Path.{_≡_, refl, ap, _∙_}
-use mathlib.Core.Bool.{Bool, true, false}
+use mathlib.Core.Bool.{Bool, true, false, cond, _&&_}
 use mathlib.Core.List.{List}
-use Prim.Native.Nat.{ℕ, _+_, _-_, _≤_, _<_}
+use Prim.Native.Nat.{ℕ, zero, suc, _+_, _-_, _≤_, _<_}
+use native.Mathlib.Numerals.{add-one}
 use native.Mathlib.Omega.{arith}
 use lib.ListN.{getD}
 use lib.Dec.{eqb}
 use borrow.Author.Tests.{eq-eqb, ne-eqb}
 use Rattle.codes.specs.Codes.{illegalArgument}
 use Rattle.codes.proofs.Refusals.{refuses}
-use Rattle.codes.proofs.First.{first-turn, first-hit}
+use Rattle.codes.proofs.First.{sooner-none, first-turn, first-hit}
 use Rattle.scene.specs.Faults.{fine, firstOf, must, unused, accepted, firstFault, demand}
 use Rattle.scene.specs.declared.Fault.{Fault}
 
@@ -17,6 +18,26 @@ use Rattle.scene.specs.declared.Fault.{Fault}
 module _ (t : ℕ → Bool) (p : ℕ → ℕ) where
   pub rules-turn : (n : ℕ) → firstOf n (λ i. must (t i) (p i)) ≡ fine → t n ≡ true → firstOf (n + 1) (λ i. must (t i) (p i)) ≡ fine
   rules-turn n h e = first-turn (λ f. f .code) fine (λ i. must (t i) (p i)) refl n h (rw e)
+
+  -- told by the code alone
+  pub rules-kept : (n : ℕ) → firstOf n (λ i. must (t i) (p i)) .code ≡ 0 → firstOf n (λ i. must (t i) (p i)) ≡ fine
+  rules-kept zero h = refl
+  rules-kept (suc n) h =
+      let b = sooner-none (λ f. f .code) (firstOf n (λ i. must (t i) (p i))) (must (t n) (p n)) h in
+      rw (b .0) (by (t n) (b .1))
+    where
+      by : (o : Bool) → must o (p n) .code ≡ 0 → must o (p n) ≡ fine
+      by true e = refl
+      by false e = absurd (refuses illegalArgument refl e)
+
+  pub rules-more : (n : ℕ) → eqb (firstOf (n + 1) (λ i. must (t i) (p i)) .code) 0 ≡ (eqb (firstOf n (λ i. must (t i) (p i)) .code) 0 && t n)
+  rules-more n = rw add-one (by (eqb (firstOf n (λ i. must (t i) (p i)) .code) 0) refl (t n))
+    where
+      by : (a : Bool) → eqb (firstOf n (λ i. must (t i) (p i)) .code) 0 ≡ a → (o : Bool)
+          → eqb (cond a (must o (p n)) (firstOf n (λ i. must (t i) (p i))) .code) 0 ≡ (a && o)
+      by true e true = refl
+      by true e false = refl
+      by false e o = e
 
   pub rules-hit : (n m : ℕ) → n < m → firstOf n (λ i. must (t i) (p i)) ≡ fine → t n ≡ false → firstOf m (λ i. must (t i) (p i)) ≡ must false (p n)
   rules-hit n m l h e =
@@ -44,6 +65,11 @@ module _ (d : List ℕ) (from to at : ℕ) (begun : from ≤ at) where
       let e : at + 1 - from ≡ at - from + 1 = omega arith in
       rw e (rules-turn clear (λ i. from + i) (at - from) h (eq-eqb (getD d (from + (at - from)) 0) 0 (rw here z)))
 
+  pub zero-turn : eqb (unused d from (at + 1) .code) 0 ≡ (eqb (unused d from at .code) 0 && eqb (getD d at 0) 0)
+  zero-turn =
+      let e : at + 1 - from ≡ at - from + 1 = omega arith in
+      rw (e, rules-more clear (λ i. from + i) (at - from), here)
+
   pub unused-hit : at < to → unused d from at ≡ fine → (getD d at 0 ≡ 0 → ⊥) → unused d from to ≡ must false at
   unused-hit l h z =
       rules-hit clear (λ i. from + i) (at - from) (to - from) (omega arith) h (ne-eqb (getD d (from + (at - from)) 0) 0 (rw here z)) ∙ rw here
@@ -54,3 +80,6 @@ unused-none d from = let e : from - from ≡ 0 = omega arith in rw e
 -- the loop is past the end
 pub unused-end : (d : List ℕ) (from to at : ℕ) → at - from ≤ to - from → to ≤ at → unused d from at ≡ fine → unused d from to ≡ fine
 unused-end d from to at h l o = let e : to - from ≡ at - from = omega arith in rw e o
+
+pub zero-end : (d : List ℕ) (from to at : ℕ) → at - from ≤ to - from → to ≤ at → eqb (unused d from at .code) 0 ≡ eqb (unused d from to .code) 0
+zero-end d from to at h l = let e : to - from ≡ at - from = omega arith in rw e

@@ -1,5 +1,5 @@
 -- Laws of the scene file:
---     Sums       a sum that begins at a start value
+--     Sums       a sum that begins at a start value; sums of strips side by side
 --     Copies     bytes copied in order
 --     Same       lists whose first bytes are the same
 --     First      the first fault of several

@@ -1,6 +1,7 @@
 -- The definitions that contracts cite.
 pub mod Layout
 pub mod Blocks
+pub mod Strips
 pub mod Header
 pub mod Fields
 pub mod Faults

@@ -1,37 +1,65 @@
 // Blocks: their check, and the bytes of a draw.
 use crate::Checksum;
+use crate::Column;
 use crate::layout::BLOCK_BYTES;
 use crate::layout::CHECK_MODULUS;
 use crate::layout::DRAW_BLOCKS;
 use crate::layout::DRAW_BYTES;
 use crate::layout::PAYLOAD_BYTES;
-use crate::layout::PAYLOAD_WORDS;
 use fixed::u16_at;
 ghost use mathlib.Core.Path.{_≡_};
+ghost use mathlib.Core.Bool.{_&&_};
 ghost use Prim.Native.Nat.{_+_, _*_, _<_, _≤_};
 ghost use lib.ListN.{length, take, drop};
+ghost use lib.Dec.{eqb};
 ghost use Rattle.scene.specs.Layout.{blockBytes, payloadBytes, checkModulus, drawBytes};
+ghost use Rattle.scene.specs.Strips.{columnOf};
 ghost use Rattle.scene.specs.Blocks.{checksumOf, blockRight, blockOf, drawOf, sameDraw};
 
-// The check of the payload at a place; both sums begin at start.
+// The words of a strip; a payload has seven strips side by side, and two words behind them.
+const STRIP_WORDS: u32 = 36;
+
+// The check of the payload at a place; both sums begin at start. Word l of strip h counts 36 h + l + 1 times in the second: l + 1 times in
+// each strip alike, so that one product serves for seven words.
 pub fn checksum(start: u32, s: &[u8], at: usize) -> Checksum
     requires { ⌜ (start < 65536) × (at + payloadBytes ≤ length (now s)) ⌝ }
     ensures { λ r. ⌜ r ≡ checksumOf start (now (s .entry)) at ⌝ }
 {
     let mut plain = start;
     let mut weighted = start;
+    let mut late = 0;
     let mut place = at;
-    let mut i: u32 = 0;
-    while i < PAYLOAD_WORDS {
-        let word = u16_at(s, place);
-        i += 1;
-        plain += word;
-        weighted += i * word;
+    let mut l: u32 = 0;
+    while l < STRIP_WORDS {
+        let c = column(s, place);
+        l += 1;
+        plain += c.all;
+        late += c.late;
+        weighted += l * c.all;
         place += 2;
     }
+    let x = u16_at(s, at + 504);
+    let y = u16_at(s, at + 506);
     Checksum {
-        plain: (plain % CHECK_MODULUS) as u16,
-        weighted: (weighted % CHECK_MODULUS) as u16,
+        plain: ((plain + x + y) % CHECK_MODULUS) as u16,
+        weighted: ((weighted + STRIP_WORDS * late + 253 * x + 254 * y) % CHECK_MODULUS) as u16,
+    }
+}
+
+// The words of the strips at one place, by sums from the last strip back.
+fn column(s: &[u8], at: usize) -> Column
+    requires { ⌜ at + 434 ≤ length (now s) ⌝ }
+    ensures { λ r. ⌜ (r ≡ columnOf (now (s .entry)) at) × (r .all ≤ 458745) × (r .late ≤ 1376235) ⌝ }
+{
+    let from6 = u16_at(s, at + 432);
+    let from5 = from6 + u16_at(s, at + 360);
+    let from4 = from5 + u16_at(s, at + 288);
+    let from3 = from4 + u16_at(s, at + 216);
+    let from2 = from3 + u16_at(s, at + 144);
+    let from1 = from2 + u16_at(s, at + 72);
+    Column {
+        all: from1 + u16_at(s, at),
+        late: from1 + from2 + from3 + from4 + from5 + from6,
     }
 }
 
@@ -77,17 +105,23 @@ pub fn copy(s: &[u8], at: usize, out: &mut [u8])
     }
 }
 
-// Whether the bytes of two draws are the same.
+// Whether the bytes of two draws are the same, by a loop that looks at every byte, and so at many at a time.
 pub fn same_draw(a: &[u8], b: &[u8]) -> bool
     requires { ⌜ (length (now a) ≡ drawBytes) × (length (now b) ≡ drawBytes) ⌝ }
     ensures { λ r. ⌜ r ≡ sameDraw (now (a .entry)) (now (b .entry)) ⌝ }
 {
+    let mut same = true;
     let mut i = 0;
     while i < DRAW_BYTES {
-        if a[i] != b[i] {
-            return false;
-        }
+        same = still_same(same, a[i], b[i]);
         i += 1;
     }
-    true
+    same
+}
+
+// Whether all was the same so far, and two bytes are.
+pub fn still_same(all: bool, x: u8, y: u8) -> bool
+    ensures { λ r. ⌜ r ≡ (all && eqb x y) ⌝ }
+{
+    if x == y { all } else { false }
 }

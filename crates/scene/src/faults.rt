@@ -1,6 +1,7 @@
 // Faults among fields: which comes first, and the rules that go over many places.
 // Floats are judged by their bit patterns, which without their signs are in the order of the sizes.
 use crate::FieldFault;
+use crate::blocks::still_same;
 use codes::ACCEPTED;
 use codes::ILLEGAL_ARGUMENT;
 use fixed::floats::INFINITY;
@@ -10,7 +11,7 @@ use fixed::u32_at;
 ghost use mathlib.Core.Path.{_≡_};
 ghost use Prim.Native.Nat.{_+_, _*_, _%_, _^_, _≤_};
 ghost use lib.ListN.{length};
-ghost use lib.Dec.{leb};
+ghost use lib.Dec.{eqb, leb};
 ghost use Rattle.fixed.specs.Little.{u32At};
 ghost use Rattle.fixed.specs.Patterns.{sizeBits};
 ghost use Rattle.scene.specs.Layout.{drawBytes};
@@ -44,6 +45,31 @@ pub fn or_else(f: FieldFault, g: FieldFault) -> FieldFault
 
 // Every byte from a place up to another is zero.
 pub fn unused(d: &[u8], from: usize, to: usize) -> FieldFault
+    requires { ⌜ (to ≤ length (now d)) × (to ≤ drawBytes) ⌝ }
+    ensures { λ r. ⌜ r ≡ Faults.unused (now (d .entry)) from to ⌝ }
+{
+    if is_zero(d, from, to) {
+        return must(true, 0);
+    }
+    first_used(d, from, to)
+}
+
+// Whether there is nothing but zeros, by a loop that looks at every byte, and so at many at a time.
+fn is_zero(d: &[u8], from: usize, to: usize) -> bool
+    requires { ⌜ to ≤ length (now d) ⌝ }
+    ensures { λ r. ⌜ r ≡ eqb (Faults.unused (now (d .entry)) from to .code) 0 ⌝ }
+{
+    let mut zero = true;
+    let mut at = from;
+    while at < to {
+        zero = still_same(zero, d[at], 0);
+        at += 1;
+    }
+    zero
+}
+
+// The first byte that is not zero, by a loop that ends there.
+fn first_used(d: &[u8], from: usize, to: usize) -> FieldFault
     requires { ⌜ (to ≤ length (now d)) × (to ≤ drawBytes) ⌝ }
     ensures { λ r. ⌜ r ≡ Faults.unused (now (d .entry)) from to ⌝ }
 {

@@ -5,8 +5,6 @@ pub const BLOCK_BYTES: usize = 512;
 
 pub const PAYLOAD_BYTES: usize = 508;
 
-pub const PAYLOAD_WORDS: u32 = 254;
-
 pub const CHECK_MODULUS: u32 = 65521;
 
 // A draw has four blocks, whose payloads joined are 2,032 bytes.

@@ -13,6 +13,12 @@ pub struct Checksum {
     pub weighted: u16,
 }
 
+// The words of a block's strips at one place: their sum, and the sum of each times its strip's number.
+pub struct Column {
+    pub all: u32,
+    pub late: u32,
+}
+
 // The first fault among fields: its code, 0 for none, and the place that the rules met, in the bytes that are judged.
 pub struct FieldFault {
     pub code: u32,
