@@ -17,6 +17,7 @@
 --     Lines       a channel between two stops without a division
 --     Lookup      the search for the stops around t
 --     Serving     segments have the ramp's colours
+--     Placing     the colour at a position is the colour at t
 --     Reals       floats read from bytes
 --     Built       stops stored one after the other
 --     Ends        which stops are kept, and the two ends
@@ -37,6 +38,7 @@ pub mod Lines
 pub mod Reals
 pub mod Lookup
 pub mod Serving
+pub mod Placing
 pub mod Built
 pub mod Ends
 pub mod Sound
