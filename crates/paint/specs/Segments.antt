@@ -6,15 +6,22 @@ use mathlib.Core.Bool.{Bool, cond}
 use mathlib.Core.List.{List}
 use lib.IntN.{ℤ, pos, negsuc, natAbs, _-ℤ_, _*ℤ_}
 use lib.ListN.{length, getD}
-use lib.Signed.{ltZ}
+use lib.Signed.{ltZ, _<ℤ_}
 use Rattle.color.specs.declared.Pixel.{Pixel}
 use Rattle.color.specs.Channels.{premultiplied}
-use Rattle.paint.specs.Gradient.{rampUnit, mapped}
+use Rattle.paint.specs.Gradient.{rampUnit, squaredLength}
 use Rattle.paint.specs.Ramps.{mixPixel, between, rampAt}
 use Rattle.paint.specs.Buffers.{stopAt, stopsFrom, stopsIn}
+use Rattle.paint.specs.declared.AnyGradient.{AnyGradient}
+use Rattle.paint.specs.declared.AnyGradient.the-variants.{Linear, Radial}
 use Rattle.paint.specs.declared.Line.{Line}
 use Rattle.paint.specs.declared.Segment.{Segment}
 use Rattle.paint.specs.declared.Stop.{Stop}
+
+-- a gradient whose t may differ from pixel to pixel of a row: points that do not coincide, a radius above 0
+abbrev pub Sloped : AnyGradient → Type 0
+Sloped (Linear g) = natAbs (squaredLength (g .points)) ≡ 0 → ⊥
+Sloped (Radial g) = pos 0 <ℤ g .circle .r
 
 -- ---- where on the ramp a pixel lies: at 0 before it, at t + 1 on it, at 65,537 behind it
 unfoldable pub positionOf : ℤ → ℕ
