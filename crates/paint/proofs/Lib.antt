@@ -18,6 +18,7 @@
 --     Lookup      the search for the stops around t
 --     Serving     segments have the ramp's colours
 --     Placing     the colour at a position is the colour at t
+--     Begins      pixels written as numbers in place of positions
 --     Reals       floats read from bytes
 --     Built       stops stored one after the other
 --     Ends        which stops are kept, and the two ends
@@ -39,6 +40,7 @@ pub mod Reals
 pub mod Lookup
 pub mod Serving
 pub mod Placing
+pub mod Begins
 pub mod Built
 pub mod Ends
 pub mod Sound

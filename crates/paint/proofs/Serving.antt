@@ -1,20 +1,19 @@
 -- Segments of a ramp: each has the ramp's colours at the positions that it serves.
-use mathlib.Core.Path.{_≡_, refl, sym, ap, _∙_, subst}
-use mathlib.Core.Bool.{true, false}
+use mathlib.Core.Path.{_≡_, refl, sym, ap₂, _∙_}
+use mathlib.Core.Bool.{Bool, true, false}
 use mathlib.Core.List.{List}
-use Prim.Native.Nat.{ℕ, zero, suc, _+_, _-_, _*_, _≤_, _<_}
+use Prim.Native.Nat.{ℕ, zero, suc, _+_, _-_, _*_, _/_, _%_, _≤_, _<_, min}
 use native.Mathlib.Omega.{arith}
-use borrow.Author.Tests.{lt-ltb, le-ltb}
-use lib.IntN.{ℤ, pos, natAbs}
+use borrow.Author.Tests.{lt-ltb, le-ltb, ltb-true, ltb-false}
+use lib.Dec.{ltb}
+use lib.IntN.{pos}
 use lib.ListN.{getD}
-use lib.Signed.{ltZ}
 use Rattle.color.specs.declared.Pixel.{Pixel}
 use Rattle.paint.specs.Gradient.{rampUnit}
-use Rattle.paint.specs.Ramps.{mixPixel, mix, between, rampAt}
-use Rattle.paint.specs.Buffers.{HeldRamp, stopAt, stopsFrom, stopsIn}
-use Rattle.paint.specs.Segments.{tAt, segmentOf, Sound, Serves, Passed}
+use Rattle.paint.specs.Ramps.{mixByte, mixPixel, between, rampAt}
+use Rattle.paint.specs.Buffers.{HeldRamp, unpacked, stopAt, stopsFrom, stopsIn}
+use Rattle.paint.specs.Segments.{tAt, twoStops, segmentOf, Serves, Passed}
 use Rattle.paint.specs.declared.Segment.{Segment}
-use Rattle.paint.specs.declared.Stop.{Stop}
 use Rattle.paint.proofs.Mix.{mix-same}
 use Rattle.paint.proofs.Lookup.{between-here, between-on, between-end, ramp-before, ramp-within, ramp-after}
 
@@ -105,3 +104,47 @@ module _ (ramp : List ℕ) (count : ℕ) (held : HeldRamp ramp count) where
         ∙ sym (between-end ramp (stopAt ramp (j - 1)) j count (k - 1) l)
         ∙ sym (passed .on (k - 1) (omega arith))
         ∙ sym (at-t (k - 1) k t (omega arith)))
+
+-- ---- two stops at both ends
+first-end : (ci cj : ℕ) → mixByte 0 65536 0 ci cj ≡ ci
+first-end ci cj = omega arith
+
+last-end : (ci cj : ℕ) → ci < 256 → cj < 256 → mixByte 0 65536 65535 ci cj ≡ cj
+last-end ci cj h k = omega arith
+
+module _ (m n : ℕ) where
+  first-ends : mixPixel 0 65536 0 (unpacked m) (unpacked n) ≡ unpacked m
+  first-ends =
+      rw (
+        first-end (unpacked m .r) (unpacked n .r),
+        first-end (unpacked m .g) (unpacked n .g),
+        first-end (unpacked m .b) (unpacked n .b),
+        first-end (unpacked m .a) (unpacked n .a),
+      )
+
+  last-ends : mixPixel 0 65536 65535 (unpacked m) (unpacked n) ≡ unpacked n
+  unfolding unpacked
+  last-ends =
+      rw (
+        last-end (m % 256) (n % 256) (omega arith) (omega arith),
+        last-end (m / 256 % 256) (n / 256 % 256) (omega arith) (omega arith),
+        last-end (m / 65536 % 256) (n / 65536 % 256) (omega arith) (omega arith),
+        last-end (m / 16777216 % 256) (n / 16777216 % 256) (omega arith) (omega arith),
+      )
+
+pub two-colors : (ramp : List ℕ) → HeldRamp ramp 2 → getD ramp 2 0 ≡ 65536 → (k : ℕ) → k ≤ 65537
+    → twoStops (stopAt ramp 0 .color) (stopAt ramp 1 .color) k ≡ rampAt (stopsIn ramp 2) (tAt k)
+two-colors ramp held e zero h = first-ends (getD ramp 1 0) (getD ramp 3 0) ∙ sym (at-first ramp 2 held)
+two-colors ramp held e (suc n) h = by (ltb n 65536) refl
+  where
+    by : (t : Bool) → ltb n 65536 ≡ t → twoStops (stopAt ramp 0 .color) (stopAt ramp 1 .color) (suc n) ≡ rampAt (stopsIn ramp 2) (tAt (suc n))
+    by true q =
+        let l : n < 65536 = ltb-true n 65536 q in
+        let m : min (suc n - 1) 65535 ≡ n = omega arith in
+        rw m
+        (ap₂ (λ (a b : ℕ). mixPixel a b n (stopAt ramp 0 .color) (stopAt ramp 1 .color)) (sym (held .first)) (sym e)
+        ∙ sym (between-here ramp (stopAt ramp 0) 1 2 n (omega arith) (rw e l))
+        ∙ sym (at-t ramp 2 held n (suc n) (omega arith) l))
+    by false q =
+        let f : n ≡ 65536 = omega (arith, ltb-false n 65536 q) in
+        rw f (last-ends (getD ramp 1 0) (getD ramp 3 0) ∙ sym (at-last ramp 2 held))

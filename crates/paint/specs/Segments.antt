@@ -1,6 +1,6 @@
 -- How the code holds a part of a ramp between two stops, so that pixel after pixel is mixed without a division. Only the proofs need it: a reviewer of the
 -- paper need not read it.
-use Prim.Native.Nat.{ℕ, zero, suc, _+_, _-_, _*_, _/_, _≤_, _<_}
+use Prim.Native.Nat.{ℕ, zero, suc, _+_, _-_, _*_, _/_, _≤_, _<_, min}
 use mathlib.Core.Path.{_≡_}
 use mathlib.Core.Bool.{Bool, cond}
 use mathlib.Core.List.{List}
@@ -11,7 +11,7 @@ use Rattle.color.specs.declared.Pixel.{Pixel}
 use Rattle.color.specs.Channels.{premultiplied}
 use Rattle.paint.specs.Gradient.{rampUnit, squaredLength}
 use Rattle.paint.specs.Ramps.{mixPixel, between, rampAt}
-use Rattle.paint.specs.Buffers.{stopAt, stopsFrom, stopsIn}
+use Rattle.paint.specs.Buffers.{unpacked, stopAt, stopsFrom, stopsIn}
 use Rattle.paint.specs.declared.AnyGradient.{AnyGradient}
 use Rattle.paint.specs.declared.AnyGradient.the-variants.{Linear, Radial}
 use Rattle.paint.specs.declared.Line.{Line}
@@ -40,6 +40,21 @@ colorAtPosition premultiply ramp k = cond premultiply (rampAt ramp (tAt k)) (pre
 pub record Positions (ks : List ℕ) : Type 0 where
   pub few : length ks ≤ 1024
   pub below : (i : ℕ) → i < length ks → getD ks i 0 ≤ 65537
+
+-- ---- the pixels of a block, each as one number in place of its position
+pub record Words (f : ℕ → Pixel) (n : ℕ) (ws : List ℕ) : Type 0 where
+  pub long : length ws ≡ n
+  pub color : (i : ℕ) → i < n → unpacked (getD ws i 0) ≡ f i
+
+-- the first i of them are written, and the others are as they were
+pub record Begun (f : ℕ → Pixel) (before : List ℕ) (i : ℕ) (ws : List ℕ) : Type 0 where
+  pub long : length ws ≡ length before
+  pub color : (j : ℕ) → j < i → unpacked (getD ws j 0) ≡ f j
+  pub rest : (j : ℕ) → i ≤ j → getD ws j 0 ≡ getD before j 0
+
+-- the colour at a position between two stops at 0 and 65,536: t cut to 0..65,535 gives the same
+abbrev pub twoStops : Pixel → Pixel → ℕ → Pixel
+twoStops c d k = mixPixel 0 rampUnit (min (k - 1) 65535) c d
 
 -- ---- a channel between two stops that lie d apart, as a line in parts of 2^40
 abbrev pub parts : ℕ

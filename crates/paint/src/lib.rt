@@ -10,6 +10,7 @@ pub mod row;
 pub mod segments;
 pub mod shade;
 pub mod stops;
+pub mod words;
 
 use color::Color;
 use color::Pixel;

@@ -52,7 +52,7 @@ fn search(ramp: &[u32], count: usize, t: u32) -> Segment
     between(low + 1, low + 1, BEHIND, c, c)
 }
 
-fn greatest(a: u32, b: u32) -> u32
+pub fn greatest(a: u32, b: u32) -> u32
     ensures { λ r. ⌜ r ≡ max a b ⌝ }
 {
     if a < b { b } else { a }

@@ -27,11 +27,12 @@ color-row-requires c κs =
 
 returns : tie.Need-returns
 returns c =
-    let call = c .before .before .before .before .before .before .before .linear-positions in
-    let entry = c .before .before .before .before .before .before .before .before .before .before .before .before in
+    let after-positions = c .before .before .before .before .before .before .before .before .before in
+    let call = after-positions .linear-positions in
+    let entry = after-positions .before .before .before .before .before in
     let a = entry .args in
     let n = length (a .ks .now) in
-    c .before .before .color-row .ensures ∙ rw (call .kept .1 .1 .1 .0)
+    c .before .before .before .before .color-row .ensures ∙ rw (call .kept .1 .1 .1 .0)
     (colored n (a .g .spread) (t entry) (call .last .1 .1 .1 .0) (call .ensures) (a .g .premultiply) (stopsIn (a .ramp .now) (a .g .count)))
 
 pub linear-block-spec : {M : Type 1} → statement M
