@@ -14,7 +14,11 @@
 --
 -- Ramps:
 --     Mix         a channel between two stops
+--     Lines       a channel between two stops without a division
 --     Lookup      the search for the stops around t
+--     Serving     segments have the ramp's colours
+--     Placing     the colour at a position is the colour at t
+--     Begins      pixels written as numbers in place of positions
 --     Reals       floats read from bytes
 --     Built       stops stored one after the other
 --     Ends        which stops are kept, and the two ends
@@ -31,8 +35,12 @@ pub mod Lagrange
 pub mod Focal
 pub mod Differences
 pub mod Mix
+pub mod Lines
 pub mod Reals
 pub mod Lookup
+pub mod Serving
+pub mod Placing
+pub mod Begins
 pub mod Built
 pub mod Ends
 pub mod Sound

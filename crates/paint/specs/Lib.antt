@@ -5,3 +5,4 @@ pub mod Ramps
 pub mod Paints
 pub mod Buffers
 pub mod Circles
+pub mod Segments

@@ -1,12 +1,16 @@
 // Paint: the colour of a pixel, from a plain colour, a linear gradient or a radial one.
+pub mod block;
 pub mod build;
 pub mod gradient;
+pub mod positions;
 pub mod radial;
 pub mod radial_row;
 pub mod ramp;
 pub mod row;
+pub mod segments;
 pub mod shade;
 pub mod stops;
+pub mod words;
 
 use color::Color;
 use color::Pixel;
@@ -93,4 +97,23 @@ pub struct Place {
 pub struct Quotient {
     pub whole: i64,
     pub rest: i64,
+}
+
+// A channel between two stops: what it is at the first of them, and what it grows by from one position to the next, in parts of 2^40.
+pub struct Line {
+    pub first: i64,
+    pub step: i64,
+}
+
+// A part of a ramp, from one position to before another, between two colours, with a line for each channel. It serves the positions from low on.
+pub struct Segment {
+    pub low: u32,
+    pub from: u32,
+    pub to: u32,
+    pub left: Pixel,
+    pub right: Pixel,
+    pub r: Line,
+    pub g: Line,
+    pub b: Line,
+    pub a: Line,
 }

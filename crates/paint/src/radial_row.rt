@@ -1,43 +1,27 @@
-// The radial gradient's paint along a row: A and Q go from pixel to pixel by sums, and each root is corrected from a guess, the next number
-// of a line through the two roots before it. Two divisions a pixel besides the ramp's: one for the root, one for t.
+// The radial gradient's t along a row: A and Q go from pixel to pixel by sums, and each root is corrected from a guess, the next number
+// of a line through the two roots before it. Two divisions a pixel: one for the root, one for t.
 use crate::Circle;
 use crate::Place;
 use crate::RadialGradient;
-use crate::gradient::RAMP_UNIT;
+use crate::positions::position;
 use crate::radial;
-use crate::shade;
 ghost use mathlib.Core.Path.{_≡_};
 ghost use mathlib.Core.Bool.{true};
-ghost use Prim.Native.Nat.{_+_, _*_, _≤_};
+ghost use Prim.Native.Nat.{_+_, _≤_};
 ghost use lib.IntN.{pos, natAbs, _+ℤ_, _-ℤ_, _*ℤ_};
 ghost use lib.Signed.{_<ℤ_};
 ghost use lib.ListN.{length};
-ghost use Rattle.raster.specs.Surface.{run};
-ghost use Rattle.paint.specs.Radial.{inside, focalAllowed};
-ghost use Rattle.paint.specs.Buffers.{HeldRamp, stopsIn};
-ghost use Rattle.paint.specs.Circles.{LimitedCircle, ModeratePlace, placeFrom, placeAt, nextPlace, radialAt};
+ghost use Rattle.lists.specs.Lists.{tab};
+ghost use Rattle.paint.specs.Gradient.{mapped};
+ghost use Rattle.paint.specs.Radial.{inside, radialT, focalAllowed};
+ghost use Rattle.paint.specs.Circles.{LimitedCircle, ModeratePlace, placeFrom, placeAt, nextPlace};
+ghost use Rattle.paint.specs.Segments.{positionOf};
 
-// The pixels (x, y) to (x + n - 1, y).
-pub fn radial_row(g: RadialGradient, ramp: &[u32], x: usize, y: usize, n: usize, row: &mut [u8])
-    requires { ⌜ LimitedCircle (g .circle) × (focalAllowed (g .circle) ≡ true) × HeldRamp (now ramp) (g .count) ⌝ }
-    requires { ⌜ (x + n ≤ 1024) × (y ≤ 1024) × (length (now row) ≡ n * 4) ⌝ }
-    ensures { λ _. ⌜ now (row .exit) ≡ run n (λ i. radialAt g (stopsIn (now (ramp .entry)) (g .count)) (x + i) y) ⌝ }
-{
-    let c = g.circle;
-    if c.r <= 0 {
-        let p = shade::gradient_color(g.spread, g.premultiply, ramp, g.count, RAMP_UNIT);
-        raster::fill_row(row, n, p);
-        return;
-    }
-    round_row(g, ramp, x, y, n, row);
-}
-
-// The same of a radius above 0.
-fn round_row(g: RadialGradient, ramp: &[u32], x: usize, y: usize, n: usize, row: &mut [u8])
-    requires { ⌜ LimitedCircle (g .circle) × (focalAllowed (g .circle) ≡ true) × HeldRamp (now ramp) (g .count) ⌝ }
-    requires { ⌜ (x + n ≤ 1024) × (y ≤ 1024) × (length (now row) ≡ n * 4) ⌝ }
-    requires { ⌜ pos 0 <ℤ g .circle .r ⌝ }
-    ensures { λ _. ⌜ now (row .exit) ≡ run n (λ i. radialAt g (stopsIn (now (ramp .entry)) (g .count)) (x + i) y) ⌝ }
+// The positions of the pixels from (x, y) on, of a radius above 0.
+pub fn radial_positions(g: RadialGradient, x: usize, y: usize, ks: &mut [u32])
+    requires { ⌜ LimitedCircle (g .circle) × (focalAllowed (g .circle) ≡ true) × (pos 0 <ℤ g .circle .r) ⌝ }
+    requires { ⌜ (x + length (now ks) ≤ 1024) × (y ≤ 1024) ⌝ }
+    ensures { λ _. ⌜ now (ks .exit) ≡ tab (length (now (ks .entry))) (λ i. positionOf (mapped (g .spread) (radialT (g .circle) (x + i) y))) ⌝ }
 {
     let c = g.circle;
     let d = radial::circle_d(c);
@@ -45,11 +29,9 @@ fn round_row(g: RadialGradient, ramp: &[u32], x: usize, y: usize, n: usize, row:
     let mut last = radial::root(p.q);
     let mut before = last;
     let mut i = 0;
-    while i < n {
+    while i < ks.len() {
         let q = radial::root_near(p.q, next_guess(before, last));
-        let t = radial::t_of(p.a, q, d);
-        let s = shade::gradient_color(g.spread, g.premultiply, ramp, g.count, t);
-        raster::put_pixel(row, i, s);
+        ks[i] = position(g.spread, radial::t_of(p.a, q, d));
         p = next_place(p);
         before = last;
         last = q;

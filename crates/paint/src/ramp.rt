@@ -53,7 +53,7 @@ pub fn pack(c: Pixel) -> u32
     (c.r as u32) + (c.g as u32) * 256 + (c.b as u32) * 65536 + (c.a as u32) * 16777216
 }
 
-fn unpack(n: u32) -> Pixel
+pub fn unpack(n: u32) -> Pixel
     ensures { λ r. ⌜ r ≡ unpacked n ⌝ }
 {
     Pixel {

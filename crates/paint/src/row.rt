@@ -1,21 +1,22 @@
 // The paint of a pixel and of a part of a row, as premultiplied bytes. A gradient's ramp lies in a lent run, as module ramp says.
 use crate::AnyGradient;
 use crate::LinearGradient;
+use crate::RadialGradient;
+use crate::block::block;
 use crate::gradient;
-use crate::radial_row::radial_row;
 use crate::shade::gradient_color;
 use color::Color;
 use color::Pixel;
 ghost use mathlib.Core.Path.{_≡_};
-ghost use Prim.Native.Nat.{_+_, _*_, _≤_};
-ghost use lib.IntN.{natAbs};
+ghost use mathlib.Core.Bool.{true};
+ghost use Prim.Native.Nat.{_+_, _*_, _≤_, min};
 ghost use lib.ListN.{length};
 ghost use Rattle.color.specs.Channels.{bytesOfColor, premultiplied};
 ghost use Rattle.raster.specs.Surface.{run};
-ghost use Rattle.paint.specs.Gradient.{squaredLength};
-ghost use Rattle.paint.specs.Paints.{gradientColor};
+ghost use Rattle.paint.specs.Radial.{focalAllowed};
 ghost use Rattle.paint.specs.Buffers.{LimitedPoints, HeldRamp, stopsIn, linearAt};
-ghost use Rattle.paint.specs.Circles.{HeldGradient, gradientAt};
+ghost use Rattle.paint.specs.Circles.{LimitedCircle, HeldGradient, gradientAt, radialAt};
+ghost use Rattle.paint.specs.Segments.{Sloped};
 
 // The pixel of a plain colour.
 pub fn solid_pixel(c: Color) -> Pixel
@@ -23,6 +24,9 @@ pub fn solid_pixel(c: Color) -> Pixel
 {
     c.to_bytes().premultiplied()
 }
+
+// How many pixels are made at a time.
+const BLOCK: usize = 128;
 
 // The pixels (x, y) to (x + n - 1, y) of a gradient.
 pub fn gradient_row(g: AnyGradient, ramp: &[u32], x: usize, y: usize, n: usize, row: &mut [u8])
@@ -48,7 +52,7 @@ fn linear_row(g: LinearGradient, ramp: &[u32], x: usize, y: usize, n: usize, row
         raster::fill_row(row, n, c);
         return;
     }
-    sloped_row(g, ramp, x, y, n, row);
+    sloped_row(AnyGradient::Linear(g), ramp, x, y, n, row);
 }
 
 // The pixel (x, y).
@@ -58,33 +62,61 @@ fn linear_pixel(g: LinearGradient, ramp: &[u32], x: usize, y: usize) -> Pixel
     ensures { λ r. ⌜ r ≡ linearAt g (stopsIn (now (ramp .entry)) (g .count)) x y ⌝ }
 {
     let p = g.points;
-    shade(g, ramp, gradient::linear_t(p, x, y))
+    gradient_color(g.spread, g.premultiply, ramp, g.count, gradient::linear_t(p, x, y))
 }
 
-// The same as linear_row of points that do not coincide: t goes from pixel to pixel without a division.
-fn sloped_row(g: LinearGradient, ramp: &[u32], x: usize, y: usize, n: usize, row: &mut [u8])
-    requires { ⌜ LimitedPoints (g .points) × HeldRamp (now ramp) (g .count) ⌝ }
+// The same of a radial gradient.
+fn radial_row(g: RadialGradient, ramp: &[u32], x: usize, y: usize, n: usize, row: &mut [u8])
+    requires { ⌜ LimitedCircle (g .circle) × (focalAllowed (g .circle) ≡ true) × HeldRamp (now ramp) (g .count) ⌝ }
     requires { ⌜ (x + n ≤ 1024) × (y ≤ 1024) × (length (now row) ≡ n * 4) ⌝ }
-    requires { ⌜ (natAbs (squaredLength (g .points)) ≡ 0 → ⊥) ⌝ }
-    ensures { λ _. ⌜ now (row .exit) ≡ run n (λ i. linearAt g (stopsIn (now (ramp .entry)) (g .count)) (x + i) y) ⌝ }
+    ensures { λ _. ⌜ now (row .exit) ≡ run n (λ i. radialAt g (stopsIn (now (ramp .entry)) (g .count)) (x + i) y) ⌝ }
 {
-    let p = g.points;
-    let d = gradient::squared_length(p);
-    let step = gradient::row_step(p);
-    let mut q = gradient::quotient_at(p, x, y);
+    let c = g.circle;
+    if c.r <= 0 {
+        let p = gradient_color(g.spread, g.premultiply, ramp, g.count, gradient::RAMP_UNIT);
+        raster::fill_row(row, n, p);
+        return;
+    }
+    sloped_row(AnyGradient::Radial(g), ramp, x, y, n, row);
+}
+
+// The same of a gradient whose t may differ from pixel to pixel: block after block.
+fn sloped_row(g: AnyGradient, ramp: &[u32], x: usize, y: usize, n: usize, row: &mut [u8])
+    requires { ⌜ HeldGradient g (now ramp) × Sloped g ⌝ }
+    requires { ⌜ (x + n ≤ 1024) × (y ≤ 1024) × (length (now row) ≡ n * 4) ⌝ }
+    ensures { λ _. ⌜ now (row .exit) ≡ run n (λ i. gradientAt g (now (ramp .entry)) (x + i) y) ⌝ }
+{
+    let mut ks = [0; BLOCK];
+    blocks(g, ramp, x, y, n, row, &mut ks);
+}
+
+// The same with room for the positions of a block.
+fn blocks(
+    g: AnyGradient,
+    ramp: &[u32],
+    x: usize,
+    y: usize,
+    n: usize,
+    row: &mut [u8],
+    ks: &mut [u32],
+)
+    requires { ⌜ HeldGradient g (now ramp) × Sloped g × (length (now ks) ≡ 128) ⌝ }
+    requires { ⌜ (x + n ≤ 1024) × (y ≤ 1024) × (length (now row) ≡ n * 4) ⌝ }
+    ensures { λ _. ⌜ now (row .exit) ≡ run n (λ i. gradientAt g (now (ramp .entry)) (x + i) y) ⌝ }
+{
     let mut i = 0;
     while i < n {
-        let c = shade(g, ramp, q.whole);
-        raster::put_pixel(row, i, c);
-        q = gradient::add_quotients(q, step, d);
-        i += 1;
+        let e = least(i + BLOCK, n);
+        let m = e - i;
+        let from = i * 4;
+        let to = e * 4;
+        block(g, ramp, x + i, y, &mut ks[0..m], &mut row[from..to]);
+        i = e;
     }
 }
 
-// The colour at t.
-fn shade(g: LinearGradient, ramp: &[u32], t: i64) -> Pixel
-    requires { ⌜ HeldRamp (now ramp) (g .count) ⌝ }
-    ensures { λ r. ⌜ r ≡ gradientColor (g .spread) (g .premultiply) (stopsIn (now (ramp .entry)) (g .count)) t ⌝ }
+fn least(a: usize, b: usize) -> usize
+    ensures { λ r. ⌜ r ≡ min a b ⌝ }
 {
-    gradient_color(g.spread, g.premultiply, ramp, g.count, t)
+    if a < b { a } else { b }
 }

@@ -41,7 +41,7 @@ returns c =
 sloped-row-requires : tie.Need-sloped-row-requires
 sloped-row-requires c κs =
     let entry = c .before .before .before .before .before .before .before in
-    (entry .pre .0, (entry .pre .1, λ e. c .before .if1 .left (ap (ofZ w64) (one-x (entry .args .g .points) e))))
+    ((entry .pre .0, λ e. c .before .if1 .left (ap (ofZ w64) (one-x (entry .args .g .points) e))), entry .pre .1)
 
 same-length-2 : tie.Need-same-length-2
 same-length-2 c = search needs

@@ -1,0 +1,62 @@
+-- Positions on a ramp: the colour at a position is the colour at t.
+use mathlib.Core.Path.{_≡_, refl, sym, ap, ap₂, _∙_}
+use mathlib.Core.Bool.{Bool, true, false, cond}
+use mathlib.Core.List.{List, [], _∷_}
+use Prim.Native.Nat.{ℕ, _+_, _≤_, _<_}
+use native.Mathlib.Numerals.{add-one}
+use native.Mathlib.Omega.{arith}
+use borrow.Author.Tests.{le-ltb, ltb-true}
+use lib.Dec.{ltb}
+use lib.IntN.{ℤ, pos, negsuc}
+use lib.ListN.{length, getD}
+use Rattle.lists.specs.Lists.{tab}
+use Rattle.lists.proofs.Laws.{tab-length, tab-at}
+use Rattle.color.specs.declared.Pixel.{Pixel}
+use Rattle.color.specs.Channels.{premultiplied}
+use Rattle.raster.specs.Surface.{run}
+use Rattle.raster.proofs.Runs.{run-same}
+use Rattle.paint.specs.Gradient.{rampUnit, mapped}
+use Rattle.paint.specs.Ramps.{rampAt}
+use Rattle.paint.specs.Paints.{gradientColor}
+use Rattle.paint.specs.Segments.{positionOf, tAt, colorAtPosition, Positions}
+use Rattle.paint.specs.declared.Stop.{Stop}
+
+same-color : (ramp : List Stop) (u : ℤ) → rampAt ramp (tAt (positionOf u)) ≡ rampAt ramp u
+unfolding rampAt positionOf
+same-color [] u = refl
+same-color (i ∷ rest) (negsuc n) = refl
+same-color (i ∷ rest) (pos n) = by (ltb n rampUnit) refl
+  where
+    by : (t : Bool) → ltb n rampUnit ≡ t → rampAt (i ∷ rest) (tAt (positionOf (pos n))) ≡ rampAt (i ∷ rest) (pos n)
+    by true e = rw (le-ltb n 0 (omega arith), e, add-one n, le-ltb n 0 (omega arith), e)
+    by false e = rw (le-ltb n 0 (omega arith), e)
+
+below : (u : ℤ) → positionOf u ≤ 65537
+unfolding positionOf
+below (negsuc n) = omega arith
+below (pos n) = by (ltb n rampUnit) refl
+  where
+    by : (t : Bool) → ltb n rampUnit ≡ t → positionOf (pos n) ≤ 65537
+    by true e = rw (le-ltb n 0 (omega arith), e) (omega (arith, ltb-true n rampUnit e))
+    by false e = rw (le-ltb n 0 (omega arith), e) (omega arith)
+
+at-position : (spread : ℕ) (premultiply : Bool) (ramp : List Stop) (t : ℤ)
+    → colorAtPosition premultiply ramp (positionOf (mapped spread t)) ≡ gradientColor spread premultiply ramp t
+unfolding gradientColor colorAtPosition
+at-position spread premultiply ramp t = ap (λ (p : Pixel). cond premultiply p (premultiplied p)) (same-color ramp (mapped spread t))
+
+-- ---- the pixels of a row, whose t are f's
+module _ (n spread : ℕ) (f : ℕ → ℤ) (ks : List ℕ) (e : ks ≡ tab n (λ i. positionOf (mapped spread (f i)))) where
+  pub positions : n ≤ 1024 → Positions ks
+  positions h = record {
+    few = omega (arith, ap length e ∙ tab-length n _);
+    below = λ i l.
+        let m : i < n = omega (arith, ap length e ∙ tab-length n _) in
+        rw (e, tab-at n (λ i. positionOf (mapped spread (f i))) i 0 m) (below (mapped spread (f i)));
+  }
+
+  pub colored : (premultiply : Bool) (ramp : List Stop)
+      → run n (λ i. colorAtPosition premultiply ramp (getD ks i 0)) ≡ run n (λ i. gradientColor spread premultiply ramp (f i))
+  colored premultiply ramp =
+      run-same n _ _
+      (λ i l. ap (colorAtPosition premultiply ramp) (rw e (tab-at n (λ i. positionOf (mapped spread (f i))) i 0 l)) ∙ at-position spread premultiply ramp (f i))
