@@ -47,32 +47,6 @@ pub fn open(i: usize) -> i32 {
     fd
 }
 
-// Its end is met once, so it cannot stand for two files.
-fn standard_input(i: usize) -> i32 {
-    if is_input_besides(i) {
-        io::write_all(STDERR_FILENO, b"-: standard input can be one file only\n");
-        return -1;
-    }
-    STDIN_FILENO
-}
-
-// Whether an argument besides i is `-`.
-fn is_input_besides(i: usize) -> bool {
-    let count = os::arg_count();
-    let mut k = 1;
-    while k < count {
-        if k != i && is_input(k) {
-            return true;
-        }
-        k += 1;
-    }
-    false
-}
-
-fn is_input(i: usize) -> bool {
-    is_word(i, b"-")
-}
-
 // Tells on standard error why the file of that name could not be read.
 pub fn fail(name: &[u8]) {
     if same_bytes(name, b"-") {
@@ -111,4 +85,31 @@ fn read_to_end(fd: i32, file: &mut [u8]) -> Loaded
         readable: true,
         length: n,
     }
+}
+
+// Standard input for argument i, if for no other: it has one end, so it cannot be two files.
+fn standard_input(i: usize) -> i32 {
+    if is_input_besides(i) {
+        io::write_all(STDERR_FILENO, b"-: standard input can be one file only\n");
+        return -1;
+    }
+    STDIN_FILENO
+}
+
+// Whether an argument besides i is `-` too.
+fn is_input_besides(i: usize) -> bool {
+    let count = os::arg_count();
+    let mut k = 1;
+    while k < count {
+        if k != i && is_input(k) {
+            return true;
+        }
+        k += 1;
+    }
+    false
+}
+
+// Whether argument i is `-`.
+fn is_input(i: usize) -> bool {
+    is_word(i, b"-")
 }

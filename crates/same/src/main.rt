@@ -24,7 +24,7 @@ fn main() {
     if !is_called(
         os::arg_count() == 2,
         b"usage: same FILE\n",
-        b"Draws a scene file with the quick and with the plain engine, and prints `same`, or X and Y of the first pixel that differs.\n\
+        b"Draws a scene file with the quick and with the plain engine, and prints `same`, or X Y of the first pixel that differs.\n\
         A scene that is refused prints `refused CODE DRAW`, a file that is too long or a picture that is too large `limit`.\n",
     ) {
         return;
