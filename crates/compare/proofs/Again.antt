@@ -11,7 +11,7 @@ use borrow.Author.Tests.{eqb-true, eqb-false}
 use Rattle.rect.proofs.Laws.{either}
 use Rattle.difference.specs.Compare.{gapAt, greatest}
 use Rattle.difference.proofs.Greatest.{no-gap-equal, equal-no-gap}
-use Rattle.compare.specs.Texts.{Tells}
+use Rattle.console.specs.Words.{Tells}
 use Rattle.compare.specs.Files.{Fits}
 use Rattle.compare.specs.declared.Read.{Read}
 use Rattle.compare.specs.declared.Read.the-variants.{Bytes}

@@ -14,7 +14,8 @@ use Rattle.lists.specs.Lists.{upto}
 use Rattle.lists.proofs.Laws.{upto-length, run-fits, tab-ext}
 use Rattle.rect.proofs.Laws.{either}
 use Rattle.text.specs.Text.{hexDigit, cellText, rowText}
-use Rattle.compare.specs.Texts.{digitValue, byteRead, rowBytes, Row, RowRead, Tells}
+use Rattle.console.specs.Words.{Tells}
+use Rattle.compare.specs.Texts.{digitValue, byteRead, rowBytes, Row, RowRead}
 
 -- ---- digits
 digit-back : (d : ℕ) → d < 16 → digitValue (hexDigit d) ≡ d

@@ -41,7 +41,3 @@ pub record Row (n : ℕ) (s : List ℕ) : Type 0 where
 pub record RowRead (n : ℕ) (t out : List ℕ) (r : Bool) : Type 0 where
   pub right : r ≡ true → t ≡ rowText n out
   pub wrong : r ≡ false → (s : List ℕ) → Row n s → t ≡ rowText n s → ⊥
-
-abbrev pub Tells : Bool → Type 0 → Type 0
-Tells true p = p
-Tells false p = p → ⊥

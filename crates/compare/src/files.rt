@@ -6,6 +6,7 @@ use crate::texts::NO_NUMBER;
 use crate::texts::line_size;
 use crate::texts::no_size;
 use crate::texts::row_pixels;
+use console::files::fail;
 use libc::STDERR_FILENO;
 ghost use mathlib.Core.Path.{_≡_};
 ghost use Prim.Native.Nat.{_*_};
@@ -14,21 +15,6 @@ ghost use Rattle.compare.specs.Files.{Fits};
 
 // The bytes that are looked at for the first line's end: more than two numbers as they are printed.
 const FIRST_LINE: usize = 64;
-
-// Opens the file that argument i names: its descriptor, or a number below 0.
-pub fn open(i: usize) -> i32 {
-    let mut name = io::buffer();
-    let n = os::arg(i, &mut name);
-    if os::errno() != 0 {
-        os::fail(&name);
-        return -1;
-    }
-    let fd = os::open_read(&name[..n]);
-    if fd < 0 {
-        os::fail(&name[..n]);
-    }
-    fd
-}
 
 // The size that the first line has; its width is NO_NUMBER where there is none, which is told.
 pub fn read_size(picture: Picture) -> Size {
@@ -128,7 +114,7 @@ fn fill(picture: Picture, text: &mut [u8]) -> Read {
     let n = os::arg(picture.argument, &mut name);
     let read = read_full(picture.fd, text);
     if let Read::Unreadable = read {
-        os::fail(&name[..n]);
+        fail(&name[..n]);
     }
     read
 }

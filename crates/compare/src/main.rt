@@ -13,6 +13,8 @@ use crate::files::read_size;
 use codes::ILLEGAL_ARGUMENT;
 use codes::UNSUPPORTED_IMAGE_FORMAT;
 use console::Line;
+use console::files::open;
+use console::usage::is_called;
 use difference::Comparison;
 use difference::Found;
 ghost use mathlib.Core.Path.{_≡_};
@@ -45,15 +47,20 @@ const ROW_BYTES: usize = 4096;
 const ROW_TEXT: usize = 9216;
 
 fn main() {
-    if os::arg_count() != 3 {
-        io::write_all(libc::STDERR_FILENO, b"usage: compare PICTURE PICTURE\n");
+    if !is_called(
+        os::arg_count() == 3,
+        b"usage: compare PICTURE PICTURE\n",
+        b"Compares two pictures as draw prints them, and prints `equal 0 0 0 0 0 0 0`, or `differ` and how many pixels do, the smallest\n\
+        rectangle round them as X Y WIDTH HEIGHT, the largest difference and the least number of a pixel that differs. Pictures of\n\
+        different sizes, or of none that a picture has, print `refused CODE`.\n",
+    ) {
         return;
     }
-    let first = files::open(1);
+    let first = open(1);
     if first < 0 {
         return;
     }
-    let second = files::open(2);
+    let second = open(2);
     if second < 0 {
         return;
     }

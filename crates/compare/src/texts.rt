@@ -4,7 +4,8 @@ use text::PIXEL_TEXT;
 ghost use mathlib.Core.Path.{_≡_};
 ghost use Prim.Native.Nat.{_*_, _≤_, _<_};
 ghost use lib.ListN.{length, getD};
-ghost use Rattle.compare.specs.Texts.{noNumber, Printed, SizeLine, digitValue, rowBytes, RowRead, Tells};
+ghost use Rattle.console.specs.Words.{Tells};
+ghost use Rattle.compare.specs.Texts.{noNumber, Printed, SizeLine, digitValue, rowBytes, RowRead};
 
 // Stands for a number that a text is not.
 pub const NO_NUMBER: u32 = 4294967295;

@@ -9,14 +9,19 @@ use console::pictures::print_picture;
 use console::sizes::SURFACE_BYTES;
 use console::sizes::picture_size;
 use console::sizes::surface_bytes;
+use console::usage::is_called;
 use render::judge::SCRATCH_NUMBERS;
 ghost use Prim.Native.Nat.{_≤_};
 ghost use lib.ListN.{length};
 ghost use Rattle.console.specs.Sizes.{mostBytes, Surface};
 
 fn main() {
-    if os::arg_count() != 2 {
-        io::write_all(libc::STDERR_FILENO, b"usage: draw FILE\n");
+    if !is_called(
+        os::arg_count() == 2,
+        b"usage: draw FILE\n",
+        b"Draws a scene file and prints the picture: its width and height, then a line for each row, from the top one down. A scene\n\
+        that is refused prints `refused CODE DRAW`, a file that is too long `limit`.\n",
+    ) {
         return;
     }
     let mut file = [0u8; FILE_BUFFER];

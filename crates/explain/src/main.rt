@@ -8,6 +8,7 @@ use crate::printing::print_explanation;
 use console::files::FILE_BUFFER;
 use console::files::load;
 use console::lines::print_limit;
+use console::usage::is_called;
 ghost use Prim.Native.Nat.{_≤_};
 ghost use lib.ListN.{length};
 
@@ -22,8 +23,13 @@ pub struct Coordinate {
 
 fn main() {
     let count = os::arg_count();
-    if count != 4 && count != 5 {
-        io::write_all(libc::STDERR_FILENO, b"usage: explain SCENE X Y [MASK]\n");
+    if !is_called(
+        count == 4 || count == 5,
+        b"usage: explain SCENE X Y [MASK]\n",
+        b"Prints what each draw of a scene file does to a pixel, a line for each draw, and then the pixel. MASK is a file with a byte for\n\
+        each pixel, row by row from the lowest. A scene that is refused prints `refused CODE DRAW offset BYTE` with the place in the\n\
+        file, a file that is too long `limit`.\n",
+    ) {
         return;
     }
     let x = coordinate(2);

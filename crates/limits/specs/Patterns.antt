@@ -1,5 +1,4 @@
--- Patterns in buffers, and the answers to questions about buffers. A reviewer of the paper need not read it.
-use mathlib.Core.Bool.{Bool, true, false}
+-- Patterns in buffers. A reviewer of the paper need not read it.
 use Prim.Native.Nat.{ℕ, _+_, _%_}
 use lib.IntN.{ℤ, pos}
 
@@ -9,8 +8,3 @@ patternByte phase i = (i % 251 + phase) % 256
 -- never 0
 abbrev pub patternNumber : ℕ → ℤ
 patternNumber i = pos (i % 1000 + 1)
-
--- r says whether P holds
-abbrev pub Tells : Bool → Type 0 → Type 0
-Tells true P = P
-Tells false P = P → ⊥

@@ -12,6 +12,7 @@ mod words;
 
 use console::Line;
 use console::files::FILE_BUFFER;
+use console::usage::is_called;
 ghost use Prim.Native.Nat.{_≤_};
 ghost use lib.ListN.{length};
 
@@ -31,11 +32,12 @@ const SURFACE_BYTES: usize = 1048576;
 const SCRATCH_NUMBERS: usize = 16384;
 
 fn main() {
-    if os::arg_count() < 2 {
-        io::write_all(
-            libc::STDERR_FILENO,
-            b"usage: limits (draw FILE SURFACE ROOM | redraw OLD NEW SURFACE ROOM)..\n",
-        );
+    if !is_called(
+        2 <= os::arg_count(),
+        b"usage: limits (draw FILE SURFACE ROOM | redraw OLD NEW SURFACE ROOM)..\n",
+        b"Runs calls of the renderer, each on a surface of so many bytes with a working room of so many numbers, and prints for each the\n\
+        seven numbers of its answer and what it leaves. It stops at what is no call.\n",
+    ) {
         return;
     }
     let mut old = [0u8; FILE_BUFFER];

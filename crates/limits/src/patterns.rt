@@ -3,7 +3,8 @@ ghost use mathlib.Core.Path.{_≡_};
 ghost use lib.ListN.{length};
 ghost use lib.IntN.{pos};
 ghost use Rattle.lists.specs.Lists.{tab};
-ghost use Rattle.limits.specs.Patterns.{patternByte, patternNumber, Tells};
+ghost use Rattle.console.specs.Words.{Tells};
+ghost use Rattle.limits.specs.Patterns.{patternByte, patternNumber};
 
 // A pattern of bytes, another one for each phase.
 pub fn fill_bytes(s: &mut [u8], phase: u8)
@@ -37,22 +38,6 @@ fn number_at(i: usize) -> i32
     ensures { λ r. ⌜ r ≡ patternNumber i ⌝ }
 {
     (i % 1000 + 1) as i32
-}
-
-pub fn same_bytes(a: &[u8], b: &[u8]) -> bool
-    ensures { λ r. ⌜ Tells r (now (a .entry) ≡ now (b .entry)) ⌝ }
-{
-    if a.len() != b.len() {
-        return false;
-    }
-    let mut i = 0;
-    while i < a.len() {
-        if a[i] != b[i] {
-            return false;
-        }
-        i += 1;
-    }
-    true
 }
 
 pub fn is_pattern(s: &[i32]) -> bool

@@ -5,13 +5,6 @@ ghost use mathlib.Core.Path.{_≡_};
 ghost use Prim.Native.Nat.{_<_};
 ghost use Rattle.limits.specs.Digits.{digitOf, numberOf, OfSomeText};
 
-// Whether argument i is that word.
-pub fn is_word(i: usize, word: &[u8]) -> bool {
-    let mut text = io::buffer();
-    let n = os::arg(i, &mut text);
-    crate::patterns::same_bytes(&text[..n], word)
-}
-
 // The number that argument i is, or one that no buffer has where it is none.
 pub fn number(i: usize) -> usize
     ensures { λ r. ⌜ OfSomeText r ⌝ }

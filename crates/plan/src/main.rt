@@ -4,6 +4,7 @@ use console::Line;
 use console::files::FILE_BUFFER;
 use console::files::load;
 use console::lines::print_limit;
+use console::usage::is_called;
 use planner::PROPOSAL_NUMBERS;
 use planner::planning::Planning;
 use planner::planning::plan;
@@ -12,8 +13,12 @@ ghost use Prim.Native.Nat.{_≤_};
 ghost use lib.ListN.{length};
 
 fn main() {
-    if os::arg_count() != 3 {
-        io::write_all(libc::STDERR_FILENO, b"usage: plan OLD NEW\n");
+    if !is_called(
+        os::arg_count() == 3,
+        b"usage: plan OLD NEW\n",
+        b"Prints how many rectangles the planner proposes for a redraw from the scene file OLD to NEW, then each as X Y WIDTH HEIGHT.\n\
+        A redraw that is refused prints `refused CODE DRAW SCENE`, a file that is too long `limit`.\n",
+    ) {
         return;
     }
     let mut old = [0u8; FILE_BUFFER];

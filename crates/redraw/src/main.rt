@@ -9,6 +9,7 @@ use console::pictures::print_picture;
 use console::sizes::SURFACE_BYTES;
 use console::sizes::picture_size;
 use console::sizes::surface_bytes;
+use console::usage::is_called;
 use render::Answer;
 use render::Refusal;
 use render::judge::SCRATCH_NUMBERS;
@@ -18,8 +19,12 @@ ghost use lib.ListN.{length};
 ghost use Rattle.console.specs.Sizes.{mostBytes, Surface};
 
 fn main() {
-    if os::arg_count() != 3 {
-        io::write_all(libc::STDERR_FILENO, b"usage: redraw OLD NEW\n");
+    if !is_called(
+        os::arg_count() == 3,
+        b"usage: redraw OLD NEW\n",
+        b"Draws the scene file OLD, redraws to NEW, and prints the redrawn area as X Y WIDTH HEIGHT, then the picture as draw does.\n\
+        A redraw that is refused prints `refused CODE DRAW SCENE`, a file that is too long `limit`.\n",
+    ) {
         return;
     }
     let mut old = [0u8; FILE_BUFFER];

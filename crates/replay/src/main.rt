@@ -17,6 +17,7 @@ use console::pictures::print_picture;
 use console::sizes::SURFACE_BYTES;
 use console::sizes::picture_size;
 use console::sizes::surface_bytes;
+use console::usage::is_called;
 use playback::Replayed;
 use playback::judge::wide;
 use render::Answer;
@@ -35,8 +36,13 @@ const LENGTHS: usize = 601;
 const ANSWERS: usize = 4207;
 
 fn main() {
-    if os::arg_count() < 2 {
-        io::write_all(libc::STDERR_FILENO, b"usage: replay SCENE ..\n");
+    if !is_called(
+        2 <= os::arg_count(),
+        b"usage: replay SCENE ..\n",
+        b"Shows scene files one after the other in one call, and prints `code C` for the call, CODE DRAW SCENE X Y WIDTH HEIGHT for each\n\
+        scene, `context C` with the first code that is not 0, and `last I` and the picture if a scene was accepted. Files that are too\n\
+        long together print `limit`.\n",
+    ) {
         return;
     }
     let mut run = [0u8; RUN_BUFFER];

@@ -10,6 +10,8 @@ use console::Line;
 use console::files::FILE_BUFFER;
 use console::files::load;
 use console::lines::print_limit;
+use console::usage::is_called;
+use console::words::is_word;
 use rescue::write::salvage;
 ghost use mathlib.Core.Path.{_≡_};
 ghost use Prim.Native.Nat.{_+_, _≤_};
@@ -24,8 +26,20 @@ const LIST_NUMBERS: usize = 128;
 const NAME_LIMIT: usize = 4092;
 
 fn main() {
-    if os::arg_count() != 3 {
-        io::write_all(libc::STDERR_FILENO, b"usage: salvage SCENE OUT\n");
+    if !is_called(
+        os::arg_count() == 3,
+        b"usage: salvage SCENE OUT\n",
+        b"Writes a scene file anew, each draw that is refused replaced by an empty one, to the file OUT, and prints `replaced N`, then\n\
+        DRAW CODE of each of them. A scene that cannot be salvaged prints `refused CODE`, a file that is too long `limit`; then no\n\
+        file is written. OUT is replaced whole or not at all, by way of the file OUT.new, so it cannot be -.\n",
+    ) {
+        return;
+    }
+    if is_word(2, b"-") {
+        io::write_all(
+            libc::STDERR_FILENO,
+            b"OUT: a file that is replaced cannot be -\n",
+        );
         return;
     }
     let mut file = [0u8; FILE_BUFFER];

@@ -11,6 +11,7 @@ use console::files::load;
 use console::lines::print_limit;
 use console::sizes::picture_size;
 use console::sizes::surface_bytes;
+use console::usage::is_called;
 use difference::Comparison;
 use render::judge::SCRATCH_NUMBERS;
 ghost use Prim.Native.Nat.{_≤_};
@@ -20,8 +21,12 @@ ghost use lib.ListN.{length};
 const PICTURE_BYTES: usize = 3145728;
 
 fn main() {
-    if os::arg_count() != 2 {
-        io::write_all(libc::STDERR_FILENO, b"usage: same FILE\n");
+    if !is_called(
+        os::arg_count() == 2,
+        b"usage: same FILE\n",
+        b"Draws a scene file with the quick and with the plain engine, and prints `same`, or X Y of the first pixel that differs.\n\
+        A scene that is refused prints `refused CODE DRAW`, a file that is too long or a picture that is too large `limit`.\n",
+    ) {
         return;
     }
     let mut file = [0u8; FILE_BUFFER];

@@ -8,7 +8,7 @@ use Rattle.limits.proofs.calls.print_line.Reads as print-line-reads
 use Rattle.limits.proofs.patterns.fill_bytes.Reads as fill-bytes-reads
 use Rattle.limits.proofs.patterns.fill_numbers.Reads as fill-numbers-reads
 use Rattle.limits.proofs.patterns.is_zero.Reads as is-zero-reads
-use Rattle.limits.proofs.patterns.same_bytes.Reads as same-bytes-reads
+use Rattle.console.proofs.words.same_bytes.Reads as same-bytes-reads
 use Rattle.render.proofs.draw.Reads as draw-reads
 
 is-zero-requires : tie.Need-is-zero-requires

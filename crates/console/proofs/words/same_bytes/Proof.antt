@@ -6,10 +6,10 @@ use native.Mathlib.Nat.{not-suc-le-zero}
 use lib.Seq.{ext-getD}
 use borrow.Author.Count.{below-more}
 use borrow.Author.Needs.{needs}
-use Rattle.limits.proofs.patterns.same_bytes.Statement.{statement}
-use Rattle.limits.proofs.patterns.same_bytes.Tie as tie
-use Rattle.limits.proofs.patterns.same_bytes.Reads as reads
-use Rattle.limits.proofs.patterns.same_bytes.Lts as lts
+use Rattle.console.proofs.words.same_bytes.Statement.{statement}
+use Rattle.console.proofs.words.same_bytes.Tie as tie
+use Rattle.console.proofs.words.same_bytes.Reads as reads
+use Rattle.console.proofs.words.same_bytes.Lts as lts
 
 abbrev Inv-loop : tie.InvT-loop
 Inv-loop a b i₀ i = (i ≤ length a) × ((k : ℕ) → k < i → getD a k 0 ≡ getD b k 0)
