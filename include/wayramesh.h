@@ -147,8 +147,7 @@ typedef struct wayramesh_context {
 
 /*
  * Answers the first code other than 0 of the calls since the context was last asked, or since it was {0}; 0 if all were
- * accepted. Asking sets it to 0. This is proved for every sequence of calls; that a call notes its code is proved of all but
- * wayramesh_redraw_planned, which is an inline function of this header and notes it in C.
+ * accepted. Asking sets it to 0. It is proved that each of these calls notes its code, and this of every sequence of calls.
  */
 uint32_t wayramesh_take_code(wayramesh_context *context);
 
@@ -381,27 +380,12 @@ static inline wayramesh_answer wayramesh_redraw_regions_unmasked(wayramesh_conte
  * new scene's picture in the rectangles, and outside them every byte that it held. Where the area is empty nothing is planned:
  * the call answers 0 with area 0, 0, 0, 0 and writes no byte of the surface.
  */
-wayramesh_answer wayramesh_redraw_planned_only(const uint8_t *old, size_t old_len,
-                                               const uint8_t *new_scene, size_t new_len,
-                                               uint32_t mask_lent, const uint8_t *mask, size_t mask_len,
-                                               uint8_t *surface, size_t surface_len,
-                                               int32_t *scratch, size_t scratch_len);
-
-/* The same, with its code noted in a context. */
-static inline wayramesh_answer wayramesh_redraw_planned(wayramesh_context *context,
-                                                        const uint8_t *old, size_t old_len,
-                                                        const uint8_t *new_scene, size_t new_len,
-                                                        uint32_t mask_lent, const uint8_t *mask, size_t mask_len,
-                                                        uint8_t *surface, size_t surface_len,
-                                                        int32_t *scratch, size_t scratch_len)
-{
-    wayramesh_answer answer = wayramesh_redraw_planned_only(old, old_len, new_scene, new_len, mask_lent, mask, mask_len,
-                                                            surface, surface_len, scratch, scratch_len);
-    if (context->code == WAYRAMESH_ACCEPTED) {
-        context->code = answer.code;
-    }
-    return answer;
-}
+wayramesh_answer wayramesh_redraw_planned(wayramesh_context *context,
+                                          const uint8_t *old, size_t old_len,
+                                          const uint8_t *new_scene, size_t new_len,
+                                          uint32_t mask_lent, const uint8_t *mask, size_t mask_len,
+                                          uint8_t *surface, size_t surface_len,
+                                          int32_t *scratch, size_t scratch_len);
 
 /* The same without a mask. */
 static inline wayramesh_answer wayramesh_redraw_planned_unmasked(wayramesh_context *context,

@@ -7,6 +7,7 @@ ghost use lib.Dec.{eqb};
 ghost use lib.ListN.{length};
 ghost use Rattle.render.specs.Answers.{maskOf, drawAnswer, drawSurface, drawScratch, redrawAnswer, redrawSurface, redrawScratch};
 ghost use Rattle.regions.specs.Answers.{regionsAnswer, regionsSurface, regionsScratch};
+ghost use Rattle.planner.specs.Written.{Redrawn};
 ghost use Rattle.playback.specs.Replay.{replayAnswer, replaySurface, replayScratch, replayAnswers};
 
 // Draws a scene in full. A mask is lent where lent is not 0.
@@ -83,6 +84,23 @@ pub fn redraw_regions(
         ⌝ }
 {
     regions::redraw_regions(old, new, lent != 0, mask, rectangles, surface, scratch)
+}
+
+// Redraws, in rectangles that the library plans, from the old scene to the new. A mask, for both scenes, is lent where lent is not 0.
+pub fn redraw_planned(
+    old: &[u8],
+    new: &[u8],
+    lent: u32,
+    mask: &[u8],
+    surface: &mut [u8],
+    scratch: &mut [i32],
+) -> Answer
+    ensures { λ r. ⌜
+        Redrawn (now (old .entry)) (now (new .entry)) (maskOf (not (eqb lent 0)) (now (mask .entry))) (now (surface .entry)) (now (scratch .entry))
+        r (now (surface .exit)) (now (scratch .exit))
+        ⌝ }
+{
+    planner::redraw_planned(old, new, lent != 0, mask, surface, scratch)
 }
 
 // Replays scenes one behind another. A mask, for all scenes, is lent where lent is not 0.

@@ -19,6 +19,7 @@ ghost use Rattle.blend.specs.PorterDuff.{compositeAnswer};
 ghost use Rattle.difference.specs.Compare.{compareAnswer};
 ghost use Rattle.regions.specs.Answers.{regionsAnswer, regionsSurface, regionsScratch};
 ghost use Rattle.render.specs.Answers.{maskOf, drawAnswer, drawSurface, drawScratch, redrawAnswer, redrawSurface, redrawScratch};
+ghost use Rattle.planner.specs.Written.{Redrawn};
 ghost use Rattle.playback.specs.Replay.{replayAnswer, replaySurface, replayScratch, replayAnswers};
 
 // Draws a scene in full. A mask is lent where lent is not 0.
@@ -108,6 +109,28 @@ pub extern "C" fn wayramesh_redraw_regions(
         ⌝ }
 {
     let answer = calls::redraw_regions(old, new, lent, mask, rectangles, surface, scratch);
+    context::note(context, answer.code);
+    answer
+}
+
+// Redraws, in rectangles that the library plans, from the old scene to the new. A mask, for both scenes, is lent where lent is not 0.
+#[no_mangle]
+pub extern "C" fn wayramesh_redraw_planned(
+    context: &mut Context,
+    old: &[u8],
+    new: &[u8],
+    lent: u32,
+    mask: &[u8],
+    surface: &mut [u8],
+    scratch: &mut [i32],
+) -> Answer
+    ensures { λ r. ⌜
+        (Redrawn (now (old .entry)) (now (new .entry)) (maskOf (not (eqb lent 0)) (now (mask .entry))) (now (surface .entry)) (now (scratch .entry))
+        r (now (surface .exit)) (now (scratch .exit)))
+        × (now (context .exit) ≡ noted (now (context .entry)) (r .code))
+        ⌝ }
+{
+    let answer = calls::redraw_planned(old, new, lent, mask, surface, scratch);
     context::note(context, answer.code);
     answer
 }

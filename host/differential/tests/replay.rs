@@ -341,10 +341,13 @@ fn context_over_calls() {
             let file = &files[random.index(3)];
             let file = if random.once_in(3) { &file[..file.len() - 512] } else { &file[..] };
             let scratch = &mut scratch[..scratch_end];
-            match random.range(0, 4) {
+            match random.range(0, 5) {
                 0 => since.push(library::draw(&mut context, file, mask, &mut surface, scratch).code),
                 1 => since.push(library::redraw(&mut context, &files[0], file, mask, &mut surface, scratch).code),
-                2 | 3 => {
+                2 => {
+                    since.push(library::redraw_planned(&mut context, &files[0], file, mask, &mut surface, scratch).code)
+                }
+                3 | 4 => {
                     let replay = Replay::of(&[files[0].clone(), file.to_vec(), files[2].clone()]);
                     let places = if random.once_in(3) { 20 } else { 21 };
                     let (scenes, lengths) = (&replay.scenes, &replay.lengths);

@@ -1,4 +1,4 @@
-//! The redraw by proposed rectangles.
+//! The redraws by rectangles, proposed or planned, and the plan.
 
 use crate::{Answer, Context, Mask};
 
@@ -19,6 +19,33 @@ extern "C" {
         scratch: *mut i32,
         scratch_len: usize,
     ) -> Answer;
+
+    fn wayramesh_redraw_planned(
+        context: *mut Context,
+        old: *const u8,
+        old_len: usize,
+        new: *const u8,
+        new_len: usize,
+        mask_lent: u32,
+        mask: *const u8,
+        mask_len: usize,
+        surface: *mut u8,
+        surface_len: usize,
+        scratch: *mut i32,
+        scratch_len: usize,
+    ) -> Answer;
+
+    fn wayramesh_plan(
+        old: *const u8,
+        old_len: usize,
+        new: *const u8,
+        new_len: usize,
+        mask_lent: u32,
+        mask: *const u8,
+        mask_len: usize,
+        rectangles: *mut i32,
+        rectangles_len: usize,
+    ) -> Planning;
 }
 
 /// Redraws a surface from the old scene to the new, both with the same mask, in the proposed rectangles: x, y, width,
@@ -69,40 +96,7 @@ pub struct Planning {
     pub count: u32,
 }
 
-mod planned {
-    use super::{Answer, Planning};
-
-    extern "C" {
-        pub fn wayramesh_redraw_planned_only(
-            old: *const u8,
-            old_len: usize,
-            new: *const u8,
-            new_len: usize,
-            mask_lent: u32,
-            mask: *const u8,
-            mask_len: usize,
-            surface: *mut u8,
-            surface_len: usize,
-            scratch: *mut i32,
-            scratch_len: usize,
-        ) -> Answer;
-
-        pub fn wayramesh_plan(
-            old: *const u8,
-            old_len: usize,
-            new: *const u8,
-            new_len: usize,
-            mask_lent: u32,
-            mask: *const u8,
-            mask_len: usize,
-            rectangles: *mut i32,
-            rectangles_len: usize,
-        ) -> Planning;
-    }
-}
-
-/// Redraws a surface from the old scene to the new, both with the same mask, in rectangles that the library plans. The code is
-/// noted here, as the header's form of the call does.
+/// Redraws a surface from the old scene to the new, both with the same mask, in rectangles that the library plans.
 #[must_use = "a call may be refused"]
 pub fn redraw_planned(
     context: &mut Context,
@@ -113,8 +107,9 @@ pub fn redraw_planned(
     scratch: &mut [i32],
 ) -> Answer {
     // SAFETY: as in `redraw_regions`.
-    let answer = unsafe {
-        planned::wayramesh_redraw_planned_only(
+    unsafe {
+        wayramesh_redraw_planned(
+            context,
             old.as_ptr(),
             old.len(),
             new.as_ptr(),
@@ -127,11 +122,7 @@ pub fn redraw_planned(
             scratch.as_mut_ptr(),
             scratch.len(),
         )
-    };
-    if context.code == 0 {
-        context.code = answer.code;
     }
-    answer
 }
 
 /// Writes those rectangles to the first places of a run.
@@ -140,7 +131,7 @@ pub fn plan(old: &[u8], new: &[u8], mask: Mask, rectangles: &mut [i32]) -> Plann
     // SAFETY: each pointer comes with its slice's length. The rectangles overlap no other slice; scenes and mask are only
     // read and may overlap. The function asks no more.
     unsafe {
-        planned::wayramesh_plan(
+        wayramesh_plan(
             old.as_ptr(),
             old.len(),
             new.as_ptr(),
