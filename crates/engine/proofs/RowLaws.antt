@@ -187,7 +187,8 @@ module _ (s q : List ℕ) (k : ℕ) (l : rampNumbers + k ≤ length s) (e : leng
 
   pub list-given : (n : ℕ) → n ≤ k
       → take n (drop rampNumbers (take rampNumbers s ++ (q ++ drop (rampNumbers + k - rampNumbers) (drop rampNumbers s)))) ≡ take n q
-  list-given n h = rw (drop-at (take rampNumbers s) (q ++ drop (rampNumbers + k - rampNumbers) (drop rampNumbers s)) rampNumbers (simp length-take (omega arith)))
+  list-given n h =
+      rw (drop-at (take rampNumbers s) (q ++ drop (rampNumbers + k - rampNumbers) (drop rampNumbers s)) rampNumbers (simp length-take (omega arith)))
       (take-append-le n q (drop (rampNumbers + k - rampNumbers) (drop rampNumbers s)) (omega arith))
 
 pub behind-ramp : (s : List ℕ) (k : ℕ) → take (rampNumbers + k - rampNumbers) (drop rampNumbers s) ≡ take k (drop rampNumbers s)

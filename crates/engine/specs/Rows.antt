@@ -108,7 +108,9 @@ RowCoverage n runs count = Runs runs count n × Coverage (expand runs count)
 
 -- of some runs of a row of n pixels
 abbrev pub PartOfRow : List ℕ → Range → ℕ → Type 0
-PartOfRow runs part n = Runs runs (part .to) (startOf runs (part .to)) × (part .from ≤ part .to) × (part .to ≤ length runs) × (startOf runs (part .to) ≤ n) × Coverage (expand runs (part .to))
+PartOfRow runs part n =
+    Runs runs (part .to) (startOf runs (part .to)) × (part .from ≤ part .to) × (part .to ≤ length runs) × (startOf runs (part .to) ≤ n)
+    × Coverage (expand runs (part .to))
 
 -- of a surface of width by height pixels, and a rectangle on it
 abbrev pub Area : ℕ → ℕ → Rect → List ℕ → Type 0

@@ -266,7 +266,10 @@ fn draw_rect(
     runs: &mut [u16],
     fill: Fill,
 )
-    requires { ⌜ Outlined (now scratch) (fill .style .edges) × ListedIn (now scratch) (fill .style .edges) (now numbers) (fill .listed) (fill .target .area .y0) (fill .target .area .y1) ⌝ }
+    requires { ⌜
+        Outlined (now scratch) (fill .style .edges)
+        × ListedIn (now scratch) (fill .style .edges) (now numbers) (fill .listed) (fill .target .area .y0) (fill .target .area .y1)
+        ⌝ }
     requires { ⌜ Scissors (fill .style) (now scissors) × Shaded (fill .style .shade) (take rampNumbers (now numbers)) ⌝ }
     requires { ⌜ Part (fill .target) (now surface) × RowRoom (fill .target .area .x1 - fill .target .area .x0) (now buffer) (now runs) ⌝ }
     requires { ⌜ MaskFor (fill .style .masked) (fill .target .height * fill .target .width) (now mask) ⌝ }

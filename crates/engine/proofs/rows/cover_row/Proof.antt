@@ -37,7 +37,8 @@ scissor-runs-requires c κs =
         (p .1 .0, call .kept .1 .1 .0 ∙ long, call .kept .1 .1 .1 .0 ∙ p .1 .2),
         (
           subst (Runs (call .last .1 .1 .1 .0) (call .result)) long (call .ensures .1 .0),
-          coverage-fits (edgesOf (a .scratch .now) (a .style .edges)) (a .style .nonzero) (a .strip .x) (a .strip .y) (length (a .marks .now)) _ (call .ensures .1 .1),
+          coverage-fits (edgesOf (a .scratch .now) (a .style .edges)) (a .style .nonzero) (a .strip .x) (a .strip .y) (length (a .marks .now)) _
+          (call .ensures .1 .1),
         ),
       ),
     )
@@ -46,8 +47,8 @@ returns-2 : tie.Need-returns-2
 returns-2 c =
     let cut = c .before .before .before .before .scissor-runs in
     let else1 = c .before .before .before .before .before .before .before in
-    let call = c .before .before .before .before .before .before .before .before .before .before .before .before .before .before .coverage-runs in
-    let entry = c .before .before .before .before .before .before .before .before .before .before .before .before .before .before .before .before .before .before .before .before .before .before in
+    let call = else1 .before .before .before .before .before .before .before .coverage-runs in
+    let entry = else1 .before .before .before .before .before .before .before .before .before .before .before .before .before .before .before in
     let a = entry .args in
     let s = a .strip in (
       call .ensures .0,

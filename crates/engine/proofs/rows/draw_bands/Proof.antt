@@ -23,7 +23,8 @@ use Rattle.engine.proofs.rows.draw_bands.Tie as tie
 
 abbrev Inv-loop : tie.InvT-loop
 Inv-loop surface₀ scratch₀ scissors numbers₀ mask buffer₀ runs₀ style target last y1 y₀ surface scratch numbers buffer runs y =
-    Rows target (λ u v. stepWith style (edgesOf scratch₀ (style .edges)) scissors (take rampNumbers numbers₀) (maskAt (target .width) mask u v) u v) surface₀ y surface
+    Rows target (λ u v. stepWith style (edgesOf scratch₀ (style .edges)) scissors (take rampNumbers numbers₀) (maskAt (target .width) mask u v) u v) surface₀ y
+    surface
     × (scratch ≡ scratch₀) × (take rampNumbers numbers ≡ take rampNumbers numbers₀) × (length numbers ≡ length numbers₀) × (length buffer ≡ length buffer₀)
     × (length runs ≡ length runs₀)
 
@@ -47,7 +48,9 @@ add-least : tie.Need-add-least Inv-loop μ-loop
 add-least c = omega (arith, high (c .before .before .before .before .before .before .before .before .before .before .before), c .loop-test .taken)
 
 part-filter-edges-end : tie.Need-part-filter-edges-end Inv-loop μ-loop
-part-filter-edges-end c = omega (arith, c .before .before .before .loop .inv .3, c .before .before .before .before .before .before .before .before .before .before .before .before .before .pre .0 .1)
+part-filter-edges-end c =
+    let at-loop = c .before .before .before in
+    omega (arith, at-loop .loop .inv .3, at-loop .before .before .before .before .before .before .before .before .before .before .pre .0 .1)
 
 filter-edges-requires : tie.Need-filter-edges-requires Inv-loop μ-loop
 filter-edges-requires c κs =
@@ -70,17 +73,23 @@ below c = (omega (arith, c .least .ensures, c .before .loop-test .taken), omega 
 
 -- the numbers with the list given back
 module _ (c : tie.After-filter-edges Inv-loop μ-loop) where
+  abbrev at-loop : tie.At-loop Inv-loop μ-loop
+  at-loop = c .before .before .before .before .before
+
+  abbrev entry : tie.Start Inv-loop μ-loop
+  entry = at-loop .before .before .before .before .before .before .before .before .before .before
+
   abbrev before : List ℕ
-  before = c .before .before .before .before .before .loop .numbers
+  before = at-loop .loop .numbers
 
   abbrev list : List ℕ
   list = c .filter-edges .last .1 .1 .1 .1 .0
 
   abbrev edges : ℕ
-  edges = c .before .before .before .before .before .before .before .before .before .before .before .before .before .before .before .args .fill .style .edges
+  edges = entry .args .fill .style .edges
 
   room : rampNumbers + edges ≤ length before
-  room = omega (arith, c .before .before .before .before .before .loop .inv .3, c .before .before .before .before .before .before .before .before .before .before .before .before .before .before .before .pre .0 .1)
+  room = omega (arith, at-loop .loop .inv .3, entry .pre .0 .1)
 
   long : length list ≡ edges
   long = c .filter-edges .kept .1 .1 .1 .1 .0 ∙ part-length before rampNumbers (rampNumbers + edges) (omega arith) room ∙ omega arith
@@ -88,16 +97,18 @@ module _ (c : tie.After-filter-edges Inv-loop μ-loop) where
   abbrev numbers : List ℕ
   numbers = take rampNumbers before ++ (list ++ drop (rampNumbers + edges - rampNumbers) (drop rampNumbers before))
 
-  kept : take rampNumbers numbers ≡ take rampNumbers (c .before .before .before .before .before .before .before .before .before .before .before .before .before .before .before .args .numbers .now)
-  kept = ramp-kept before list edges room long ∙ c .before .before .before .before .before .loop .inv .2
+  kept : take rampNumbers numbers ≡ take rampNumbers (entry .args .numbers .now)
+  kept = ramp-kept before list edges room long ∙ at-loop .loop .inv .2
 
   listed : (rampNumbers + c .filter-edges .result ≤ length numbers)
-      × Band (c .before .before .before .before .before .loop .scratch) edges (c .before .before .before .before .before .loop .y) (c .before .before .before .least .result) (take (c .filter-edges .result) (drop rampNumbers numbers))
+      × Band (at-loop .loop .scratch) edges (at-loop .loop .y) (c .before .before .before .least .result)
+      (take (c .filter-edges .result) (drop rampNumbers numbers))
   listed =
       let few = c .filter-edges .ensures .0 .0 in
       let same = back-length before list rampNumbers (rampNumbers + edges) (omega arith) room (long ∙ omega arith) in (
         omega (arith, few, room, same),
-        subst (Band (c .before .before .before .before .before .loop .scratch) edges (c .before .before .before .before .before .loop .y) (c .before .before .before .least .result)) (sym (list-given before list edges room long (c .filter-edges .result) few))
+        subst (Band (at-loop .loop .scratch) edges (at-loop .loop .y) (c .before .before .before .least .result))
+        (sym (list-given before list edges room long (c .filter-edges .result) few))
             (c .filter-edges .ensures .1),
       )
 
@@ -105,9 +116,9 @@ draw-rect-requires : tie.Need-draw-rect-requires Inv-loop μ-loop
 draw-rect-requires c κs =
     let rows = sym (c .before .before .before .before .before .rows-of .ensures) in
     let after-filter-edges = c .before .before .before .before .before .before .before .before in
-    let after-least = c .before .before .before .before .before .before .before .before .before .before .before in
-    let l = c .before .before .before .before .before .before .before .before .before .before .before .before .before .loop in
-    let entry = c .before .before .before .before .before .before .before .before .before .before .before .before .before .before .before .before .before .before .before .before .before .before .before in
+    let after-least = after-filter-edges .before .before .before in
+    let l = after-least .before .before .loop in
+    let entry = after-least .before .before .before .before .before .before .before .before .before .before .before .before in
     let a = entry .args in
     let p = entry .pre in
     let t = a .fill .target in
@@ -122,7 +133,8 @@ draw-rect-requires c κs =
         (p .1 .0 .0, subst (Shaded (a .fill .style .shade)) (sym (kept after-filter-edges)) (p .1 .0 .1)),
         (
           (
-            subst (λ (z : Target). Part z (l .surface)) rows (band-part t _ (a .surface .now) (p .1 .1 .0 .0) (l .inv .0) (after-least .least .result) (band .0) (band .1)),
+            subst (λ (z : Target). Part z (l .surface)) rows
+            (band-part t _ (a .surface .now) (p .1 .1 .0 .0) (l .inv .0) (after-least .least .result) (band .0) (band .1)),
             subst (λ (z : Target). RowRoom (z .area .x1 - z .area .x0) (l .buffer) (l .runs)) rows (l .inv .4 ∙ p .1 .1 .0 .1 .0, l .inv .5 ∙ p .1 .1 .0 .1 .1),
           ),
           subst (λ (z : Target). MaskFor (a .fill .style .masked) (z .height * z .width) (a .mask .now)) rows (p .1 .1 .1),
@@ -131,20 +143,25 @@ draw-rect-requires c κs =
     )
 
 loop-less : tie.Need-loop-less Inv-loop μ-loop
-loop-less c = omega (arith, c .before .before .before .before .before .before .before .before .before .before .before .before .before .before .before .before .before .before .before .least .ensures, c .before .before .before .before .before .before .before .before .before .before .before .before .before .before .before .before .before .before .before .before .loop-test .taken)
+loop-less c =
+    let after-draw-rect = c .before .before .before .before .before .before .before in
+    let after-least = after-draw-rect .before .before .before .before .before .before .before .before .before .before .before .before in
+    omega (arith, after-least .least .ensures, after-least .before .loop-test .taken)
 
 loop-again : tie.Need-loop-again Inv-loop μ-loop
 loop-again c =
-    let call = c .before .before .before .before .before .before .before .draw-rect in
-    let after-filter-edges = c .before .before .before .before .before .before .before .before .before .before .before .before .before .before .before .before in
-    let after-least = c .before .before .before .before .before .before .before .before .before .before .before .before .before .before .before .before .before .before .before in
-    let l = c .before .before .before .before .before .before .before .before .before .before .before .before .before .before .before .before .before .before .before .before .before .loop in
-    let entry = c .before .before .before .before .before .before .before .before .before .before .before .before .before .before .before .before .before .before .before .before .before .before .before .before .before .before .before .before .before .before .before in
+    let after-draw-rect = c .before .before .before .before .before .before .before in
+    let call = after-draw-rect .draw-rect in
+    let after-rows-of = after-draw-rect .before .before .before .before .before .before in
+    let after-filter-edges = after-rows-of .before .before .before in
+    let after-least = after-filter-edges .before .before .before in
+    let l = after-least .before .before .loop in
+    let entry = after-least .before .before .before .before .before .before .before .before .before .before .before .before in
     let a = entry .args in
     let p = entry .pre in
     let band = below after-least in
-    let drawn = same-steps (a .fill .style) (a .fill .style .edges) (a .scissors .now) (a .mask .now) (l .surface) (call .last .0) (c .before .before .before .before .before .before .before .before .before .before .before .before .before .rows-of .ensures) (l .inv .1)
-    (kept after-filter-edges) (call .ensures .1) in (
+    let drawn = same-steps (a .fill .style) (a .fill .style .edges) (a .scissors .now) (a .mask .now) (l .surface) (call .last .0)
+    (after-rows-of .rows-of .ensures) (l .inv .1) (kept after-filter-edges) (call .ensures .1) in (
       rows-band (a .fill .target) _ (a .surface .now) (p .1 .1 .0 .0) (l .inv .0) (after-least .least .result) (band .0) (band .1) (call .last .0) drawn,
       call .ensures .0 ∙ l .inv .1,
       kept after-filter-edges,

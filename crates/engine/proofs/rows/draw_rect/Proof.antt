@@ -19,7 +19,8 @@ use Rattle.engine.proofs.rows.draw_rect.Tie as tie
 
 abbrev Inv-loop : tie.InvT-loop
 Inv-loop surface₀ scratch₀ scissors numbers mask buffer₀ runs₀ style target listed x n y1 y₀ surface scratch buffer runs y =
-    Rows target (λ u v. stepWith style (edgesOf scratch₀ (style .edges)) scissors (take rampNumbers numbers) (maskAt (target .width) mask u v) u v) surface₀ y surface
+    Rows target (λ u v. stepWith style (edgesOf scratch₀ (style .edges)) scissors (take rampNumbers numbers) (maskAt (target .width) mask u v) u v) surface₀ y
+    surface
     × (scratch ≡ scratch₀) × (length buffer ≡ length buffer₀) × (length runs ≡ length runs₀)
 
 abbrev μ-loop : tie.MeasureT-loop
@@ -36,7 +37,7 @@ lent : (c : tie.After-row-bytes Inv-loop μ-loop)
     (maskAt (a .fill .target .width) (a .mask .now) u v) u v)
     (a .surface .now) (at-loop .loop .y) (at-loop .loop .surface) (r .from) (r .to)
 lent c =
-    let entry = c .before .before .before .before .before .before .before .before .before .before .before .before in
+    let entry = entry in
     let a = entry .args in
     let r = c .row-bytes in
     row-lent (a .fill .target) _ (a .surface .now) (entry .pre .1 .1 .0 .0) (c .before .before .loop .inv .0) (c .before .loop-test .taken) (r .result .from)
@@ -51,8 +52,8 @@ through : (c : tie.After-mask-bytes Inv-loop μ-loop)
     MaskRow (a .fill .target) (a .fill .style .masked) (a .mask .now) (at-loop .loop .y) (m .from) (m .to)
 through c =
     let in-loop = c .before .before in
-    let at-loop = c .before .before .before in
-    let entry = c .before .before .before .before .before .before .before .before .before .before .before .before .before in
+    let at-loop = in-loop .before in
+    let entry = entry in
     let a = entry .args in
     let r = c .before .row-bytes in
     let m = c .mask-bytes in
@@ -69,22 +70,25 @@ loop-holds c =
     (rows-none (a .fill .target) _ (a .surface .now) (entry .pre .1 .1 .0 .0), refl, refl, refl)
 
 row-bytes-requires : tie.Need-row-bytes-requires Inv-loop μ-loop
-row-bytes-requires c κs = (c .before .before .before .before .before .before .before .before .before .before .before .pre .1 .1 .0 .0 .placed, c .loop-test .taken)
+row-bytes-requires c κs =
+    let entry = c .before .before .before .before .before .before .before .before .before .before .before in
+    (entry .pre .1 .1 .0 .0 .placed, c .loop-test .taken)
 
 draw-row-requires : tie.Need-draw-row-requires Inv-loop μ-loop
 draw-row-requires c κs =
     let after-mask-bytes = c .before .before .before .before .before in
-    let after-row-bytes = c .before .before .before .before .before .before in
-    let in-loop = c .before .before .before .before .before .before .before in
-    let at-loop = c .before .before .before .before .before .before .before .before in
-    let entry = c .before .before .before .before .before .before .before .before .before .before .before .before .before .before .before .before .before .before in
+    let after-row-bytes = after-mask-bytes .before in
+    let in-loop = after-row-bytes .before in
+    let at-loop = in-loop .before in
+    let entry = at-loop .before .before .before .before .before .before .before .before .before .before in
     let a = entry .args in
     let p = entry .pre in
     let l = at-loop .loop in
     let placed = p .1 .1 .0 .0 .placed in
     let on : OnSurface (record { x = a .fill .target .area .x0; y = l .y; length = a .fill .target .area .x1 - a .fill .target .area .x0 }) =
     (omega (arith, placed .high, placed .on .high, in-loop .loop-test .taken), omega (arith, placed .wide, placed .on .wide, placed .on .across)) in (
-      subst (λ (z : List ℤ). Outlined z (a .fill .style .edges) × ListedFor z (a .fill .style .edges) (a .numbers .now) (a .fill .listed) (l .y)) (sym (l .inv .1))
+      subst (λ (z : List ℤ). Outlined z (a .fill .style .edges) × ListedFor z (a .fill .style .edges) (a .numbers .now) (a .fill .listed) (l .y))
+      (sym (l .inv .1))
           (p .0 .0, (p .0 .1 .0, p .0 .1 .1 .row (l .y) (l .inv .0 .low) (in-loop .loop-test .taken))),
       (
         p .1 .0,
@@ -94,19 +98,24 @@ draw-row-requires c κs =
 
 add-y : tie.Need-add-y Inv-loop μ-loop
 add-y c =
-    let placed = c .before .before .before .before .before .before .before .before .before .before .before .before .before .before .before .before .before .before .before .before .before .before .before .before .before .before .pre .1 .1 .0 .0 .placed in
-    record { fits = omega (arith, placed .high, placed .on .high, c .before .before .before .before .before .before .before .before .before .before .before .before .before .before .before .loop-test .taken) }
+    let after-draw-row = c .before .before .before .before .before .before .before in
+    let in-loop = after-draw-row .before .before .before .before .before .before .before .before in
+    let entry = in-loop .before .before .before .before .before .before .before .before .before .before .before in
+    let placed = entry .pre .1 .1 .0 .0 .placed in
+    record { fits = omega (arith, placed .high, placed .on .high, in-loop .loop-test .taken) }
 
 loop-less : tie.Need-loop-less Inv-loop μ-loop
-loop-less c = omega (arith, c .before .before .before .before .before .before .before .before .before .before .before .before .before .before .before .loop-test .taken)
+loop-less c =
+    let after-draw-row = c .before .before .before .before .before .before .before in
+    omega (arith, after-draw-row .before .before .before .before .before .before .before .before .loop-test .taken)
 
 loop-again : tie.Need-loop-again Inv-loop μ-loop
 loop-again c =
     let call = c .before .before .before .before .before .before .before .draw-row in
     let after-mask-bytes = c .before .before .before .before .before .before .before .before .before .before .before .before .before in
-    let after-row-bytes = c .before .before .before .before .before .before .before .before .before .before .before .before .before .before in
-    let at-loop = c .before .before .before .before .before .before .before .before .before .before .before .before .before .before .before .before in
-    let entry = c .before .before .before .before .before .before .before .before .before .before .before .before .before .before .before .before .before .before .before .before .before .before .before .before .before .before in
+    let after-row-bytes = after-mask-bytes .before in
+    let at-loop = after-row-bytes .before .before in
+    let entry = at-loop .before .before .before .before .before .before .before .before .before .before in
     let a = entry .args in
     let l = at-loop .loop in
     let drawn = mask-turn (a .fill .target) (a .fill .style) (edgesOf (a .scratch .now) (a .fill .style .edges)) (a .scissors .now)

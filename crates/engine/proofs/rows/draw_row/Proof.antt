@@ -35,7 +35,7 @@ cover-row-requires c κs =
 shade-row-requires : tie.Need-shade-row-requires
 shade-row-requires c κs =
     let after-cover-row = c .before .before .before .before .before .before .before .before .before in
-    let entry = c .before .before .before .before .before .before .before .before .before .before .before .before .before .before .before .before .before .before .before .before .before .before .before in
+    let entry = after-cover-row .before .before .before .before .before .before .before .before .before .before .before .before .before .before in
     let a = entry .args in
     let s = a .fill .strip in
     let p = entry .pre in
@@ -50,8 +50,9 @@ shade-row-requires c κs =
 same-length-3 : tie.Need-same-length-3
 same-length-3 c =
     let after-shade-row = c .before .before .before .before in
-    let r = c .before .before .before .before .before .before .before .before .before .before .before .before .before .before .cover-row in
-    let entry = c .before .before .before .before .before .before .before .before .before .before .before .before .before .before .before .before .before .before .before .before .before .before .before .before .before .before .before .before in
+    let after-cover-row = after-shade-row .before .before .before .before .before .before .before .before .before .before in
+    let r = after-cover-row .cover-row in
+    let entry = after-cover-row .before .before .before .before .before .before .before .before .before .before .before .before .before .before in
     let a = entry .args in
     after-shade-row .shade-row .kept .1 .1 .1 .0
     ∙ first-given (a .buffer .now) (r .last .1 .1 .1 .0) (a .fill .strip .length) (r .kept .1 .1 .1 .0 ∙ marked entry)
@@ -59,9 +60,11 @@ same-length-3 c =
 
 returns : tie.Need-returns
 returns c =
-    let call = c .before .before .before .before .shade-row in
-    let r = c .before .before .before .before .before .before .before .before .before .before .before .before .before .before .cover-row in
-    let entry = c .before .before .before .before .before .before .before .before .before .before .before .before .before .before .before .before .before .before .before .before .before .before .before .before .before .before .before .before in
+    let after-shade-row = c .before .before .before .before in
+    let call = after-shade-row .shade-row in
+    let after-cover-row = after-shade-row .before .before .before .before .before .before .before .before .before .before in
+    let r = after-cover-row .cover-row in
+    let entry = after-cover-row .before .before .before .before .before .before .before .before .before .before .before .before .before .before in
     let a = entry .args in
     let s = a .fill .strip in (
       r .ensures .0,

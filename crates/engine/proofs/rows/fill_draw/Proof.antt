@@ -25,7 +25,9 @@ abbrev numbers : tie.After-shade → List ℕ
 numbers c = c .shade .last .1 .0 ++ drop (rampNumbers - 0) (entry c .args .numbers .now)
 
 ramp-length : (c : tie.After-shade) → length (c .shade .last .1 .0) ≡ rampNumbers
-ramp-length c = c .shade .kept .1 .0 ∙ part-length (entry c .args .numbers .now) 0 rampNumbers (omega arith) (omega (arith, entry c .pre .1 .1 .1)) ∙ omega arith
+ramp-length c =
+    c .shade .kept .1 .0
+    ∙ part-length (entry c .args .numbers .now) 0 rampNumbers (omega arith) (omega (arith, entry c .pre .1 .1 .1)) ∙ omega arith
 
 ramp : (c : tie.After-shade) → take rampNumbers (numbers c) ≡ c .shade .last .1 .0
 ramp c = first-part (c .shade .last .1 .0) _ rampNumbers (ramp-length c)
@@ -44,7 +46,7 @@ shade-requires c κs =
 fill-style-requires : tie.Need-fill-style-requires
 fill-style-requires c κs =
     let after-style = c .before .before .before .before in
-    let after-shade = c .before .before .before .before .before .before .before in
+    let after-shade = after-style .before .before .before in
     let a = entry after-shade .args in
     let p = entry after-shade .pre in
     let e = sym (after-style .style .ensures) in
@@ -66,6 +68,7 @@ fill-style-requires c κs =
 returns : tie.Need-returns
 returns c =
     let call = c .before .before .before .before .before .fill-style in
+    let scissors = c .before .before .before .before .before .before .before .scissors in
     let style = c .before .before .before .before .before .before .before .before .before .before .style in
     let after-shade = c .before .before .before .before .before .before .before .before .before .before .before .before .before in
     let shade = after-shade .shade in
@@ -75,7 +78,7 @@ returns c =
     λ x y. ap (λ (z : List ℕ). shadeAt (shade .result) z x y) (ramp after-shade) ∙ shade .ensures .paint x y in (
       call .ensures .0,
       own-steps (a .target) (edgesOf (a .scratch .now) (a .n)) _ (a .d .now) (maskAt (a .target .width) (a .mask .now)) (a .surface .now) (call .last .0)
-      (style .result) (a .n) (shade .result) _ (take rampNumbers (numbers after-shade)) (style .ensures) edges (c .before .before .before .before .before .before .before .scissors .ensures) paint (call .ensures .1),
+      (style .result) (a .n) (shade .result) _ (take rampNumbers (numbers after-shade)) (style .ensures) edges (scissors .ensures) paint (call .ensures .1),
     )
 
 pub fill-draw-spec : {M : Type 1} → statement M

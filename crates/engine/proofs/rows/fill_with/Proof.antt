@@ -14,6 +14,11 @@ narrow c =
     let placed = c .pre .1 .1 .0 .0 .placed in
     (placed .on .across, omega (arith, placed .on .wide, placed .wide))
 
+-- and has room in what is lent
+wide-enough : (c : tie.Start)
+    → let n = c .args .fill .target .area .x1 - c .args .fill .target .area .x0 in (n * 5 ≤ length (c .args .buffer .now)) × (n ≤ length (c .args .runs .now))
+wide-enough c = (omega (arith, narrow c .1, c .pre .1 .1 .0 .1), omega (arith, narrow c .1, c .pre .1 .1 .0 .2))
+
 draw-bands-requires : tie.Need-draw-bands-requires
 draw-bands-requires c κs =
     let entry = c .before .before .before .before .before .before .before .before .before .before .before .before in
@@ -21,8 +26,8 @@ draw-bands-requires c κs =
     let p = entry .pre in
     let o = p .1 .1 .0 in
     let n = a .fill .target .area .x1 - a .fill .target .area .x0 in
-    let buffer = part-length (a .buffer .now) 0 (n * 5) (omega arith) (omega (arith, narrow entry .1, o .1)) in
-    let runs = part-length (a .runs .now) 0 n (omega arith) (omega (arith, narrow entry .1, o .2)) in
+    let buffer = part-length (a .buffer .now) 0 (n * 5) (omega arith) (wide-enough entry .0) in
+    let runs = part-length (a .runs .now) 0 n (omega arith) (wide-enough entry .1) in
     (p .0, (p .1 .0, ((o .0, (buffer ∙ omega arith, runs ∙ omega arith)), p .1 .1 .1)))
 
 pub fill-with-spec : {M : Type 1} → statement M
@@ -33,10 +38,10 @@ fill-with-spec =
     (λ c. omega (arith, narrow (c .before .before .before .before .before .before .before) .1))
     (λ c. search needs)
     (λ c. search needs)
-    (λ c. omega (arith, narrow (c .before .before .before .before .before .before .before .before .before .before) .1, c .before .before .before .before .before .before .before .before .before .before .pre .1 .1 .0 .1))
+    (λ c. omega (arith, wide-enough (c .before .before .before .before .before .before .before .before .before .before) .0))
     (λ c. search needs)
     (λ c. search needs)
-    (λ c. omega (arith, narrow (c .before .before .before .before .before .before .before .before .before .before .before) .1, c .before .before .before .before .before .before .before .before .before .before .before .pre .1 .1 .0 .2))
+    (λ c. wide-enough (c .before .before .before .before .before .before .before .before .before .before .before) .1)
     draw-bands-requires
     (λ c. search needs)
     (λ c. search needs)

@@ -19,14 +19,17 @@ expand-row-requires c κs =
     (subst (Runs (a .runs .now) (a .n)) (sym (p .0 .1)) (p .1 .0), omega (arith, runs-few (a .runs .now) (a .n) (a .strip .length) (p .1 .0), p .0 .2))
 
 -- the row's k's have their length
-cut-length : (c : tie.After-scissor-row) → let entry = c .before .before .before .before .before .before .before .before .before .before in length (c .scissor-row .last .1 .1 .1 .1 .0) ≡ entry .args .strip .length
-cut-length c = c .scissor-row .kept .1 .1 .1 .1 .0 ∙ c .before .before .before .before .expand-row .kept .1 .1 .0 ∙ c .before .before .before .before .before .before .before .before .before .before .pre .1 .0 .1
+abbrev entry : tie.After-scissor-row → tie.Start
+entry c = c .before .before .before .before .before .before .before .before .before .before
+
+cut-length : (c : tie.After-scissor-row) → length (c .scissor-row .last .1 .1 .1 .1 .0) ≡ entry c .args .strip .length
+cut-length c = c .scissor-row .kept .1 .1 .1 .1 .0 ∙ c .before .before .before .before .expand-row .kept .1 .1 .0 ∙ entry c .pre .1 .0 .1
 
 collect-requires : tie.Need-collect-requires
 collect-requires c κs =
     let after-scissor-row = c .before .before .before .before in
-    let after-expand-row = c .before .before .before .before .before .before .before .before in
-    let entry = c .before .before .before .before .before .before .before .before .before .before .before .before .before .before in
+    let after-expand-row = after-scissor-row .before .before .before .before in
+    let entry = after-expand-row .before .before .before .before .before .before in
     let a = entry .args in
     let cut = after-scissor-row .scissor-row in
     let laid = after-expand-row .expand-row in
@@ -39,16 +42,17 @@ collect-requires c κs =
 returns : tie.Need-returns
 returns c =
     let after-collect = c .before .before in
-    let after-scissor-row = c .before .before .before .before .before .before .before in
-    let after-expand-row = c .before .before .before .before .before .before .before .before .before .before .before in
-    let entry = c .before .before .before .before .before .before .before .before .before .before .before .before .before .before .before .before .before in
+    let after-scissor-row = after-collect .before .before .before .before .before in
+    let after-expand-row = after-scissor-row .before .before .before .before in
+    let entry = after-expand-row .before .before .before .before .before .before in
     let a = entry .args in
     let made = after-collect .collect in
     let cut = after-scissor-row .scissor-row in
     let laid = after-expand-row .expand-row in (
       subst (Runs (made .last .1 .0) (made .result)) (cut-length after-scissor-row) (made .ensures .0 .0),
       made .ensures .1
-          ∙ cut-row (a .scissors .now) (a .count) (a .strip .x) (a .strip .y) (cut .last .1 .1 .1 .1 .0) (laid .last .1 .1 .0) (cut .ensures) (a .strip .length) _
+          ∙ cut-row (a .scissors .now) (a .count) (a .strip .x) (a .strip .y) (cut .last .1 .1 .1 .1 .0) (laid .last .1 .1 .0) (cut .ensures)
+      (a .strip .length) _
           (laid .ensures) (laid .kept .1 .1 .0 ∙ entry .pre .1 .0 .1),
     )
 

@@ -45,17 +45,21 @@ expand-row-requires c κs =
     let start = c .before .before .before .before .before .before in
     let a = start .args in
     let p = start .pre .1 in
-    (subst (Runs (a .runs .now) (a .count)) (sym (marked start)) (p .1 .0 .0), omega (arith, runs-few (a .runs .now) (a .count) (a .strip .length) (p .1 .0 .0), p .0 .2 .1))
+    let few = runs-few (a .runs .now) (a .count) (a .strip .length) (p .1 .0 .0) in
+    (subst (Runs (a .runs .now) (a .count)) (sym (marked start)) (p .1 .0 .0), omega (arith, few, p .0 .2 .1))
 
 part-paint-row-end : tie.Need-part-paint-row-end
-part-paint-row-end c = subst (λ (k : ℕ). c .before .before .before .before .before .before .before .before .before .args .strip .length * 5 ≤ k) (sym (laid-length (c .before .before))) (omega arith)
+part-paint-row-end c =
+    let after-expand-row = c .before .before in
+    subst (λ (k : ℕ). entry after-expand-row .args .strip .length * 5 ≤ k) (sym (laid-length after-expand-row)) (omega arith)
 
 paint-row-requires : tie.Need-paint-row-requires
 paint-row-requires c κs =
     let after-expand-row = c .before .before .before in
-    let start = c .before .before .before .before .before .before .before .before .before .before in
+    let start = after-expand-row .before .before .before .before .before .before .before in
     let n = start .args .strip .length in
-    (start .pre .0, (start .pre .1 .0 .0, part-length (laid after-expand-row) n (n * 5) (omega arith) (omega (arith, laid-length after-expand-row)) ∙ omega arith))
+    let long = part-length (laid after-expand-row) n (n * 5) (omega arith) (omega (arith, laid-length after-expand-row)) in
+    (start .pre .0, (start .pre .1 .0 .0, long ∙ omega arith))
 
 -- the paint that is given back
 painted : (c : tie.After-paint-row) → let n = entry (c .before .before .before .before) .args .strip .length in length (c .paint-row .last .1 .0) ≡ n * 5 - n
@@ -70,20 +74,25 @@ shaded-length : (c : tie.After-paint-row)
     let n = entry (c .before .before .before .before) .args .strip .length in
     length (take n b ++ (c .paint-row .last .1 .0 ++ drop (n * 5 - n) (drop n b))) ≡ n * 5
 shaded-length c =
-    let b = laid (c .before .before .before .before) in
-    let n = entry (c .before .before .before .before) .args .strip .length in
-    back-length b (c .paint-row .last .1 .0) n (n * 5) (omega arith) (omega (arith, laid-length (c .before .before .before .before))) (painted c) ∙ laid-length (c .before .before .before .before)
+    let after-expand-row = c .before .before .before .before in
+    let n = entry after-expand-row .args .strip .length in
+    let long = laid-length after-expand-row in
+    back-length (laid after-expand-row) (c .paint-row .last .1 .0) n (n * 5) (omega arith) (omega (arith, long)) (painted c) ∙ long
 
 part-masked-end : tie.Need-part-composite-row-masked-end
-part-masked-end c = subst (λ (k : ℕ). c .before .before .before .before .before .before .before .before .before .before .before .before .before .before .args .strip .length ≤ k) (sym (shaded-length (c .before .before .before))) (omega arith)
+part-masked-end c =
+    let after-paint-row = c .before .before .before in
+    subst (λ (k : ℕ). entry (after-paint-row .before .before .before .before) .args .strip .length ≤ k) (sym (shaded-length after-paint-row)) (omega arith)
 
 part-masked-end-2 : tie.Need-part-composite-row-masked-end-2
-part-masked-end-2 c = subst (λ (k : ℕ). c .before .before .before .before .before .before .before .before .before .before .before .before .before .before .before .args .strip .length * 5 ≤ k) (sym (shaded-length (c .before .before .before .before))) (omega arith)
+part-masked-end-2 c =
+    let after-paint-row = c .before .before .before .before in
+    subst (λ (k : ℕ). entry (after-paint-row .before .before .before .before) .args .strip .length * 5 ≤ k) (sym (shaded-length after-paint-row)) (omega arith)
 
 composite-row-masked-requires : tie.Need-composite-row-masked-requires
 composite-row-masked-requires c κs =
     let after-paint-row = c .before .before .before .before .before .before in
-    let after-expand-row = c .before .before .before .before .before .before .before .before .before .before in
+    let after-expand-row = after-paint-row .before .before .before .before in
     let a = entry after-expand-row .args in
     let p = entry after-expand-row .pre in
     let n = a .strip .length in
@@ -100,7 +109,7 @@ returns : tie.Need-returns
 returns c =
     let call = c .before .before .composite-row-masked in
     let after-paint-row = c .before .before .before .before .before .before .before .before .before in
-    let after-expand-row = c .before .before .before .before .before .before .before .before .before .before .before .before .before in
+    let after-expand-row = after-paint-row .before .before .before .before in
     let a = entry after-expand-row .args in
     let s = a .strip in
     let paint = after-paint-row .paint-row in

@@ -31,8 +31,8 @@ returns c =
     let s = a .strip in
     let call = c .before .before .composite-runs in
     let arm = c .before .before .before .before .before .shade .given in
-    solid-row (a .style .mode) (s .x) (s .y) (λ i. 255) (expand (a .runs .now) (a .count)) (a .row .now) (a .ramp .now) (call .last .1 .1 .1 .1 .0) (a .style .shade)
-    (arm .0 .0) (arm .1) (call .ensures)
+    solid-row (a .style .mode) (s .x) (s .y) (λ i. 255) (expand (a .runs .now) (a .count)) (a .row .now) (a .ramp .now) (call .last .1 .1 .1 .1 .0)
+    (a .style .shade) (arm .0 .0) (arm .1) (call .ensures)
 
 returns-2 : tie.Need-returns-2
 returns-2 c =
