@@ -121,7 +121,7 @@ composite-masked-runs-spec =
     (tie.spec
     Inv-loop
     μ-loop
-    (λ c κs. omega (arith, c .before .before .before .before .pre .0 .1, c .before .before .before .before .pre .0 .2, c .before .before .before .before .pre .0 .3))
+    (λ c κs. let p = c .before .before .before .before .pre in omega (arith, p .0 .1, p .0 .2, p .0 .3))
     loop-holds
     (λ c. omega (arith, turn c .there))
     (λ c. turn (c .before) .there)
