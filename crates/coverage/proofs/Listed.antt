@@ -2,28 +2,24 @@
 use mathlib.Core.Path.{_≡_, refl, sym, ap, ap₂, subst, _∙_}
 use mathlib.Core.List.{List, [], _∷_, _++_, append-nil}
 use mathlib.Core.Bool.{Bool, true, false, cond, _&&_}
-use mathlib.Core.Logic.{⊎-elim}
-use Prim.Native.Nat.{ℕ, zero, suc, _+_, _*_, _-_, _/_, _%_, _≤_, _<_}
+use Prim.Native.Nat.{ℕ, zero, suc, _+_, _*_, _-_, _≤_, _<_}
 use native.Mathlib.Omega.{arith}
-use native.Mathlib.Numerals.{add-one}
 use native.Mathlib.Decide.{ℕ-discrete}
-use native.Mathlib.Nat.{eq-or-lt-of-le, le-of-suc-le-suc, not-suc-le-zero, add-zero}
-use lib.Dec.{T, eqb, ltb}
+use native.Mathlib.Nat.{add-zero}
+use lib.Dec.{T, ltb}
 use borrow.Author.Tests.{ltb-true, ltb-false, lt-ltb, le-ltb}
-use lib.IntN.{ℤ, pos, _+ℤ_}
+use lib.IntN.{ℤ}
 use lib.Signed.{leZ, ltZ, leZ-yes, ltZ-yes}
 use lib.ListN.{length, getD, set, take, length-append, List·getD-append}
-use lib.Seq.{take-set-le, getD-at, getD-take, length-take-le}
-use Rattle.lists.specs.Lists.{upto, tab}
-use Rattle.lists.proofs.Laws.{take-put, tab-length}
+use lib.Seq.{take-set-le, getD-at}
+use Rattle.lists.specs.Lists.{tab}
+use Rattle.lists.proofs.Laws.{take-put}
 use Rattle.fixed.proofs.Poly.{var, num, le, lt, from-le, from-lt}
 use Rattle.fixed.proofs.Tests.{is-true, is-false, both-left, both-right}
-use Rattle.path.specs.declared.Edge.{Edge}
 use Rattle.path.specs.Stored.{edgeAt, edgesOf}
-use Rattle.coverage.specs.Winding.{sample, weight}
-use Rattle.coverage.specs.Scanline.{starts, startAt, sumsAt, missed, laid, Marked}
+use Rattle.coverage.specs.Winding.{sample}
+use Rattle.coverage.specs.Scanline.{sumsAt, missed, laid, Marked}
 use Rattle.coverage.specs.Band.{apart, listed, reach, Kept, Needed, Band}
-use Rattle.coverage.proofs.Sums.{sum-more}
 use Rattle.coverage.proofs.Starts.{missed-more}
 use Rattle.coverage.proofs.Laid.{tab-same}
 use Rattle.coverage.proofs.Turn.{mark-same}

@@ -1,7 +1,7 @@
 -- `coverage::band::needed` meets its contract. Assumes nothing.
 use mir.Facts.{toZ-ofZ, toZ-pos}
 use mathlib.Core.Path.{_≡_, ap, _∙_}
-use mathlib.Core.Bool.{Bool, cond}
+use mathlib.Core.Bool.{Bool}
 use Prim.Native.Nat.{ℕ, _+_, _-_, _*_, _<_}
 use native.Mathlib.Omega.{arith}
 use lib.IntN.{ℤ, pos}

@@ -4,7 +4,6 @@ use native.Mathlib.Omega.{arith}
 use lib.ListN.{length}
 use Rattle.coverage.specs.Marks.{Blank}
 use Rattle.coverage.proofs.Groups.{blank-none, blank-more, blank-last}
-use borrow.Author.Needs.{needs}
 use Rattle.coverage.proofs.walk.next_mark.Statement.{statement}
 use Rattle.coverage.proofs.walk.next_mark.Tie as tie
 

@@ -1,6 +1,6 @@
 -- `coverage::walk::scan` meets its contract. Assumes nothing.
 use mathlib.Core.Path.{_≡_, subst}
-use Prim.Native.Nat.{ℕ, _+_, _-_, _≤_}
+use Prim.Native.Nat.{_+_, _-_, _≤_}
 use native.Mathlib.Omega.{arith}
 use Rattle.coverage.specs.Marks.{Blank}
 use Rattle.coverage.proofs.Groups.{blank-none, blank-one, blank-more}
