@@ -21,12 +21,14 @@ module _ {f : ℕ → Pixel} {before ws : List ℕ} {i : ℕ} (o : Begun f befor
     where
       l' : i < length ws
       l' = omega (arith, o .long)
+
       color : (j : ℕ) → j < i + 1 → unpacked (getD (set ws i w) j 0) ≡ f j
       color j h =
           ⊎-elim
           (λ (q : j ≡ i). rw (q, getD-set-same ws i w 0 l') e)
           (λ (m : j < i). ap unpacked (getD-set-other ws i j w 0 (λ q. omega (arith, q))) ∙ o .color j m)
           (eq-or-lt-of-le (omega arith))
+
       rest : (j : ℕ) → i + 1 ≤ j → getD (set ws i w) j 0 ≡ getD before j 0
       rest j h = getD-set-other ws i j w 0 (λ q. omega (arith, q)) ∙ o .rest j (omega arith)
 
