@@ -52,6 +52,10 @@ pub record Begun (f : ℕ → Pixel) (before : List ℕ) (i : ℕ) (ws : List �
   pub color : (j : ℕ) → j < i → unpacked (getD ws j 0) ≡ f j
   pub rest : (j : ℕ) → i ≤ j → getD ws j 0 ≡ getD before j 0
 
+-- no alpha of the first n is below low
+pub record Covering (low n : ℕ) (ws : List ℕ) : Type 0 where
+  pub above : (i : ℕ) → i < n → low ≤ unpacked (getD ws i 0) .a
+
 -- the colour at a position between two stops at 0 and 65,536: t cut to 0..65,535 gives the same
 abbrev pub twoStops : Pixel → Pixel → ℕ → Pixel
 twoStops c d k = mixPixel 0 rampUnit (min (k - 1) 65535) c d

@@ -1,5 +1,5 @@
 // The radial gradient's t along a row: A and Q go from pixel to pixel by sums, and each root is corrected from a guess, the next number
-// of a line through the two roots before it. Two divisions a pixel: one for the root, one for t.
+// but one of a parabola through three roots before it. Two divisions a pixel: one for the root, one for t.
 use crate::Circle;
 use crate::Place;
 use crate::RadialGradient;
@@ -28,20 +28,31 @@ pub fn radial_positions(g: RadialGradient, x: usize, y: usize, ks: &mut [u32])
     let mut p = place_at(c, x, y);
     let mut last = radial::root(p.q);
     let mut before = last;
+    let mut third = last;
+    let mut fourth = last;
     let mut i = 0;
     while i < ks.len() {
-        let q = radial::root_near(p.q, next_guess(before, last));
+        let q = radial::root_near(p.q, next_guess(before, third, fourth));
         ks[i] = position(g.spread, radial::t_of(p.a, q, d));
         p = next_place(p);
+        fourth = third;
+        third = before;
         before = last;
         last = q;
         i += 1;
     }
 }
 
-// The next number of a line through two: right or not, it is only a guess.
-fn next_guess(before: u64, last: u64) -> u64 {
-    std::num::wrapping_sub_u64(std::num::wrapping_add_u64(last, last), before)
+// The next number but one of a parabola through a, b and c, of which a is the nearest: with the slope d and the bend s it is a + 2d + 3s.
+// Right or not, it is only a guess. The last root is not asked for, so that the divisions for two roots can be under way at a time.
+fn next_guess(a: u64, b: u64, c: u64) -> u64 {
+    let d = std::num::wrapping_sub_u64(a, b);
+    let s = std::num::wrapping_sub_u64(d, std::num::wrapping_sub_u64(b, c));
+    let f = std::num::wrapping_add_u64(d, s);
+    std::num::wrapping_add_u64(
+        std::num::wrapping_add_u64(a, s),
+        std::num::wrapping_add_u64(f, f),
+    )
 }
 
 // A and Q at the pixel (x, y).

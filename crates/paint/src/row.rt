@@ -62,7 +62,13 @@ fn linear_pixel(g: LinearGradient, ramp: &[u32], x: usize, y: usize) -> Pixel
     ensures { λ r. ⌜ r ≡ linearAt g (stopsIn (now (ramp .entry)) (g .count)) x y ⌝ }
 {
     let p = g.points;
-    gradient_color(g.spread, g.premultiply, ramp, g.count, gradient::linear_t(p, x, y))
+    gradient_color(
+        g.spread,
+        g.premultiply,
+        ramp,
+        g.count,
+        gradient::linear_t(p, x, y),
+    )
 }
 
 // The same of a radial gradient.

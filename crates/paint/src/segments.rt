@@ -43,7 +43,13 @@ fn search(ramp: &[u32], count: usize, t: u32) -> Segment
         let x = ramp[j * 2];
         if t < x {
             let i = j - 1;
-            return between(low + 1, ramp[i * 2] + 1, x + 1, stop_color(ramp, i), stop_color(ramp, j));
+            return between(
+                low + 1,
+                ramp[i * 2] + 1,
+                x + 1,
+                stop_color(ramp, i),
+                stop_color(ramp, j),
+            );
         }
         low = greatest(low, x);
         j += 1;

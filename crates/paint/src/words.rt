@@ -11,7 +11,7 @@ ghost use Rattle.color.specs.Channels.{premultiplied};
 ghost use Rattle.raster.specs.Surface.{run};
 ghost use Rattle.paint.specs.Ramps.{mixByte};
 ghost use Rattle.paint.specs.Buffers.{unpacked};
-ghost use Rattle.paint.specs.Segments.{Words, twoStops};
+ghost use Rattle.paint.specs.Segments.{Words, Covering, twoStops};
 
 // A pixel as one number.
 pub fn word(c: Pixel) -> u32
@@ -74,7 +74,30 @@ pub fn finish_words(premultiply: bool, ws: &mut [u32])
     if premultiply {
         return;
     }
+    if lowest_alpha(ws) == 255 {
+        return;
+    }
     premultiply_words(ws);
+}
+
+// Under the alpha 255 a colour is the same premultiplied.
+fn lowest_alpha(ws: &[u32]) -> u8
+    requires { ⌜ length (now ws) ≤ 1024 ⌝ }
+    ensures { λ low. ⌜ Covering low (length (now (ws .entry))) (now (ws .entry)) ⌝ }
+{
+    let mut low = 255;
+    let mut i = 0;
+    while i < ws.len() {
+        low = lower(low, unpack(ws[i]));
+        i += 1;
+    }
+    low
+}
+
+fn lower(low: u8, p: Pixel) -> u8
+    ensures { λ r. ⌜ r ≡ min low (p .a) ⌝ }
+{
+    if low < p.a { low } else { p.a }
 }
 
 fn premultiply_words(ws: &mut [u32])

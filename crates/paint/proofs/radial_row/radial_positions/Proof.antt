@@ -27,11 +27,11 @@ abbrev position : RadialGradient → ℕ → ℕ → ℕ → ℕ
 position g x y i = positionOf (mapped (g .spread) (radialT (g .circle) (x + i) y))
 
 abbrev Inv-loop : tie.InvT-loop
-Inv-loop g x y ks₀ d p₀ last₀ before₀ i₀ ks p last before i =
+Inv-loop g x y ks₀ d p₀ last₀ before₀ third₀ fourth₀ i₀ ks p last before third fourth i =
     (i ≤ length ks₀) × (length ks ≡ length ks₀) × (p ≡ placeAt (g .circle) (x + i) y) × (ks ≡ over (tab i (position g x y)) ks₀)
 
 abbrev μ-loop : tie.MeasureT-loop
-μ-loop g x y ks₀ d p₀ last₀ before₀ i₀ ks p last before i = length ks₀ - i
+μ-loop g x y ks₀ d p₀ last₀ before₀ third₀ fourth₀ i₀ ks p last before third fourth i = length ks₀ - i
 
 -- ---- the turn's pixel, by the state at the loop's head
 abbrev start : tie.At-loop Inv-loop μ-loop → tie.Start Inv-loop μ-loop

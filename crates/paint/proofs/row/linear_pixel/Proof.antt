@@ -12,7 +12,8 @@ returns c =
     let entry = c .before .before .before .before in
     let a = entry .args in
     let t = c .before .linear-t in
-    c .gradient-color .ensures ∙ ap (gradientColor (a .g .spread) (a .g .premultiply) (stopsIn (a .ramp .now) (a .g .count))) (back w64 (t .result) (t .ok) ∙ t .ensures)
+    c .gradient-color .ensures
+    ∙ ap (gradientColor (a .g .spread) (a .g .premultiply) (stopsIn (a .ramp .now) (a .g .count))) (back w64 (t .result) (t .ok) ∙ t .ensures)
 
 pub linear-pixel-spec : {M : Type 1} → statement M
 linear-pixel-spec = tie.close (tie.spec (λ c κs. let entry = c .before .before in (entry .pre .0 .0, entry .pre .1))
