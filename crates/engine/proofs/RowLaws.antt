@@ -1,5 +1,5 @@
 -- A row's coverage and a row of pixels, taken apart and put together.
-use mathlib.Core.Path.{_≡_, refl, sym, ap, _∙_}
+use mathlib.Core.Path.{_≡_, refl, sym, ap, ap₂, _∙_}
 use mathlib.Core.List.{List, [], _∷_, _++_}
 use mathlib.Core.Bool.{Bool, true, false}
 use Prim.Native.Nat.{ℕ, _+_, _-_, _*_, _≤_, _<_}
@@ -166,19 +166,20 @@ module _ (mode x y : ℕ) (mask : ℕ → ℕ) (ks row ramp r : List ℕ) (s : S
   unfolding shadeAt
   gradient-blended g e o = o ∙ rw e
 
-  -- the paint's pixels come from q, and k of each from the start of b
-  pub painted-row : (n : ℕ) (b q rest : List ℕ) (m : ℕ) → n ≤ length b → take n b ≡ ks → length q ≡ m - n → q ≡ run n (λ i. shadeAt s ramp (x + i) y)
-      → r ≡ compositeRow mode (take (n - 0) (drop 0 (take n b ++ (q ++ rest)))) mask (pixelIn (take (m - n) (drop n (take n b ++ (q ++ rest))))) row
+  -- the paint's pixels come from q
+  pub painted-row : (n k m : ℕ) (q rest : List ℕ) → length ks ≡ n → k ≡ n → length q ≡ m → q ≡ run n (λ i. shadeAt s ramp (x + i) y)
+      → r ≡ run k (λ i. compositeOn mode (getD ks (0 + i) 0) (mask i) (pixelIn (take (m - 0) (drop 0 (q ++ rest))) i) (pixelIn row i))
       → r ≡ compositeRow mode ks mask (λ i. shadeAt s ramp (x + i) y) row
-  painted-row n b q rest m h k l o u =
+  painted-row n k m q rest l e v o u =
       let f : ℕ → Pixel = λ i. shadeAt s ramp (x + i) y in
+      let paint = take (m - 0) (drop 0 (q ++ rest)) in
       u
-      ∙ rw (cover-part b q rest n h, paint-part b q rest n m h l)
-      (run-same (length (take n b)) _ _
-      (λ i v.
-      ap (λ (p : Pixel). compositeOn mode (getD (take n b) i 0) (mask i) p (pixelIn row i))
-      (ap (λ (z : List ℕ). pixelIn z i) o ∙ run-at n f i (rw (covered-length b n h) at v)))
-      ∙ ap (λ (z : List ℕ). compositeRow mode z mask f row) k)
+      ∙ ap (λ (j : ℕ). run j (λ i. compositeOn mode (getD ks (0 + i) 0) (mask i) (pixelIn paint i) (pixelIn row i))) (e ∙ sym l)
+      ∙ run-same (length ks) _ _
+      (λ i h.
+      let z : 0 + i ≡ i = omega arith in
+      ap₂ (λ (c : ℕ) (p : Pixel). compositeOn mode c (mask i) p (pixelIn row i)) (ap (λ (j : ℕ). getD ks j 0) z)
+      (ap (λ (t : List ℕ). pixelIn t i) (first-of (q ++ rest) m ∙ first-part q rest m v ∙ o) ∙ run-at n f i (rw l at h)))
 
 -- ---- numbers behind the ramp, of which some are given back as q
 module _ (s q : List ℕ) (k : ℕ) (l : rampNumbers + k ≤ length s) (e : length q ≡ k) where

@@ -83,9 +83,9 @@ Shaded (Gradient g) ramp = HeldGradient (g .gradient) ramp
 abbrev pub OnSurface : Strip → Type 0
 OnSurface s = (s .y < 1024) × (s .x + s .length ≤ 1024)
 
--- of what is lent for a row of n pixels: a mark or k and the paint of each, and a run for each
+-- of what is lent for a row of n pixels: four bytes for each, and a run
 abbrev pub RowRoom : ℕ → List ℕ → List ℕ → Type 0
-RowRoom n buffer runs = (length buffer ≡ n * 5) × (length runs ≡ n)
+RowRoom n buffer runs = (length buffer ≡ n * 4) × (length runs ≡ n)
 
 -- of the numbers behind the ramp, so many of them: every edge of the n that is not among them misses the row y, or every row from y to before end
 abbrev pub ListedFor : List ℤ → ℕ → List ℕ → ℕ → ℕ → Type 0

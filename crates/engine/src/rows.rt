@@ -37,8 +37,8 @@ ghost use Rattle.engine.specs.Unclamped.{unclampedOf};
 ghost use Rattle.engine.specs.Rows.{coverageWith, maskWith, stepWith, tintedBy, gradientTinted, shadeAt, Shaded};
 ghost use Rattle.engine.specs.Rows.{Scissors, OnSurface, RowRoom, RowCoverage, ListedIn, ListedFor, MaskFor, rowsOf};
 
-// Bytes for the longest row: a mark or k, and four bytes of paint, to a pixel.
-const ROW_BYTES: usize = 5120;
+// Bytes for the longest row: four bytes of paint to a pixel. A row's marks, a byte to a pixel, stand there before its paint is made.
+const ROW_BYTES: usize = 4096;
 
 // Runs of the longest row: at most one to a pixel.
 const ROW_RUNS: usize = 1024;
@@ -157,7 +157,7 @@ fn fill_with(
 )
     requires { ⌜ Outlined (now scratch) (fill .style .edges) × (rampNumbers + fill .style .edges ≤ length (now numbers)) ⌝ }
     requires { ⌜ Scissors (fill .style) (now scissors) × Shaded (fill .style .shade) (take rampNumbers (now numbers)) ⌝ }
-    requires { ⌜ Part (fill .target) (now surface) × (5120 ≤ length (now buffer)) × (1024 ≤ length (now runs)) ⌝ }
+    requires { ⌜ Part (fill .target) (now surface) × (4096 ≤ length (now buffer)) × (1024 ≤ length (now runs)) ⌝ }
     requires { ⌜ MaskFor (fill .style .masked) (fill .target .height * fill .target .width) (now mask) ⌝ }
     ensures { λ _. ⌜ now (scratch .exit) ≡ now (scratch .entry) ⌝ }
     ensures { λ _. ⌜
@@ -169,7 +169,7 @@ fn fill_with(
         ⌝ }
 {
     let n = fill.target.area.x1 - fill.target.area.x0;
-    let m = n * 5;
+    let m = n * 4;
     draw_bands(
         surface,
         scratch,
@@ -182,7 +182,7 @@ fn fill_with(
     );
 }
 
-// Band after band of the target's rows. What the buffer, five bytes to a pixel of a row, and the runs hold afterwards is free.
+// Band after band of the target's rows. What the buffer, four bytes to a pixel of a row, and the runs hold afterwards is free.
 fn draw_bands(
     surface: &mut [u8],
     scratch: &mut [i32],
@@ -459,7 +459,7 @@ fn shade_row(
     }
 }
 
-// The same through the mask: k of each pixel, and behind it the paint of each, whatever its k.
+// The same through the mask: the paint of each pixel is made, whatever its k.
 fn shade_masked(
     row: &mut [u8],
     ramp: &[u32],
@@ -480,11 +480,11 @@ fn shade_masked(
         ⌝ }
 {
     let n = strip.length;
-    let m = n * 5;
+    let m = n * 4;
     let shade = style.shade;
-    runs::expand_row(runs, count, &mut buffer[0..n]);
-    paint_row(ramp, &mut buffer[n..m], shade, strip);
-    blend::composite_row_masked(style.mode, &buffer[0..n], mask, &buffer[n..m], row);
+    paint_row(ramp, &mut buffer[0..m], shade, strip);
+    let all = Range { from: 0, to: count };
+    blend::composite_masked_runs(style.mode, runs, count, all, mask, &buffer[0..m], row, n);
 }
 
 // The paint of each pixel.

@@ -168,7 +168,7 @@ fn shade_part(
 )
     requires { ⌜ HeldGradient (g .gradient) (now ramp) ⌝ }
     requires { ⌜ OnSurface strip × PartOfRow (now runs) part (strip .length) ⌝ }
-    requires { ⌜ (length (now row) ≡ (startOf (now runs) (part .to) - startOf (now runs) (part .from)) * 4) × (length (now buffer) ≡ strip .length * 5) ⌝ }
+    requires { ⌜ (length (now row) ≡ (startOf (now runs) (part .to) - startOf (now runs) (part .from)) * 4) × (length (now buffer) ≡ strip .length * 4) ⌝ }
     ensures { λ _. ⌜
         now (row .exit)
         ≡ run (startOf (now (runs .entry)) (part .to) - startOf (now (runs .entry)) (part .from))

@@ -16,7 +16,7 @@ narrow c =
 
 -- and has room in what is lent
 wide-enough : (c : tie.Start)
-    → let n = c .args .fill .target .area .x1 - c .args .fill .target .area .x0 in (n * 5 ≤ length (c .args .buffer .now)) × (n ≤ length (c .args .runs .now))
+    → let n = c .args .fill .target .area .x1 - c .args .fill .target .area .x0 in (n * 4 ≤ length (c .args .buffer .now)) × (n ≤ length (c .args .runs .now))
 wide-enough c = (omega (arith, narrow c .1, c .pre .1 .1 .0 .1), omega (arith, narrow c .1, c .pre .1 .1 .0 .2))
 
 draw-bands-requires : tie.Need-draw-bands-requires
@@ -26,7 +26,7 @@ draw-bands-requires c κs =
     let p = entry .pre in
     let o = p .1 .1 .0 in
     let n = a .fill .target .area .x1 - a .fill .target .area .x0 in
-    let buffer = part-length (a .buffer .now) 0 (n * 5) (omega arith) (wide-enough entry .0) in
+    let buffer = part-length (a .buffer .now) 0 (n * 4) (omega arith) (wide-enough entry .0) in
     let runs = part-length (a .runs .now) 0 n (omega arith) (wide-enough entry .1) in
     (p .0, (p .1 .0, ((o .0, (buffer ∙ omega arith, runs ∙ omega arith)), p .1 .1 .1)))
 
