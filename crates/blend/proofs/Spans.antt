@@ -1,11 +1,10 @@
--- Spans and runs: pixels of a row that are covered alike, and parts of a row that are lent.
+-- Parts of a row that are lent, and the runs of a row.
 use mathlib.Core.Path.{_≡_, refl, ap, subst, _∙_}
 use mathlib.Core.List.{List, _++_}
 use Prim.Native.Nat.{ℕ, suc, _+_, _-_, _*_, _≤_, _<_}
 use native.Mathlib.Omega.{arith}
 use lib.ListN.{length, getD, take, drop, length-take}
 use lib.Seq.{getD-take, getD-drop}
-use borrow.Author.Count.{below-more}
 use Rattle.runs.specs.Runs.{endOf, startOf, levelOf, expand, Runs}
 use Rattle.runs.proofs.Expand.{starts-rise, runs-length, runs-at, runs-within}
 use Rattle.color.specs.declared.Pixel.{Pixel}
@@ -14,22 +13,6 @@ use Rattle.raster.specs.Rows.{Stored}
 use Rattle.raster.proofs.Pixels.{run-length, run-at, pixel-take, pixel-drop}
 use Rattle.raster.proofs.Runs.{run-is, run-same, stored-part, part-pixel}
 use Rattle.blend.specs.Rows.{Coverage}
-use Rattle.blend.specs.Spans.{Span}
-
--- a span of one pixel, and of one pixel more
-pub span-one : (ks : List ℕ) (i : ℕ) → i < length ks → Span ks i (i + 1)
-span-one ks i h = record {
-  some = omega arith;
-  within = omega arith;
-  level = λ j a b. ap (λ (k : ℕ). getD ks k 0) (omega arith);
-}
-
-pub span-more : (ks : List ℕ) (i e : ℕ) → Span ks i e → e < length ks → getD ks e 0 ≡ getD ks i 0 → Span ks i (e + 1)
-span-more ks i e t h q = record {
-  some = omega arith;
-  within = omega arith;
-  level = λ j a b. below-more (λ j. i ≤ j → getD ks j 0 ≡ getD ks i 0) e (λ j b a. t .level j a b) (λ a. q) j b a;
-}
 
 -- a turn of a loop that has g done at every pixel: a part is lent, and h is done at every pixel of it
 pub part-turn : (g h : ℕ → Pixel → Pixel) (s d q : List ℕ) (i e : ℕ) → i ≤ e → e * 4 ≤ length d → Stored (λ j. g j (pixelIn d j)) d i s

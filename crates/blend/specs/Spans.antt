@@ -1,22 +1,16 @@
--- What the row functions go by: pixels that are covered alike, and a paint that hides what is under it. Bookkeeping of the engine: no promise to a
+-- What the row functions go by: runs of a row, and a paint that hides what is under it. Bookkeeping of the engine: no promise to a
 -- caller outside cites it, and a reviewer of the paper need not read it.
 use mathlib.Core.Path.{_≡_}
 use mathlib.Core.Bool.{Bool, true, false, cond}
 use mathlib.Core.List.{List}
-use Prim.Native.Nat.{ℕ, _+_, _-_, _*_, _≤_, _<_}
+use Prim.Native.Nat.{ℕ, _+_, _-_, _*_, _<_}
 use lib.Dec.{eqb}
-use lib.ListN.{length, getD}
+use lib.ListN.{length}
 use Rattle.runs.specs.Runs.{startOf}
 use Rattle.color.specs.declared.Pixel.{Pixel}
 use Rattle.raster.specs.declared.Range.{Range}
 use Rattle.raster.specs.Surface.{pixelIn}
 use Rattle.blend.specs.PorterDuff.{modeSrc, modeSrcOver, blended, stored, storedUnmasked}
-
--- from i to before e every pixel has the coverage of i
-pub record Span (ks : List ℕ) (i e : ℕ) : Type 0 where
-  pub some : i < e
-  pub within : e ≤ length ks
-  pub level : (j : ℕ) → i ≤ j → j < e → getD ks j 0 ≡ getD ks i 0
 
 -- how many pixels the runs from one to before another have
 abbrev pub lengthOf : List ℕ → Range → ℕ

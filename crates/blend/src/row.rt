@@ -1,4 +1,4 @@
-// The step along a part of a row, by its coverage as bytes or as runs, with a mask or without. The row's pixels are taken as they stand: who lends
+// The step along the runs of a row, with a mask or without. The row's pixels are taken as they stand: who lends
 // one with stray bytes clamps it first.
 use crate::masked::composite_masked;
 use crate::span::composite_painted;
@@ -12,81 +12,7 @@ ghost use Rattle.runs.specs.Runs.{startOf, expand, Runs};
 ghost use Rattle.raster.specs.Surface.{run, pixelIn};
 ghost use Rattle.blend.specs.PorterDuff.{compositeOn};
 ghost use Rattle.blend.specs.Rows.{Coverage, compositeRow};
-ghost use Rattle.blend.specs.Spans.{Span, lengthOf};
-
-// A paint of one pixel for each pixel of the row. Pixels with one coverage are taken together.
-pub fn composite_row(mode: u16, coverage: &[u8], src: &[u8], row: &mut [u8])
-    requires { ⌜ (length (now src) ≡ length (now coverage) * 4) × (length (now row) ≡ length (now coverage) * 4) ⌝ }
-    requires { ⌜ Coverage (now coverage) ⌝ }
-    ensures { λ _. ⌜ now (row .exit) ≡ compositeRow mode (now (coverage .entry)) (λ i. 255) (pixelIn (now (src .entry))) (now (row .entry)) ⌝ }
-{
-    let mut i = 0;
-    while i < coverage.len() {
-        let e = span_end(coverage, i);
-        let from = i * 4;
-        let to = e * 4;
-        composite_painted(mode, coverage[i], &src[from..to], &mut row[from..to], e - i);
-        i = e;
-    }
-}
-
-// The same through a mask of one byte for each pixel.
-pub fn composite_row_masked(mode: u16, coverage: &[u8], mask: &[u8], src: &[u8], row: &mut [u8])
-    requires { ⌜ (length (now src) ≡ length (now coverage) * 4) × (length (now row) ≡ length (now coverage) * 4) ⌝ }
-    requires { ⌜ Coverage (now coverage) × (length (now mask) ≡ length (now coverage)) ⌝ }
-    ensures { λ _. ⌜
-        now (row .exit)
-        ≡ compositeRow mode (now (coverage .entry)) (λ i. getD (now (mask .entry)) i 0) (pixelIn (now (src .entry))) (now (row .entry))
-        ⌝ }
-{
-    let mut i = 0;
-    while i < coverage.len() {
-        let e = span_end(coverage, i);
-        let from = i * 4;
-        let to = e * 4;
-        composite_masked(
-            mode,
-            coverage[i],
-            &mask[i..e],
-            &src[from..to],
-            &mut row[from..to],
-            e - i,
-        );
-        i = e;
-    }
-}
-
-// A paint of one pixel for all of the row.
-pub fn composite_run(mode: u16, coverage: &[u8], src: Pixel, row: &mut [u8])
-    requires { ⌜ length (now row) ≡ length (now coverage) * 4 ⌝ }
-    requires { ⌜ Coverage (now coverage) ⌝ }
-    ensures { λ _. ⌜ now (row .exit) ≡ compositeRow mode (now (coverage .entry)) (λ i. 255) (λ i. src) (now (row .entry)) ⌝ }
-{
-    let mut i = 0;
-    while i < coverage.len() {
-        let e = span_end(coverage, i);
-        let from = i * 4;
-        let to = e * 4;
-        composite_span(mode, coverage[i], src, &mut row[from..to], e - i);
-        i = e;
-    }
-}
-
-// Where the pixels that are covered like the pixel at i end.
-fn span_end(coverage: &[u8], i: usize) -> usize
-    requires { ⌜ i < length (now coverage) ⌝ }
-    ensures { λ e. ⌜ Span (now (coverage .entry)) i e ⌝ }
-{
-    let k = coverage[i];
-    let mut e = i + 1;
-    while e < coverage.len() {
-        if coverage[e] != k {
-            return e;
-        }
-        e += 1;
-    }
-    e
-}
+ghost use Rattle.blend.specs.Spans.{lengthOf};
 
 // A paint of one pixel for all of a row of w pixels, by the n runs of its coverage.
 pub fn composite_runs(mode: u16, runs: &[u16], n: usize, src: Pixel, row: &mut [u8], w: usize)
@@ -128,7 +54,7 @@ pub fn composite_painted_runs(
         ⌝ }
 {
     let end = some.to;
-    let first = start_of(runs, some.from);
+    let first = runs::start(runs, some.from);
     let mut j = some.from;
     let mut a = 0;
     while j < end {
@@ -169,7 +95,7 @@ pub fn composite_masked_runs(
         ⌝ }
 {
     let end = some.to;
-    let first = start_of(runs, some.from);
+    let first = runs::start(runs, some.from);
     let mut j = some.from;
     let mut a = 0;
     while j < end {
@@ -187,15 +113,4 @@ pub fn composite_masked_runs(
         a = e;
         j += 1;
     }
-}
-
-// Where run j begins.
-fn start_of(runs: &[u16], j: usize) -> usize
-    requires { ⌜ j ≤ length (now runs) ⌝ }
-    ensures { λ r. ⌜ r ≡ startOf (now (runs .entry)) j ⌝ }
-{
-    if j == 0 {
-        return 0;
-    }
-    (runs[j - 1] / 32) as usize
 }

@@ -30,10 +30,10 @@ entry c = c .before .before .before .before .before .before .before
 
 -- the run of the turn
 turn : (c : tie.In-loop Inv-loop μ-loop) → let l = c .before .loop in let a = entry c .args in
-    LentRun (a .runs .now) (l .j) (c .before .before .start-of .result) (l .a) (length (a .src .now))
+    LentRun (a .runs .now) (l .j) (c .before .before .start .result) (l .a) (length (a .src .now))
 turn c =
     let l = c .before .loop in
-    let first = c .before .before .start-of in
+    let first = c .before .before .start in
     let a = entry c .args in
     let p = entry c .pre in
     run-lent (a .runs .now) (a .n) (a .w) (p .0 .0) (l .j) (a .some .to) (first .result) (l .a) (length (a .src .now))
@@ -50,7 +50,7 @@ mask-long c = ap (λ (m : ℕ). m * 4) (entry c .pre .1 .1 .1) ∙ sym (entry c 
 loop-holds : tie.Need-loop-holds Inv-loop μ-loop
 loop-holds c =
     let start = c .before .before .before .before .before in
-    (start .pre .0 .1, omega (arith, c .start-of .ensures), stored-none _ _)
+    (start .pre .0 .1, omega (arith, c .start .ensures), stored-none _ _)
 
 composite-masked-requires : tie.Need-composite-masked-requires Inv-loop μ-loop
 composite-masked-requires c κs =
@@ -59,7 +59,7 @@ composite-masked-requires c κs =
     let start = entry test in
     let a = start .args in
     let l = at-loop .loop in
-    let e = endOf (a .runs .now) (l .j) - at-loop .before .start-of .result in
+    let e = endOf (a .runs .now) (l .j) - at-loop .before .start .result in
     let t = turn test in
     let low : l .a * 4 ≤ e * 4 = omega (arith, t .some) in
     let size : e * 4 - l .a * 4 ≡ (e - l .a) * 4 = omega arith in (
@@ -78,7 +78,7 @@ loop-again c =
     let a = start .args in
     let l = at-loop .loop in
     let runs = a .runs .now in
-    let first = at-loop .before .start-of .result in
+    let first = at-loop .before .start .result in
     let e = endOf runs (l .j) - first in
     let t = turn test in
     let below : l .j < a .n = omega (arith, test .loop-test .taken, start .pre .0 .2) in
@@ -107,7 +107,7 @@ returns c =
     let a = start .args in
     let l = at-loop .loop in
     let runs = a .runs .now in
-    let first = at-loop .before .start-of in
+    let first = at-loop .before .start in
     let all : l .j ≡ a .some .to = omega arith in
     let n = lengthOf runs (a .some) in
     let step : ℕ → ℕ → Pixel = λ f i.

@@ -32,10 +32,10 @@ entry c = c .before .before .before .before .before .before
 
 -- the run of the turn
 turn : (c : tie.In-loop Inv-loop μ-loop) → let l = c .before .loop in let a = entry c .args in
-    LentRun (a .runs .now) (l .j) (c .before .before .start-of .result) (l .a) (length (a .src .now))
+    LentRun (a .runs .now) (l .j) (c .before .before .start .result) (l .a) (length (a .src .now))
 turn c =
     let l = c .before .loop in
-    let first = c .before .before .start-of in
+    let first = c .before .before .start in
     let a = entry c .args in
     let p = entry c .pre in
     run-lent (a .runs .now) (a .n) (a .w) (p .0 .0) (l .j) (a .some .to) (first .result) (l .a) (length (a .src .now))
@@ -49,7 +49,7 @@ long c = c .before .loop .inv .2 .long ∙ entry c .pre .1 .0 .1 ∙ sym (entry 
 loop-holds : tie.Need-loop-holds Inv-loop μ-loop
 loop-holds c =
     let entry = c .before .before .before .before in
-    (entry .pre .0 .1, omega (arith, c .start-of .ensures), stored-none _ _)
+    (entry .pre .0 .1, omega (arith, c .start .ensures), stored-none _ _)
 
 composite-painted-requires : tie.Need-composite-painted-requires Inv-loop μ-loop
 composite-painted-requires c κs =
@@ -58,7 +58,7 @@ composite-painted-requires c κs =
     let start = entry test in
     let a = start .args in
     let l = at-loop .loop in
-    let e = endOf (a .runs .now) (l .j) - at-loop .before .start-of .result in
+    let e = endOf (a .runs .now) (l .j) - at-loop .before .start .result in
     let t = turn test in
     let low : l .a * 4 ≤ e * 4 = omega (arith, t .some) in
     let size : e * 4 - l .a * 4 ≡ (e - l .a) * 4 = omega arith in (
@@ -76,7 +76,7 @@ loop-again c =
     let a = start .args in
     let l = at-loop .loop in
     let runs = a .runs .now in
-    let first = at-loop .before .start-of .result in
+    let first = at-loop .before .start .result in
     let e = endOf runs (l .j) - first in
     let t = turn test in
     let below : l .j < a .n = omega (arith, test .loop-test .taken, start .pre .0 .2) in
@@ -100,7 +100,7 @@ returns c =
     let a = entry .args in
     let l = at-loop .loop in
     let runs = a .runs .now in
-    let first = at-loop .before .start-of in
+    let first = at-loop .before .start in
     let all : l .j ≡ a .some .to = omega arith in
     let n = lengthOf runs (a .some) in
     let size : l .a ≡ n = omega (arith, l .inv .1, ap (startOf runs) all, first .ensures) in
