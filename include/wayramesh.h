@@ -195,8 +195,8 @@ typedef struct wayramesh_answer {
  *                         does not matter.
  *
  * No pointer may be NULL; one to a run of length 0 is not read or written. A panel takes some milliseconds; the largest
- * scene that the format allows, 64 draws of 2,048 edges each over 1,024 by 1,024 pixels, takes more than a second, and
- * less with more scratch (docs/SPEED.md).
+ * scene that the format allows, 64 draws of 2,048 edges each over 1,024 by 1,024 pixels, takes about a second, and less
+ * with more scratch: from 24,580 numbers on no row is cut into windows (docs/SPEED.md).
  */
 wayramesh_answer wayramesh_draw(wayramesh_context *context,
                                 const uint8_t *scene, size_t scene_len,
