@@ -1,6 +1,7 @@
 //! Times full drawings and quick redraws through libwayramesh.a, and prints a table.
 //!
 //!     cargo run --offline --release -p bench [SECONDS [PART]]
+//!     cargo run --offline --release -p bench SECONDS file SCENE..
 //!
 //! Each part takes about SECONDS (2); all are timed, or the named one. A workload is a scene and its next frame: `panel`,
 //! `panel small`, `panel night`, `largest`. Full drawings and redraws take turns in one run: a frame is drawn, then redrawn to the other.
@@ -8,11 +9,12 @@
 //! one. Then come the stages of the full drawing of the first frame. The other parts are `paints`, a full drawing in each
 //! kind of paint, `blending`, blended pixels alone, `masks`, a lamp under masks, `plain`, the plain engine beside the quick one,
 //! `plans`, a redraw in one area and in planned rectangles, `compare`, and `replay`, a minute of the panel in one call and call
-//! by call.
+//! by call. With `file` the named scenes are drawn in full, in turn.
 #![forbid(unsafe_code)]
 
 mod blending;
 mod compare;
+mod files;
 mod masks;
 mod plain;
 mod plans;
@@ -29,9 +31,10 @@ use workloads::Workload;
 
 const HELP: &str = "\
 usage: bench [SECONDS [PART]]
+       bench SECONDS file SCENE..
 
 Times calls of the library, each for so many seconds, 2 if none are given, and prints a table. A part alone is one of its
-workloads by name, or paints, blending, masks, plain or compare.
+workloads by name, or paints, blending, masks, plain, plans, compare or replay. With file the named scenes are drawn in full.
 ";
 
 fn main() {
@@ -42,6 +45,12 @@ fn main() {
         _ => tool::usage(HELP),
     };
     let chosen = arguments.get(1);
+    if chosen.map_or(false, |part| part == "file") {
+        if arguments.len() == 2 {
+            tool::usage(HELP);
+        }
+        return files::print(&arguments[2..], budget);
+    }
     let wanted = |part: &str| chosen.map_or(true, |name| name == part);
     print_workloads(workloads::all().into_iter().filter(|workload| wanted(workload.name)).collect(), budget);
     if wanted("paints") {

@@ -37,7 +37,7 @@ lent : (c : tie.After-row-bytes Inv-loop μ-loop)
     (maskAt (a .fill .target .width) (a .mask .now) u v) u v)
     (a .surface .now) (at-loop .loop .y) (at-loop .loop .surface) (r .from) (r .to)
 lent c =
-    let entry = entry in
+    let entry = c .before .before .before .before .before .before .before .before .before .before .before .before in
     let a = entry .args in
     let r = c .row-bytes in
     row-lent (a .fill .target) _ (a .surface .now) (entry .pre .1 .1 .0 .0) (c .before .before .loop .inv .0) (c .before .loop-test .taken) (r .result .from)
@@ -53,7 +53,7 @@ through : (c : tie.After-mask-bytes Inv-loop μ-loop)
 through c =
     let in-loop = c .before .before in
     let at-loop = in-loop .before in
-    let entry = entry in
+    let entry = at-loop .before .before .before .before .before .before .before .before .before .before in
     let a = entry .args in
     let r = c .before .row-bytes in
     let m = c .mask-bytes in
