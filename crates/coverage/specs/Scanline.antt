@@ -13,7 +13,7 @@ use Rattle.fixed.specs.Little.{i32At}
 use Rattle.path.specs.declared.Edge.{Edge}
 use Rattle.path.specs.Stored.{edgeAt, edgesOf, Small}
 use Rattle.coverage.specs.declared.Start.{Start}
-use Rattle.coverage.specs.declared.Taken.{Taken}
+use Rattle.coverage.specs.declared.Windings.{Windings}
 use Rattle.coverage.specs.declared.Cell.{Cell}
 use Rattle.coverage.specs.declared.Span.{Span}
 use Rattle.coverage.specs.Winding.{upward, spans, weight, sumOf, insideBy, oneIf, tally, sample}
@@ -101,6 +101,22 @@ abbrev pub Low : ℤ → Type 0
 Low z = natAbs z ≤ 1000000
 
 -- the running sums of four columns from z on
+unfoldable pub windingsFrom : ℤ → ℤ → ℤ → ℤ → ℤ → Windings
+windingsFrom z a b c d = record { a = z +ℤ a; b = z +ℤ a +ℤ b; c = z +ℤ a +ℤ b +ℤ c; d = z +ℤ a +ℤ b +ℤ c +ℤ d }
+
+-- how many of the four are inside
+unfoldable pub insideOf : Bool → Windings → ℕ
+insideOf nonZero w =
+    oneIf (insideBy nonZero (w .a)) + oneIf (insideBy nonZero (w .b)) + oneIf (insideBy nonZero (w .c)) + oneIf (insideBy nonZero (w .d))
+
+-- a sample row of a pixel: the last winding number, and how many are inside
+pub record Taken : Type 0 where
+  pub sum : ℤ
+  pub count : ℕ
+
+abbrev pub takenOf : Bool → Windings → Taken
+takenOf nonZero w = record { sum = w .d; count = insideOf nonZero w }
+
 unfoldable pub takenFrom : Bool → ℤ → ℤ → ℤ → ℤ → ℤ → Taken
 takenFrom nonZero z a b c d = record {
   sum = z +ℤ a +ℤ b +ℤ c +ℤ d;
