@@ -9,7 +9,8 @@ ghost use lib.Dec.{eqb};
 ghost use lib.ListN.{length};
 ghost use Rattle.lists.specs.Lists.{tab};
 ghost use Rattle.coverage.specs.Winding.{insideBy, oneIf};
-ghost use Rattle.coverage.specs.Scanline.{at, laid, zeros, Low, windingsFrom, insideOf, takenOf, cellOf, cellFrom, cellAfter, pixelOf, Bounded, Marked, Tame};
+ghost use Rattle.coverage.specs.Scanline.{at, laid, zeros, Low, windingsFrom, insideOf, takenOf};
+ghost use Rattle.coverage.specs.Scanline.{cellOf, cellFrom, cellAfter, pixelOf, Bounded, Marked, Tame};
 
 // 1 where the winding number is not zero.
 fn not_zero(w: i32) -> u8

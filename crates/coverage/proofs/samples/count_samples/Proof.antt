@@ -27,8 +27,11 @@ add-result-3 c = search needs
 
 returns : tie.Need-returns
 returns c =
-    rw (c .before .before .before .before .if1 .taken)
-    (four-counts (c .before .before .before .not-zeros .ensures .0) (c .before .before .not-zeros2 .ensures .0) (c .before .not-zeros3 .ensures .0) (c .not-zeros4 .ensures .0))
+    let third = c .before in
+    let second = third .before in
+    let first = second .before in
+    rw (first .before .if1 .taken)
+    (four-counts (first .not-zeros .ensures .0) (second .not-zeros2 .ensures .0) (third .not-zeros3 .ensures .0) (c .not-zeros4 .ensures .0))
 
 odds-requires : tie.Need-odds-requires
 odds-requires c κs = search needs
@@ -53,7 +56,10 @@ add-result-6 c = search needs
 
 returns-2 : tie.Need-returns-2
 returns-2 c =
-    rw (c .before .before .before .before .if1 .left) (four-counts (c .before .before .before .odds .ensures .0) (c .before .before .odds2 .ensures .0) (c .before .odds3 .ensures .0) (c .odds4 .ensures .0))
+    let third = c .before in
+    let second = third .before in
+    let first = second .before in
+    rw (first .before .if1 .left) (four-counts (first .odds .ensures .0) (second .odds2 .ensures .0) (third .odds3 .ensures .0) (c .odds4 .ensures .0))
 
 pub count-samples-spec : {M : Type 1} → statement M
 count-samples-spec =
