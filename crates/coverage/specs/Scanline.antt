@@ -60,6 +60,10 @@ sumsAt c k y es i = starts c k (sample (4 * y + i % 4)) es (i / 4)
 abbrev pub missed : ℤ → ℤ → ℕ → Bool
 missed y0 y1 y = cond (leZ y0 (sample (4 * y))) (leZ y1 (sample (4 * y))) (ltZ (sample (4 * y + 3)) y0 && ltZ (sample (4 * y + 3)) y1)
 
+-- an edge with such ends lies right of every sample before the column c
+abbrev pub beyond : ℤ → ℤ → ℕ → Bool
+beyond x0 x1 c = leZ (pos (64 * c)) x0 && leZ (pos (64 * c)) x1
+
 -- v added to number i
 abbrev pub bumped : List ℤ → ℕ → ℤ → List ℤ
 bumped l i v = set l i (getD l i (pos 0) +ℤ v)
