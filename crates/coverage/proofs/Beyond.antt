@@ -1,7 +1,7 @@
 -- An edge right of a window begins nothing in it.
-use mathlib.Core.Path.{_≡_, refl, sym, ap, subst, _∙_}
+use mathlib.Core.Path.{_≡_, sym, ap, subst, _∙_}
 use mathlib.Core.List.{List, [], _∷_, _++_}
-use mathlib.Core.Bool.{Bool, true, cond}
+use mathlib.Core.Bool.{true, cond}
 use Prim.Native.Nat.{ℕ, zero, suc, _+_, _*_, _/_, _%_, _<_}
 use native.Mathlib.Omega.{arith}
 use lib.Dec.{T, eqb}
@@ -10,7 +10,7 @@ use lib.Signed.{leZ, _<ℤ_, leZ-yes}
 use Rattle.fixed.proofs.Poly.{var, num, lt, from-le}
 use Rattle.fixed.proofs.Tests.{both-left, both-right}
 use Rattle.path.specs.declared.Edge.{Edge}
-use Rattle.outline.proofs.Every.{Every, none, more}
+use Rattle.outline.proofs.Every.{none, more}
 use Rattle.coverage.specs.Winding.{weight, sumOf, sample}
 use Rattle.coverage.specs.Scanline.{startAt, starts, running, sumsAt, beyond}
 use Rattle.coverage.proofs.Sums.{sum-more, running-starts}

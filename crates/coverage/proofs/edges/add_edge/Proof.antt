@@ -17,7 +17,8 @@ use Rattle.coverage.specs.Marks.{Grouped}
 use Rattle.coverage.specs.Winding.{sample}
 use Rattle.coverage.proofs.Begin.{clean}
 use Rattle.coverage.proofs.Starts.{partly, by-small}
-use Rattle.coverage.proofs.Turn.{miss-sums, miss-marks, beyond-sums, beyond-marks, first-sums, first-marks, next-sums, next-marks, last-sums, last-marks, sums-small}
+use Rattle.coverage.proofs.Turn.{miss-sums, miss-marks, beyond-sums, beyond-marks}
+use Rattle.coverage.proofs.Turn.{first-sums, first-marks, next-sums, next-marks, last-sums, last-marks, sums-small}
 use borrow.Author.Needs.{needs}
 use Rattle.coverage.proofs.edges.add_edge.Statement.{statement}
 use Rattle.coverage.proofs.edges.add_edge.Tie as tie
@@ -226,7 +227,10 @@ same-length-4 : tie.Need-same-length-4 Inv-loop μ-loop
 same-length-4 c = search needs
 
 same-length-5 : tie.Need-same-length-5 Inv-loop μ-loop
-same-length-5 c = c .before .loop .inv .5 .long ∙ sym (c .before .before .before .before .before .before .before .before .before .before .before .before .before .before .pre .0 .3 .long)
+same-length-5 c =
+    let turn = c .before in
+    let entry = turn .before .before .before .before .before .before .before .before .before .before .before .before .before in
+    turn .loop .inv .5 .long ∙ sym (entry .pre .0 .3 .long)
 
 returns-3 : tie.Need-returns-3 Inv-loop μ-loop
 returns-3 c =

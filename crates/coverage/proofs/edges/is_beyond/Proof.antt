@@ -8,7 +8,6 @@ use lib.Signed.{leZ}
 use mir.Syntax.{w32}
 use mir.Val.{toZ, ofZ}
 use mir.Facts.{toZ-ofZ, toZ-pos}
-use borrow.Author.Needs.{needs}
 use Rattle.coverage.proofs.edges.is_beyond.Statement.{statement}
 use Rattle.coverage.proofs.edges.is_beyond.Tie as tie
 
