@@ -6,11 +6,11 @@ use Prim.Native.Nat.{ℕ, zero, suc, _+_, _-_, _*_, _/_, _%_, _≤_, _<_}
 use native.Mathlib.Nat.{eq-or-lt-of-le, le-of-suc-le-suc, not-suc-le-zero}
 use native.Mathlib.Omega.{arith}
 use native.Mathlib.Decide.{ℕ-discrete}
-use lib.ListN.{length, getD, set, replicate, length-append, length-replicate, getD-replicate, replicate-append-replicate, List·getD-append}
+use lib.ListN.{length, getD, set, take, drop, replicate, length-append, length-replicate, getD-replicate, replicate-append-replicate, List·getD-append}
 use lib.Seq.{getD-append-add, getD-set-same, getD-set-other}
 use borrow.Author.Count.{below-more}
-use Rattle.lists.specs.Lists.{upto, tab}
-use Rattle.lists.proofs.Laws.{upto-same, upto-more, tab-length, tab-at, tab-ext}
+use Rattle.lists.specs.Lists.{upto, tab, over}
+use Rattle.lists.proofs.Laws.{upto-same, upto-more, tab-length, tab-at, tab-ext, over-part}
 use Rattle.runs.specs.Runs.{endOf, startOf, levelOf, expand, Runs}
 
 one-more : (j : ℕ) → j + 1 ≡ suc j
@@ -90,6 +90,24 @@ module _ (runs : List ℕ) (n w : ℕ) (r : Runs runs n w) where
 
   pub runs-within : (j : ℕ) → j < n → endOf runs j ≤ w
   runs-within j h = omega (arith, starts-rise runs n (r .rises) (suc j) n (omega arith) (omega arith), r .last)
+
+  pub first-length : (j : ℕ) → j ≤ n → length (expand runs j) ≡ startOf runs j
+  first-length j h = expand-length runs n (r .rises) j h
+
+  -- run j laid after those before it, into a row d of w k's: the part that is lent for it and given back
+  pub laid-run : (j : ℕ) → j < n → (s d q : List ℕ) → length d ≡ w → s ≡ over (expand runs j) d
+      → q ≡ tab (endOf runs j - startOf runs j) (λ i. levelOf runs j)
+      → take (startOf runs j) s ++ (q ++ drop (endOf runs j - startOf runs j) (drop (startOf runs j) s)) ≡ over (expand runs (j + 1)) d
+  laid-run j h s d q l o g =
+      ap (λ (t : List ℕ). take (startOf runs j) t ++ (q ++ drop (endOf runs j - startOf runs j) (drop (startOf runs j) t))) o
+      ∙ over-part (expand runs j) d q (startOf runs j) (endOf runs j - startOf runs j) (first-length j (omega arith))
+      (ap length g ∙ tab-length (endOf runs j - startOf runs j) (λ i. levelOf runs j)) (omega (arith, r .rises j h, runs-within j h))
+      ∙ ap (λ (t : List ℕ). over t d)
+      (ap (λ (t : List ℕ). expand runs j ++ t) (g ∙ level (endOf runs j - startOf runs j) (levelOf runs j))
+      ∙ sym (upto-more j (λ i. replicate (endOf runs i - startOf runs i) (levelOf runs i))))
+    where
+      level : (m k : ℕ) → tab m (λ i. k) ≡ replicate m k
+      level m k = sym (tab-ext 0 (replicate m k) m (λ i. k) (length-replicate m k) (λ i b. getD-replicate m i k 0 b))
 
   -- a run of its own, in the place of any number
   pub push-runs : (e k : ℕ) → k < 32 → w < e → n < length runs → Runs (set runs n (e * 32 + k)) (n + 1) e

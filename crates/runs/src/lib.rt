@@ -2,8 +2,9 @@
 ghost use mathlib.Core.Path.{_≡_};
 ghost use mathlib.Core.Bool.{true};
 ghost use mathlib.Core.List.{_++_};
-ghost use Prim.Native.Nat.{_+_, _-_, _*_, _≤_, _<_};
-ghost use lib.ListN.{length, replicate};
+ghost use Prim.Native.Nat.{ℕ, _+_, _-_, _*_, _≤_, _<_};
+ghost use lib.ListN.{length, getD, replicate};
+ghost use Rattle.lists.specs.Lists.{tab};
 ghost use Rattle.runs.specs.Runs.{levelOf, expand, Runs};
 
 // The pixels from p up to e, all with k, after the n runs of p pixels. Returns how many runs there are then.
@@ -34,4 +35,46 @@ fn extends(runs: &[u16], n: usize, k: u8) -> bool
         return false;
     }
     runs[n - 1] % 32 == (k as u16)
+}
+
+// k of each pixel of the n runs.
+pub fn expand_row(runs: &[u16], n: usize, row: &mut [u8])
+    requires { ⌜ Runs (now runs) n (length (now row)) × (n ≤ length (now runs)) ⌝ }
+    ensures { λ _. ⌜ now (row .exit) ≡ expand (now (runs .entry)) n ⌝ }
+{
+    let mut a = 0;
+    let mut j = 0;
+    while j < n {
+        let e = (runs[j] / 32) as usize;
+        fill(&mut row[a..e], (runs[j] % 32) as u8);
+        a = e;
+        j += 1;
+    }
+}
+
+// All bytes k.
+fn fill(row: &mut [u8], k: u8)
+    ensures { λ _. ⌜ now (row .exit) ≡ tab (length (now (row .entry))) (λ j. k) ⌝ }
+{
+    let mut i = 0;
+    while i < row.len() {
+        row[i] = k;
+        i += 1;
+    }
+}
+
+// The runs of a row of k's. Returns how many there are.
+pub fn collect(row: &[u8], runs: &mut [u16]) -> usize
+    requires { ⌜ (length (now row) ≤ length (now runs)) × (length (now row) < 2048) ⌝ }
+    requires { ⌜ ((i : ℕ) → i < length (now row) → getD (now row) i 0 < 32) ⌝ }
+    ensures { λ n. ⌜ Runs (now (runs .exit)) n (length (now (row .entry))) × (length (now (runs .exit)) ≡ length (now (runs .entry))) ⌝ }
+    ensures { λ n. ⌜ expand (now (runs .exit)) n ≡ now (row .entry) ⌝ }
+{
+    let mut n = 0;
+    let mut i = 0;
+    while i < row.len() {
+        n = push(runs, n, i, i + 1, row[i]);
+        i += 1;
+    }
+    n
 }

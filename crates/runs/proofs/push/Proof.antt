@@ -61,6 +61,12 @@ returns-3 c =
       push-expand (a .runs .now) (a .n) (a .p) (entry .pre .0) (a .e) (a .k) g m,
     )
 
+slice-write : tie.Need-slice-write-runs-2
+slice-write c =
+    let test = c .before in
+    let entry = test .before .before .before .before in
+    omega (arith, few entry, entry .pre .1, test .before .before .if1 .left)
+
 pub push-spec : {M : Type 1} → statement M
 push-spec =
     tie.close
@@ -76,7 +82,7 @@ push-spec =
     (λ c. search needs)
     returns-2
     (λ c. omega (arith, few (c .before .before .before .before .before), c .before .before .before .before .before .pre .1))
-    (λ c. omega (arith, few (c .before .before .before .before .before), c .before .before .before .before .before .pre .1, c .before .before .before .if1 .left))
+    slice-write
     (λ c. omega (arith, few (c .before .before .before .before .before), c .before .before .before .before .before .pre .1))
     (λ c. search needs)
     returns-3)
