@@ -11,11 +11,10 @@ use lib.ListN.{length, getD, take, drop, length-take, length-drop, take-append-d
 use lib.Seq.{getD-append-add, getD-drop, getD-take}
 use Rattle.lists.specs.Lists.{over}
 use Rattle.lists.proofs.Laws.{tab-length, tab-ext, over-length, over-part}
-use Rattle.coverage.specs.declared.Taken.{Taken}
 use Rattle.coverage.specs.declared.Cell.{Cell}
 use Rattle.coverage.specs.Winding.{insideBy, oneIf, tally}
 use Rattle.coverage.specs.Scanline.{at, laid, zeros, running, rowOf, Bounded, Marked, Tame}
-use Rattle.coverage.specs.Scanline.{takenFrom, lineFrom, fullOf, cellOf, cellFrom, cellAfter, pixelOf}
+use Rattle.coverage.specs.Scanline.{Taken, takenFrom, lineFrom, fullOf, cellOf, cellFrom, cellAfter, pixelOf}
 use Rattle.coverage.proofs.Tally.{taken-law}
 use Rattle.coverage.proofs.Zeros.{zeros-join}
 

@@ -4,6 +4,7 @@ pub mod Sums
 pub mod Begin
 pub mod Laid
 pub mod Starts
+pub mod Beyond
 pub mod Turn
 pub mod Listed
 pub mod Tally

@@ -11,7 +11,7 @@ use mir.Val.{SFits, ofZ}
 use Rattle.fixed.proofs.Within.{fits}
 use Rattle.fixed.proofs.Signed.{zero-yes, zero-no}
 use Rattle.coverage.specs.Winding.{insideBy, oneIf, tally}
-use Rattle.coverage.specs.Scanline.{takenFrom, running}
+use Rattle.coverage.specs.Scanline.{windingsFrom, insideOf, takenOf, takenFrom, running}
 
 -- ---- an odd number, by its remainder
 abs-neg : (n : ℕ) → natAbs (negℤ (pos n)) ≡ n
@@ -34,6 +34,10 @@ odd-no w f e = sym (abs-rem w) ∙ zero-yes w32 (remZ w (pos 2)) (omega (arith, 
 -- ---- four columns
 pub four-counts : {p q r s e f g h : ℕ} → p ≡ e → q ≡ f → r ≡ g → s ≡ h → p + q + r + s ≡ e + f + g + h
 four-counts a b c d = rw (a, b, c, d)
+
+pub taken-is : (nonZero : Bool) (z a b c d : ℤ) → takenOf nonZero (windingsFrom z a b c d) ≡ takenFrom nonZero z a b c d
+unfolding takenFrom windingsFrom insideOf
+taken-is nonZero z a b c d = refl
 
 step : (f : ℕ → ℤ) (n m : ℕ) → m ≡ suc n → running f n +ℤ f n ≡ running f m
 step f n m e = sym (ap (running f) e)

@@ -17,7 +17,8 @@ use Rattle.path.specs.declared.Edge.{Edge}
 use Rattle.path.specs.Stored.{edgeAt, edgesOf, Small}
 use Rattle.coverage.specs.declared.Start.{Start}
 use Rattle.coverage.specs.Winding.{sample}
-use Rattle.coverage.specs.Scanline.{laid, zeros, starts, startOf, sumsAt, missed, bumped, withSums, Edges, Marked}
+use Rattle.coverage.specs.Scanline.{laid, zeros, starts, startOf, sumsAt, missed, beyond, bumped, withSums, Edges, Marked}
+use Rattle.coverage.proofs.Beyond.{beyond-more}
 use Rattle.coverage.proofs.Laid.{laid-at, laid-before, laid-set, laid-again, tab-bump}
 use Rattle.coverage.proofs.Laid.{tab-same}
 use Rattle.coverage.proofs.Starts.{partly, partly-none, partly-more, partly-all, partly-small, missed-more}
@@ -97,6 +98,18 @@ module _ (n w c y : ℕ) (l : List ℤ) (fit : n * 4 + w * 16 ≤ length l) (i :
 
     pub miss-marks : (d : List ℕ) → Marked d (sumsAt c (w * 4) y (edgesOf l i)) → Marked d (sumsAt c (w * 4) y (edgesOf l (i + 1)))
     miss-marks d = marks-more d (sumsAt c (w * 4) y (edgesOf l i)) (λ j. missed-more c (w * 4) y (edgesOf l i) (edgeAt l i) j q)
+
+  -- it lies right of the window
+  module _ (q : beyond (edgeAt l i .x0) (edgeAt l i .x1) (c + w * 4) ≡ true) where
+    same : (j : ℕ) → j < w * 16 → sumsAt c (w * 4) y (edgesOf l i) j ≡ sumsAt c (w * 4) y (edgesOf l (i + 1)) j
+    same j h =
+        beyond-more c (w * 4) (edgeAt l i) q y (edgesOf l i) j (omega arith) ∙ sym (ap (λ (k : ℕ). sumsAt c (w * 4) y (edgesOf l k) j) (add-one i))
+
+    pub beyond-sums : l ≡ withSums n w c y i l → l ≡ withSums n w c y (i + 1) l
+    beyond-sums o = o ∙ ap (laid (n * 4) (w * 16) l) (tab-same (w * 16) (sumsAt c (w * 4) y (edgesOf l i)) (sumsAt c (w * 4) y (edgesOf l (i + 1))) same)
+
+    pub beyond-marks : (d : List ℕ) → length d ≡ w → Marked d (sumsAt c (w * 4) y (edgesOf l i)) → Marked d (sumsAt c (w * 4) y (edgesOf l (i + 1)))
+    beyond-marks d e = mark-same d (sumsAt c (w * 4) y (edgesOf l i)) (sumsAt c (w * 4) y (edgesOf l (i + 1))) (λ j h. same j (omega (arith, e, h)))
 
   -- it does not: before the first sample row, in each, and after the last
   pub first-sums : l ≡ withSums n w c y i l → l ≡ laid (n * 4) (w * 16) l (tab (w * 16) (sumsUpTo 0))

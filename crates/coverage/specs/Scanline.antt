@@ -13,7 +13,7 @@ use Rattle.fixed.specs.Little.{i32At}
 use Rattle.path.specs.declared.Edge.{Edge}
 use Rattle.path.specs.Stored.{edgeAt, edgesOf, Small}
 use Rattle.coverage.specs.declared.Start.{Start}
-use Rattle.coverage.specs.declared.Taken.{Taken}
+use Rattle.coverage.specs.declared.Windings.{Windings}
 use Rattle.coverage.specs.declared.Cell.{Cell}
 use Rattle.coverage.specs.declared.Span.{Span}
 use Rattle.coverage.specs.Winding.{upward, spans, weight, sumOf, insideBy, oneIf, tally, sample}
@@ -60,6 +60,10 @@ sumsAt c k y es i = starts c k (sample (4 * y + i % 4)) es (i / 4)
 abbrev pub missed : ℤ → ℤ → ℕ → Bool
 missed y0 y1 y = cond (leZ y0 (sample (4 * y))) (leZ y1 (sample (4 * y))) (ltZ (sample (4 * y + 3)) y0 && ltZ (sample (4 * y + 3)) y1)
 
+-- an edge with such ends lies right of every sample before the column c
+abbrev pub beyond : ℤ → ℤ → ℕ → Bool
+beyond x0 x1 c = leZ (pos (64 * c)) x0 && leZ (pos (64 * c)) x1
+
 -- v added to number i
 abbrev pub bumped : List ℤ → ℕ → ℤ → List ℤ
 bumped l i v = set l i (getD l i (pos 0) +ℤ v)
@@ -101,6 +105,22 @@ abbrev pub Low : ℤ → Type 0
 Low z = natAbs z ≤ 1000000
 
 -- the running sums of four columns from z on
+unfoldable pub windingsFrom : ℤ → ℤ → ℤ → ℤ → ℤ → Windings
+windingsFrom z a b c d = record { a = z +ℤ a; b = z +ℤ a +ℤ b; c = z +ℤ a +ℤ b +ℤ c; d = z +ℤ a +ℤ b +ℤ c +ℤ d }
+
+-- how many of the four are inside
+unfoldable pub insideOf : Bool → Windings → ℕ
+insideOf nonZero w =
+    oneIf (insideBy nonZero (w .a)) + oneIf (insideBy nonZero (w .b)) + oneIf (insideBy nonZero (w .c)) + oneIf (insideBy nonZero (w .d))
+
+-- a sample row of a pixel: the last winding number, and how many are inside
+pub record Taken : Type 0 where
+  pub sum : ℤ
+  pub count : ℕ
+
+abbrev pub takenOf : Bool → Windings → Taken
+takenOf nonZero w = record { sum = w .d; count = insideOf nonZero w }
+
 unfoldable pub takenFrom : Bool → ℤ → ℤ → ℤ → ℤ → ℤ → Taken
 takenFrom nonZero z a b c d = record {
   sum = z +ℤ a +ℤ b +ℤ c +ℤ d;

@@ -13,7 +13,7 @@ ghost use lib.Dec.{ltb};
 ghost use lib.IntN.{pos, natAbs};
 ghost use lib.ListN.{length, getD, set};
 ghost use Rattle.path.specs.Stored.{edgesOf};
-ghost use Rattle.coverage.specs.Scanline.{laid, zeros, missed, bumped, sumsAt, withSums, Edges, Marked};
+ghost use Rattle.coverage.specs.Scanline.{laid, zeros, missed, beyond, bumped, sumsAt, withSums, Edges, Marked};
 ghost use Rattle.coverage.specs.Marks.{Grouped};
 ghost use Rattle.coverage.specs.Band.{Needed};
 
@@ -28,6 +28,15 @@ fn misses(y0: i32, y1: i32, y: usize) -> bool
         return y1 <= first;
     }
     if last < y0 { last < y1 } else { false }
+}
+
+// Whether an edge lies right of every sample before the column c.
+fn is_beyond(x0: i32, x1: i32, c: usize) -> bool
+    requires { ⌜ c < 2 ^ 24 ⌝ }
+    ensures { λ r. ⌜ r ≡ beyond x0 x1 c ⌝ }
+{
+    let right = (64 * c) as i32;
+    if right <= x0 { right <= x1 } else { false }
 }
 
 // Adds to the number of column at and sample row r, and marks its pixel and its group. Right of the window nothing is to be done.
@@ -70,7 +79,7 @@ fn add_edge(
     cover: &mut [u8],
     groups: &mut [u16],
 )
-    requires { ⌜ (i < n) × (y < 1024) × (c + length (now cover) * 4 < 2 ^ 31) × Grouped (now cover) (now groups) ⌝ }
+    requires { ⌜ (i < n) × (y < 1024) × (c + length (now cover) * 4 < 2 ^ 24) × Grouped (now cover) (now groups) ⌝ }
     requires { ⌜ Edges (now scratch) n (length (now cover) * 16) ⌝ }
     requires { ⌜ now scratch ≡ withSums n (length (now cover)) c y i (now scratch) ⌝ }
     requires { ⌜ Marked (now cover) (sumsAt c (length (now cover) * 4) y (edgesOf (now scratch) i)) ⌝ }
@@ -86,6 +95,11 @@ fn add_edge(
     }
     let base = n * 4;
     let k = cover.len() * 4;
+    let x0 = e.x0;
+    let x1 = e.x1;
+    if is_beyond(x0, x1, c + k) {
+        return;
+    }
     let mut r = 0;
     while r < 4 {
         let s = start(e, (64 * (4 * y + r) + 32) as i32, c, k);
@@ -105,7 +119,7 @@ pub fn add_edges(
     cover: &mut [u8],
     groups: &mut [u16],
 )
-    requires { ⌜ (y < 1024) × (c + length (now cover) * 4 < 2 ^ 31) × Grouped (now cover) (now groups) ⌝ }
+    requires { ⌜ (y < 1024) × (c + length (now cover) * 4 < 2 ^ 24) × Grouped (now cover) (now groups) ⌝ }
     requires { ⌜ Edges (now scratch) n (length (now cover) * 16) ⌝ }
     requires { ⌜ now scratch ≡ laid (n * 4) (length (now cover) * 16) (now scratch) (zeros (length (now cover) * 16)) ⌝ }
     ensures { λ _. ⌜ now (scratch .exit) ≡ withSums n (length (now (cover .entry))) c y n (now (scratch .entry)) ⌝ }
@@ -129,7 +143,7 @@ pub fn add_listed(
     cover: &mut [u8],
     groups: &mut [u16],
 )
-    requires { ⌜ (y < 1024) × (c + length (now cover) * 4 < 2 ^ 31) × Grouped (now cover) (now groups) ⌝ }
+    requires { ⌜ (y < 1024) × (c + length (now cover) * 4 < 2 ^ 24) × Grouped (now cover) (now groups) ⌝ }
     requires { ⌜ Edges (now scratch) n (length (now cover) * 16) ⌝ }
     requires { ⌜ now scratch ≡ laid (n * 4) (length (now cover) * 16) (now scratch) (zeros (length (now cover) * 16)) ⌝ }
     requires { ⌜ Needed (now scratch) n y (now list) ⌝ }

@@ -31,10 +31,12 @@ struct Start {
     by: i32,
 }
 
-// The winding number after four columns of a sample row, and how many of the four are inside.
-struct Taken {
-    sum: i32,
-    count: u8,
+// The winding numbers of a sample row at the four columns of a pixel, or those of four sample rows at one column.
+struct Windings {
+    a: i32,
+    b: i32,
+    c: i32,
+    d: i32,
 }
 
 // A pixel: the winding numbers of its four sample rows at its right end, k of the pixels after it as long as nothing begins, and its own k.

@@ -12,18 +12,19 @@ use lib.IntN.{ℤ, natAbs}
 use Rattle.lists.specs.Lists.{tab}
 use Rattle.path.specs.declared.Edge.{Edge}
 use Rattle.path.specs.Stored.{edgeAt, edgesOf, Small}
-use Rattle.coverage.specs.Scanline.{laid, missed, bumped, startOf, Marked}
+use Rattle.coverage.specs.Scanline.{laid, missed, beyond, bumped, startOf, Marked}
 use Rattle.coverage.specs.Marks.{Grouped}
 use Rattle.coverage.specs.Winding.{sample}
 use Rattle.coverage.proofs.Begin.{clean}
 use Rattle.coverage.proofs.Starts.{partly, by-small}
-use Rattle.coverage.proofs.Turn.{miss-sums, miss-marks, first-sums, first-marks, next-sums, next-marks, last-sums, last-marks, sums-small}
+use Rattle.coverage.proofs.Turn.{miss-sums, miss-marks, beyond-sums, beyond-marks}
+use Rattle.coverage.proofs.Turn.{first-sums, first-marks, next-sums, next-marks, last-sums, last-marks, sums-small}
 use borrow.Author.Needs.{needs}
 use Rattle.coverage.proofs.edges.add_edge.Statement.{statement}
 use Rattle.coverage.proofs.edges.add_edge.Tie as tie
 
 abbrev Inv-loop : tie.InvT-loop
-Inv-loop scratch₀ n i c y cover₀ groups₀ e y0 y1 base k r₀ scratch cover groups r =
+Inv-loop scratch₀ n i c y cover₀ groups₀ e y0 y1 base k x0 x1 r₀ scratch cover groups r =
     (r ≤ 4)
     × (length scratch ≡ length scratch₀)
     × (length cover ≡ length cover₀)
@@ -33,7 +34,7 @@ Inv-loop scratch₀ n i c y cover₀ groups₀ e y0 y1 base k r₀ scratch cover
     × Grouped cover groups
 
 abbrev μ-loop : tie.MeasureT-loop
-μ-loop scratch₀ n i c y cover₀ groups₀ e y0 y1 base k r₀ scratch cover groups r = 4 - r
+μ-loop scratch₀ n i c y cover₀ groups₀ e y0 y1 base k x0 x1 r₀ scratch cover groups r = 4 - r
 
 -- a sample row, as it is handed on
 line : (y r : ℕ) → y < 1024 → r < 4 → toZ w32 (64 * (4 * y + r) + 32) ≡ sample (4 * y + r)
@@ -53,13 +54,28 @@ tested c =
     ∙ ap₂ (λ (a b : ℤ). missed a b (entry .args .y)) (ap (λ (f : Edge). toZ w32 (ofZ w32 (f .y0))) o ∙ clean (d .y0) (e .y0))
     (ap (λ (f : Edge). toZ w32 (ofZ w32 (f .y1))) o ∙ clean (d .y1) (e .y1))
 
+right-of-window : (c : tie.After-is-beyond Inv-loop μ-loop)
+    → let a = c .before .before .before .before .before .before .before .before .before .before .before .args in
+    c .is-beyond .result
+    ≡ beyond (edgeAt (a .scratch .now) (a .i) .x0) (edgeAt (a .scratch .now) (a .i) .x1) (a .c + length (a .cover .now) * 4)
+right-of-window c =
+    let after-load = c .before .before .before .before .before .before .before in
+    let entry = after-load .before .before .before .before in
+    let a = entry .args in
+    let e = entry .pre .1 .0 .small (a .i) (omega arith) in
+    let o = after-load .load .ensures in
+    let d = edgeAt (a .scratch .now) (a .i) in
+    c .is-beyond .ensures
+    ∙ ap₂ (λ (x y : ℤ). beyond x y (a .c + length (a .cover .now) * 4)) (ap (λ (f : Edge). toZ w32 (ofZ w32 (f .x0))) o ∙ clean (d .x0) (e .x0))
+    (ap (λ (f : Edge). toZ w32 (ofZ w32 (f .x1))) o ∙ clean (d .x1) (e .x1))
+
 begun-at : (c : tie.After-start Inv-loop μ-loop)
-    → let entry = c .before .before .before .before .before .before .before .before .before .before .before in
+    → let entry = c .before .before .before .before .before .before .before .before .before .before .before .before .before .before .before in
     c .start .result
     ≡ startOf (entry .args .c) (length (entry .args .cover .now) * 4) (sample (4 * entry .args .y + c .before .before .loop .r))
     (edgeAt (entry .args .scratch .now) (entry .args .i))
 begun-at c =
-    let after-load = c .before .before .before .before .before .before .before in
+    let after-load = c .before .before .before .before .before .before .before .before .before .before .before in
     let entry = after-load .before .before .before .before in
     let a = entry .args in
     let l = c .before .before .loop in
@@ -68,7 +84,7 @@ begun-at c =
 -- what is added, as the local holds it
 by-read : (c : tie.After-start Inv-loop μ-loop) → (natAbs (c .start .result .by) ≤ 1) × (toZ w32 (ofZ w32 (c .start .result .by)) ≡ c .start .result .by)
 by-read c =
-    let a = c .before .before .before .before .before .before .before .before .before .before .before .args in
+    let a = c .before .before .before .before .before .before .before .before .before .before .before .before .before .before .before .args in
     let h = by-small (a .c) (length (a .cover .now) * 4) (sample (4 * a .y + c .before .before .loop .r)) (edgeAt (a .scratch .now) (a .i)) (c .start .result)
     (begun-at c) in
     (h, clean (c .start .result .by) (omega (arith, h)))
@@ -98,9 +114,29 @@ mul-base c = search needs
 mul-k : tie.Need-mul-k Inv-loop μ-loop
 mul-k c = search needs
 
+add-is-beyond : tie.Need-add-is-beyond Inv-loop μ-loop
+add-is-beyond c = omega (arith, c .before .before .before .before .before .before .before .before .before .before .pre .0 .2)
+
+is-beyond-requires : tie.Need-is-beyond-requires Inv-loop μ-loop
+is-beyond-requires c κs = c .before .before .before .before .before .before .before .before .before .before .pre .0 .2
+
+same-length-2 : tie.Need-same-length-2 Inv-loop μ-loop
+same-length-2 c = search needs
+
+returns-2 : tie.Need-returns-2 Inv-loop μ-loop
+returns-2 c =
+    let entry = c .before .before .before .before .before .before .before .before .before .before .before .before in
+    let a = entry .args in
+    let w = length (a .cover .now) in
+    let room = entry .pre .1 .0 .room in
+    let q = sym (right-of-window (c .before)) ∙ c .if2 .taken in (
+      beyond-sums (a .n) w (a .c) (a .y) (a .scratch .now) room (a .i) q (entry .pre .1 .1 .0),
+      (beyond-marks (a .n) w (a .c) (a .y) (a .scratch .now) room (a .i) q (a .cover .now) refl (entry .pre .1 .1 .1), entry .pre .0 .3),
+    )
+
 loop-holds : tie.Need-loop-holds Inv-loop μ-loop
 loop-holds c =
-    let entry = c .before .before .before .before .before .before .before .before in
+    let entry = c .before .before .before .before .before .before .before .before .before .before .before .before in
     let a = entry .args in
     let w = length (a .cover .now) in (
       search needs,
@@ -128,18 +164,18 @@ cast-start c = search needs
 
 start-requires : tie.Need-start-requires Inv-loop μ-loop
 start-requires c κs =
-    let after-load = c .before .before .before .before .before .before in
+    let after-load = c .before .before .before .before .before .before .before .before .before .before in
     let entry = after-load .before .before .before .before in
     let a = entry .args in
     let l = c .before .loop in (
       subst Small (sym (after-load .load .ensures)) (entry .pre .1 .0 .small (a .i) (omega arith)),
-      (subst (λ (z : ℤ). natAbs z ≤ 8388608) (sym (line (a .y) (l .r) (omega arith) (omega arith))) (omega arith), entry .pre .0 .2),
+      (subst (λ (z : ℤ). natAbs z ≤ 8388608) (sym (line (a .y) (l .r) (omega arith) (omega arith))) (omega arith), omega (arith, entry .pre .0 .2)),
     )
 
 put-requires : tie.Need-put-requires Inv-loop μ-loop
 put-requires c κs =
     let turn = c .before .before .before .before .before .before in
-    let entry = turn .before .before .before .before .before .before .before .before .before in
+    let entry = turn .before .before .before .before .before .before .before .before .before .before .before .before .before in
     let a = entry .args in
     let l = turn .loop in
     let t = c .before .before .before .before in
@@ -166,7 +202,7 @@ loop-again : tie.Need-loop-again Inv-loop μ-loop
 loop-again c =
     let after-start = c .before .before .before .before .before .before .before .before .before .before in
     let turn = after-start .before .before in
-    let entry = turn .before .before .before .before .before .before .before .before .before in
+    let entry = turn .before .before .before .before .before .before .before .before .before .before .before .before .before in
     let a = entry .args in
     let l = turn .loop in
     let p = c .before .before .before .before .before .put in
@@ -184,18 +220,21 @@ loop-again c =
       p .ensures .1 .1,
     )
 
-same-length-2 : tie.Need-same-length-2 Inv-loop μ-loop
-same-length-2 c = search needs
-
 same-length-3 : tie.Need-same-length-3 Inv-loop μ-loop
 same-length-3 c = search needs
 
 same-length-4 : tie.Need-same-length-4 Inv-loop μ-loop
-same-length-4 c = c .before .loop .inv .5 .long ∙ sym (c .before .before .before .before .before .before .before .before .before .before .pre .0 .3 .long)
+same-length-4 c = search needs
 
-returns-2 : tie.Need-returns-2 Inv-loop μ-loop
-returns-2 c =
-    let entry = c .before .before .before .before .before .before .before .before .before .before in
+same-length-5 : tie.Need-same-length-5 Inv-loop μ-loop
+same-length-5 c =
+    let turn = c .before in
+    let entry = turn .before .before .before .before .before .before .before .before .before .before .before .before .before in
+    turn .loop .inv .5 .long ∙ sym (entry .pre .0 .3 .long)
+
+returns-3 : tie.Need-returns-3 Inv-loop μ-loop
+returns-3 c =
+    let entry = c .before .before .before .before .before .before .before .before .before .before .before .before .before .before in
     let a = entry .args in
     let l = c .before .loop in
     let w = length (a .cover .now) in (
@@ -215,6 +254,10 @@ add-edge-spec =
     returns
     mul-base
     mul-k
+    add-is-beyond
+    is-beyond-requires
+    same-length-2
+    returns-2
     loop-holds
     mul-start
     add-start
@@ -226,7 +269,7 @@ add-edge-spec =
     add-r
     loop-less
     loop-again
-    same-length-2
     same-length-3
     same-length-4
-    returns-2)
+    same-length-5
+    returns-3)

@@ -1,30 +1,28 @@
 -- `coverage::samples::full_of` meets its contract. Assumes nothing.
-use mathlib.Core.Path.{ap, _∙_}
+use mathlib.Core.Path.{ap}
 use Prim.Native.Nat.{ℕ, _*_}
-use native.Mathlib.Omega.{arith}
-use lib.IntN.{ℤ}
-use mir.Facts.{toZ-ofZ}
-use Rattle.coverage.specs.Winding.{oneIf, insideBy}
-use Rattle.coverage.specs.Scanline.{fullOf}
-use Rattle.coverage.proofs.Tally.{four-counts}
 use borrow.Author.Needs.{needs}
 use Rattle.coverage.proofs.samples.full_of.Statement.{statement}
 use Rattle.coverage.proofs.samples.full_of.Tie as tie
 
-count-inside-requires : tie.Need-count-inside-requires
-count-inside-requires c κs = search needs
+not-zeros-requires : tie.Need-not-zeros-requires
+not-zeros-requires c κs = search needs
 
 mul-result : tie.Need-mul-result
-mul-result c = omega (arith, c .count-inside .ensures .1)
+mul-result c = search needs
 
 returns : tie.Need-returns
-unfolding fullOf
-returns c =
-    let entry = c .before in
-    let f : ℤ → ℕ = λ z. oneIf (insideBy (entry .args .nonzero) z) in
-    ap (λ (n : ℕ). n * 4)
-    (c .count-inside .ensures .0
-    ∙ four-counts (ap f (toZ-ofZ (entry .fits .a))) (ap f (toZ-ofZ (entry .fits .b))) (ap f (toZ-ofZ (entry .fits .c))) (ap f (toZ-ofZ (entry .fits .d))))
+returns c = rw (c .before .if1 .taken) (ap (λ (n : ℕ). n * 4) (c .not-zeros .ensures .0))
+
+odds-requires : tie.Need-odds-requires
+odds-requires c κs = search needs
+
+mul-result-2 : tie.Need-mul-result-2
+mul-result-2 c = search needs
+
+returns-2 : tie.Need-returns-2
+returns-2 c = rw (c .before .if1 .left) (ap (λ (n : ℕ). n * 4) (c .odds .ensures .0))
 
 pub full-of-spec : {M : Type 1} → statement M
-full-of-spec = tie.close (tie.spec count-inside-requires mul-result returns)
+full-of-spec =
+    tie.close (tie.spec not-zeros-requires mul-result returns odds-requires mul-result-2 returns-2)

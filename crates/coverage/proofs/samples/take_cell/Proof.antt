@@ -6,10 +6,11 @@ use lib.IntN.{ℤ, natAbs}
 use lib.ListN.{length}
 use mir.Syntax.{w32}
 use mir.Val.{toZ, ofZ}
-use Rattle.coverage.specs.declared.Taken.{Taken}
-use Rattle.coverage.specs.Scanline.{at, takenFrom, lineFrom}
+use Rattle.coverage.specs.declared.Windings.{Windings}
+use Rattle.coverage.specs.Scanline.{at, windingsFrom, takenOf, takenFrom, lineFrom}
 use Rattle.coverage.proofs.Begin.{clean}
 use Rattle.coverage.proofs.Cells.{line-as, four-lines}
+use Rattle.coverage.proofs.Tally.{taken-is}
 use Rattle.coverage.proofs.Zeros.{part-zeroed}
 use borrow.Author.Needs.{needs}
 use Rattle.coverage.proofs.samples.take_cell.Statement.{statement}
@@ -39,6 +40,10 @@ asked s v h i l m = (
       where
         whole : (b j : ℕ) → b ≤ j → b + (j - b) ≡ j
         whole b j k = omega arith
+
+-- where its numbers end fits a machine word, in bytes too
+far : (s : tie.Start) → (s .args .p * 16 + 16) * 4 < 18446744073709551616
+far s = omega (arith, s .pre .0 .0)
 
 mul-i : tie.Need-mul-i
 mul-i c = search needs
@@ -73,10 +78,10 @@ take-line-requires-4 c κs =
     asked (entry) (entry .args .z .d) (entry .pre .0 .1 .d) (entry .args .p * 16 + 3) (omega arith) (omega arith)
 
 add-e : tie.Need-add-e
-add-e c = search needs
+add-e c = omega (arith, far (c .before .before .before .before .before .before .before .before .before .before .before .before))
 
 mul-zero-numbers : tie.Need-mul-zero-numbers
-mul-zero-numbers c = search needs
+mul-zero-numbers c = omega (arith, far (c .before .before .before .before .before .before .before .before .before .before .before .before))
 
 sub-zero-numbers : tie.Need-sub-zero-numbers
 sub-zero-numbers c = search needs
@@ -85,7 +90,7 @@ part-zero-numbers-start : tie.Need-part-zero-numbers-start
 part-zero-numbers-start c = search needs
 
 part-zero-numbers-end : tie.Need-part-zero-numbers-end
-part-zero-numbers-end c = search needs
+part-zero-numbers-end c = omega (arith, c .before .before .before .before .before .before .before .before .before .before .before .before .pre .0 .0)
 
 zero-numbers-requires : tie.Need-zero-numbers-requires
 zero-numbers-requires c κs = search needs
@@ -106,20 +111,20 @@ returns c =
     let entry = after-take-line .before .before .before .before .before .before in
     let a = entry .args in
     let z = a .z in
-    let line : (r : ℕ) (v : ℤ) (i : ℕ) (t : Taken) → natAbs v ≤ 1000000 → i ≡ a .p * 16 + r
-    → t ≡ takenFrom (a .nonzero) (toZ w32 (ofZ w32 v)) (at (a .sums .now) i) (at (a .sums .now) (i + 4)) (at (a .sums .now) (i + 8))
-    (at (a .sums .now) (i + 12))
-    → t ≡ lineFrom (a .nonzero) v (λ j. at (a .sums .now) (a .p * 16 + j)) r =
-    λ r v i t h e o. o
+    let line : (r : ℕ) (v : ℤ) (i : ℕ) (t : Windings) → natAbs v ≤ 1000000 → i ≡ a .p * 16 + r
+    → t ≡ windingsFrom (toZ w32 (ofZ w32 v)) (at (a .sums .now) i) (at (a .sums .now) (i + 4)) (at (a .sums .now) (i + 8)) (at (a .sums .now) (i + 12))
+    → takenOf (a .nonzero) t ≡ lineFrom (a .nonzero) v (λ j. at (a .sums .now) (a .p * 16 + j)) r =
+    λ r v i t h e o. ap (takenOf (a .nonzero)) o
+    ∙ taken-is (a .nonzero) (toZ w32 (ofZ w32 v)) (at (a .sums .now) i) (at (a .sums .now) (i + 4)) (at (a .sums .now) (i + 8)) (at (a .sums .now) (i + 12))
     ∙ ap (λ (u : ℤ). takenFrom (a .nonzero) u (at (a .sums .now) i) (at (a .sums .now) (i + 4)) (at (a .sums .now) (i + 8)) (at (a .sums .now) (i + 12)))
     (clean v (omega (arith, h))) ∙ line-as (a .nonzero) v (a .sums .now) (a .p * 16) r i e in
     let p = entry .pre .0 .1 in (
       c .cell-of .ensures
           ∙ four-lines (a .nonzero)
-          (line 0 (z .a) (a .p * 16) (after-take-line .take-line .result) (p .a) (omega arith) (after-take-line .take-line .ensures .0))
-          (line 1 (z .b) (a .p * 16 + 1) (after-take-line2 .take-line2 .result) (p .b) (omega arith) (after-take-line2 .take-line2 .ensures .0))
-          (line 2 (z .c) (a .p * 16 + 2) (after-take-line3 .take-line3 .result) (p .c) (omega arith) (after-take-line3 .take-line3 .ensures .0))
-          (line 3 (z .d) (a .p * 16 + 3) (after-take-line4 .take-line4 .result) (p .d) (omega arith) (after-take-line4 .take-line4 .ensures .0)),
+          (line 0 (z .a) (a .p * 16) (after-take-line .take-line .result) (p .a) (omega arith) (after-take-line .take-line .ensures))
+          (line 1 (z .b) (a .p * 16 + 1) (after-take-line2 .take-line2 .result) (p .b) (omega arith) (after-take-line2 .take-line2 .ensures))
+          (line 2 (z .c) (a .p * 16 + 2) (after-take-line3 .take-line3 .result) (p .c) (omega arith) (after-take-line3 .take-line3 .ensures))
+          (line 3 (z .d) (a .p * 16 + 3) (after-take-line4 .take-line4 .result) (p .d) (omega arith) (after-take-line4 .take-line4 .ensures)),
       part-zeroed (a .sums .now) (after-zero-numbers .zero-numbers .last .0) (a .p * 16) 16 (entry .pre .0 .0) (after-zero-numbers .zero-numbers .ensures),
     )
 
