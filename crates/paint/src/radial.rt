@@ -162,6 +162,17 @@ pub fn root_near(q: i64, guess: u64) -> u64
     fixed::isqrt_near(q as u64, guess)
 }
 
+// The same for the ith pixel of a block: the guesses for the first four are poor, so that a step is taken before.
+pub fn root_at(q: i64, guess: u64, i: usize) -> u64
+    requires { ⌜ (q ≡ pos (natAbs q)) × (natAbs q < 1152921504606846976) ⌝ }
+    ensures { λ r. ⌜ r ≡ Roots.isqrt (natAbs q) ⌝ }
+{
+    if i < 4 {
+        return root_near(q, closer(q as u64, guess));
+    }
+    root_near(q, guess)
+}
+
 // t of A, q and D.
 pub fn t_of(a: i64, q: u64, d: i64) -> i64
     requires { ⌜ (natAbs a ≤ q) × (q ≤ 1073741824) × (pos 0 <ℤ d) ⌝ }
