@@ -109,7 +109,49 @@ pub fn root(q: i64) -> u64
     requires { ⌜ (q ≡ pos (natAbs q)) × (natAbs q < 1152921504606846976) ⌝ }
     ensures { λ r. ⌜ r ≡ Roots.isqrt (natAbs q) ⌝ }
 {
-    fixed::isqrt(q as u64)
+    let n = q as u64;
+    let near = closer(n, closer(n, root_guess(n)));
+    fixed::isqrt_near(n, closer(n, closer(n, near)))
+}
+
+// A number between a third and three times the root of n, by how large n is.
+fn root_guess(n: u64) -> u64 {
+    if n < 64 {
+        return 3;
+    }
+    if n < 4096 {
+        return 23;
+    }
+    if n < 262144 {
+        return 181;
+    }
+    if n < 16777216 {
+        return 1448;
+    }
+    if n < 1073741824 {
+        return 11585;
+    }
+    if n < 68719476736 {
+        return 92682;
+    }
+    if n < 4398046511104 {
+        return 741455;
+    }
+    if n < 281474976710656 {
+        return 5931642;
+    }
+    if n < 18014398509481984 {
+        return 47453133;
+    }
+    379625062
+}
+
+// A step of Newton's towards the root of n, from a guess.
+fn closer(n: u64, guess: u64) -> u64 {
+    if guess == 0 {
+        return 0;
+    }
+    std::num::wrapping_add_u64(guess, n / guess) / 2
 }
 
 // The same from a guess, which may be any number.
@@ -118,6 +160,17 @@ pub fn root_near(q: i64, guess: u64) -> u64
     ensures { λ r. ⌜ r ≡ Roots.isqrt (natAbs q) ⌝ }
 {
     fixed::isqrt_near(q as u64, guess)
+}
+
+// The same for the ith pixel of a block: the guesses for the first four are poor, so that a step is taken before.
+pub fn root_at(q: i64, guess: u64, i: usize) -> u64
+    requires { ⌜ (q ≡ pos (natAbs q)) × (natAbs q < 1152921504606846976) ⌝ }
+    ensures { λ r. ⌜ r ≡ Roots.isqrt (natAbs q) ⌝ }
+{
+    if i < 4 {
+        return root_near(q, closer(q as u64, guess));
+    }
+    root_near(q, guess)
 }
 
 // t of A, q and D.

@@ -32,7 +32,7 @@ pub fn radial_positions(g: RadialGradient, x: usize, y: usize, ks: &mut [u32])
     let mut fourth = last;
     let mut i = 0;
     while i < ks.len() {
-        let q = radial::root_near(p.q, next_guess(before, third, fourth));
+        let q = radial::root_at(p.q, next_guess(before, third, fourth), i);
         ks[i] = position(g.spread, radial::t_of(p.a, q, d));
         p = next_place(p);
         fourth = third;

@@ -67,8 +67,8 @@ d-is : (c : tie.At-loop Inv-loop μ-loop) → toZ w64 (ofZ w64 (c .before .befor
 d-is c = let d = c .before .before .before .before .circle-d in back w64 (d .result) (d .ok) ∙ d .ensures
 
 -- ---- the same in the turn: its root, t and position
-root-is : (c : tie.After-root-near Inv-loop μ-loop) → c .root-near .result ≡ isqrt (natAbs (place (c .before .before .before .before) .q))
-root-is c = c .root-near .ensures ∙ ap (λ (z : ℤ). isqrt (natAbs z)) (q-is (c .before .before .before .before))
+root-is : (c : tie.After-root-at Inv-loop μ-loop) → c .root-at .result ≡ isqrt (natAbs (place (c .before .before .before .before) .q))
+root-is c = c .root-at .ensures ∙ ap (λ (z : ℤ). isqrt (natAbs z)) (q-is (c .before .before .before .before))
 
 t-is : (c : tie.After-t-of Inv-loop μ-loop)
     → let l = c .before .before .before .before .before .before in toZ w64 (ofZ w64 (c .t-of .result)) ≡ radialT (circle l) (at l) (start l .args .y)
@@ -97,8 +97,8 @@ root-requires c κs =
     let e = clean w64 2305843009213693952 (p .result .q) tt (rw (p .ensures) (n .q)) ∙ ap (λ (p : Place). p .q) (p .ensures) in
     rw e (r .natural, r .small)
 
-root-near-requires : tie.Need-root-near-requires Inv-loop μ-loop
-root-near-requires c κs = let l = c .before .before .before in let r = rooted l in rw (q-is l) (r .natural, r .small)
+root-at-requires : tie.Need-root-at-requires Inv-loop μ-loop
+root-at-requires c κs = let l = c .before .before .before in let r = rooted l in rw (q-is l) (r .natural, r .small)
 
 t-of-requires : tie.Need-t-of-requires Inv-loop μ-loop
 t-of-requires c κs =
@@ -156,7 +156,7 @@ radial-positions-spec =
     root-requires
     loop-holds
     (λ c κs. tt)
-    root-near-requires
+    root-at-requires
     t-of-requires
     (λ c κs. tt)
     (λ c. let h = inside (c .before .before .before .before .before .before) in record { fits = omega (arith, h .0, h .1) })
