@@ -7,10 +7,10 @@ use native.Mathlib.Omega.{arith}
 use native.Mathlib.Nat.{le-trans, add-zero, add-suc}
 use lib.Dec.{ltb}
 use lib.IntN.{ℤ, pos, natAbs, _+ℤ_}
-use lib.ListN.{length, take, drop, length-take, length-drop, List·getD-eq-default}
+use lib.ListN.{length, take, drop, List·getD-eq-default}
 use borrow.Author.Tests.{ltb-true, ltb-false}
-use Rattle.lists.specs.Lists.{tab, over, total}
-use Rattle.lists.proofs.Laws.{tab-length, tab-at, over-part, total-same}
+use Rattle.lists.specs.Lists.{tab, total}
+use Rattle.lists.proofs.Laws.{tab-length, tab-at, total-same}
 use Rattle.path.specs.declared.Edge.{Edge}
 use Rattle.coverage.specs.Winding.{atOrLeft, weight, counts, winding, sample, oneIf, insideBy, tally, coverage}
 use Rattle.coverage.specs.Scanline.{at, laid, starts, running, sumsAt, rowOf, pixelOf, Tame, Marked}
@@ -118,18 +118,6 @@ module _ (es : List Edge) (nonZero : Bool) (x y : ℕ) where
     where
       added : (x i j : ℕ) → x + i + j ≡ x + (i + j)
       added x i j = omega arith
-
-  pub row-turn : (s d q : List ℕ) (i e : ℕ) → i ≤ e → e ≤ length d → length s ≡ length d → s ≡ over (tab i kOf) d
-      → q ≡ tab (length (take (e - i) (drop i s))) (λ j. coverage es nonZero (x + i + j) y) → take i s ++ (q ++ drop (e - i) (drop i s)) ≡ over (tab e kOf) d
-  row-turn s d q i e a b long o p =
-      let n : length (take (e - i) (drop i s)) ≡ e - i = simp (length-take, length-drop) (omega arith) in
-      let w : i + (e - i) ≡ e = omega arith in
-      let g : q ≡ tab (e - i) (λ j. kOf (i + j)) =
-      p ∙ ap (λ (m : ℕ). tab m (λ j. coverage es nonZero (x + i + j) y)) n
-      ∙ together i (e - i) in
-      ap₂ (λ (t u : List ℕ). take i t ++ (u ++ drop (e - i) (drop i t))) o g
-      ∙ over-part (tab i kOf) d (tab (e - i) (λ j. kOf (i + j))) i (e - i) (tab-length i kOf) (tab-length (e - i) (λ j. kOf (i + j))) (omega arith)
-      ∙ ap (λ (t : List ℕ). over t d) (tab-join i (e - i) kOf ∙ ap (λ (m : ℕ). tab m kOf) w)
 
   -- the window's k after those of the pixels before it
   pub runs-turn : (s t : List ℕ) (i e m : ℕ) → i ≤ e → m ≡ e - i → s ≡ tab i kOf → t ≡ s ++ tab m (λ j. coverage es nonZero (x + i + j) y) → t ≡ tab e kOf

@@ -8,12 +8,9 @@
 //      32  . . . . | . . . .
 use crate::GROUP_NUMBERS;
 use crate::Line;
-use crate::edges::add_edges;
 use crate::edges::add_listed;
 use crate::marks::unmark;
-use crate::samples::take_row;
 use crate::walk::take_runs;
-use crate::zero::zero_counts;
 use rect::least;
 ghost use mathlib.Core.Path.{_≡_};
 ghost use mathlib.Core.List.{_++_};
@@ -25,45 +22,6 @@ ghost use Rattle.path.specs.Stored.{edgesOf};
 ghost use Rattle.coverage.specs.Winding.{coverage};
 ghost use Rattle.coverage.specs.Scanline.{Outlined};
 ghost use Rattle.coverage.specs.Band.{Needed};
-
-// k of each pixel from (x, y) on, in one row, of the path whose n edges stand in the scratch.
-pub fn coverage_row(
-    scratch: &mut [i32],
-    n: usize,
-    x: usize,
-    y: usize,
-    cover: &mut [u8],
-    nonzero: bool,
-)
-    requires { ⌜ Outlined (now scratch) n ⌝ }
-    requires { ⌜ (y < 1024) × (x + length (now cover) ≤ 1024) ⌝ }
-    ensures { λ _. ⌜ now (scratch .exit) ≡ now (scratch .entry) ⌝ }
-    ensures { λ _. ⌜ now (cover .exit) ≡ tab (length (now (cover .entry))) (λ i. coverage (edgesOf (now (scratch .entry)) n) nonzero (x + i) y) ⌝ }
-{
-    zero_counts(cover);
-    let most = (scratch.len() - n * 4) / 16;
-    let mut i = 0;
-    while i < cover.len() {
-        let end = least(i + most, cover.len());
-        coverage_run(scratch, n, x + i, y, &mut cover[i..end], nonzero);
-        i = end;
-    }
-}
-
-// `coverage_row` for as many pixels as the scratch has room for. A count that is not 0 marks a pixel in which something may begin.
-fn coverage_run(scratch: &mut [i32], n: usize, x: usize, y: usize, cover: &mut [u8], nonzero: bool)
-    requires { ⌜ Outlined (now scratch) n ⌝ }
-    requires { ⌜ (y < 1024) × (x + length (now cover) ≤ 1024) × (n * 4 + length (now cover) * 16 ≤ length (now scratch)) ⌝ }
-    ensures { λ _. ⌜ now (scratch .exit) ≡ now (scratch .entry) ⌝ }
-    ensures { λ _. ⌜ now (cover .exit) ≡ tab (length (now (cover .entry))) (λ i. coverage (edgesOf (now (scratch .entry)) n) nonzero (x + i) y) ⌝ }
-{
-    let mut groups = [0u16; GROUP_NUMBERS];
-    unmark(cover, &mut groups);
-    let at = n * 4;
-    let end = at + cover.len() * 16;
-    add_edges(scratch, n, 4 * x, y, cover, &mut groups);
-    take_row(&mut scratch[at..end], cover, nonzero);
-}
 
 // The runs of the pixels from (x, y) on, in one row, of the path whose edges stand in the scratch: as many pixels as there are marks. Only the listed edges
 // are looked at: the others miss the row. Returns how many runs there are.

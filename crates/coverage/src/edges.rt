@@ -110,30 +110,8 @@ fn add_edge(
     }
 }
 
-// Adds what all n edges begin in the pixel row y, in the window from column c on, and marks the pixels where something begins.
-pub fn add_edges(
-    scratch: &mut [i32],
-    n: usize,
-    c: usize,
-    y: usize,
-    cover: &mut [u8],
-    groups: &mut [u16],
-)
-    requires { ⌜ (y < 1024) × (c + length (now cover) * 4 < 2 ^ 24) × Grouped (now cover) (now groups) ⌝ }
-    requires { ⌜ Edges (now scratch) n (length (now cover) * 16) ⌝ }
-    requires { ⌜ now scratch ≡ laid (n * 4) (length (now cover) * 16) (now scratch) (zeros (length (now cover) * 16)) ⌝ }
-    ensures { λ _. ⌜ now (scratch .exit) ≡ withSums n (length (now (cover .entry))) c y n (now (scratch .entry)) ⌝ }
-    ensures { λ _. ⌜ Marked (now (cover .exit)) (sumsAt c (length (now (cover .entry)) * 4) y (edgesOf (now (scratch .entry)) n)) ⌝ }
-    ensures { λ _. ⌜ Grouped (now (cover .exit)) (now (groups .exit)) ⌝ }
-{
-    let mut i = 0;
-    while i < n {
-        add_edge(scratch, n, i, c, y, cover, groups);
-        i += 1;
-    }
-}
-
-// The same from the listed edges alone, where the others miss the row.
+// Adds what the listed edges begin in the pixel row y, in the window from column c on, and marks the pixels where something begins. The others miss
+// the row.
 pub fn add_listed(
     scratch: &mut [i32],
     n: usize,

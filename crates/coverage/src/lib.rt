@@ -10,7 +10,6 @@ mod walk;
 pub mod zero;
 
 pub use crate::band::filter_edges;
-pub use crate::cover::coverage_row;
 pub use crate::cover::coverage_runs;
 pub use crate::scissors::scissor_row;
 

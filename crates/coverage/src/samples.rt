@@ -3,14 +3,12 @@ use crate::Cell;
 use crate::Windings;
 use crate::zero::zero_numbers;
 ghost use mathlib.Core.Path.{_≡_};
-ghost use mathlib.Core.Bool.{true, false, cond};
+ghost use mathlib.Core.Bool.{true, false};
 ghost use Prim.Native.Nat.{ℕ, _+_, _*_, _<_, _≤_};
-ghost use lib.Dec.{eqb};
 ghost use lib.ListN.{length};
-ghost use Rattle.lists.specs.Lists.{tab};
 ghost use Rattle.coverage.specs.Winding.{insideBy, oneIf};
 ghost use Rattle.coverage.specs.Scanline.{at, laid, zeros, Low, windingsFrom, insideOf, takenOf};
-ghost use Rattle.coverage.specs.Scanline.{cellOf, cellFrom, cellAfter, pixelOf, Bounded, Marked, Tame};
+ghost use Rattle.coverage.specs.Scanline.{cellOf, cellFrom, Bounded};
 
 // 1 where the winding number is not zero.
 fn not_zero(w: i32) -> u8
@@ -130,48 +128,4 @@ pub fn take_cell(sums: &mut [i32], p: usize, z: Cell, nonzero: bool) -> Cell
     let e = i + 16;
     zero_numbers(&mut sums[i..e]);
     cell_of(nonzero, a, b, c, d)
-}
-
-// Pixel p, after z. Where it is not marked, nothing begins in it.
-fn next_cell(sums: &mut [i32], p: usize, mark: u8, z: Cell, nonzero: bool) -> Cell
-    requires { ⌜ (p * 16 + 16 ≤ length (now sums)) × Bounded z ⌝ }
-    requires { ⌜ ((j : ℕ) → Low (at (now sums) (p * 16 + j))) ⌝ }
-    ensures { λ r. ⌜ r ≡ cond (eqb mark 0) (cellAfter z) (cellFrom nonzero z (λ j. at (now (sums .entry)) (p * 16 + j))) ⌝ }
-    ensures { λ _. ⌜ now (sums .exit) ≡ cond (eqb mark 0) (now (sums .entry)) (laid (p * 16) 16 (now (sums .entry)) (zeros 16)) ⌝ }
-{
-    if mark == 0 {
-        return Cell {
-            a: z.a,
-            b: z.b,
-            c: z.c,
-            d: z.d,
-            full: z.full,
-            count: z.full,
-        };
-    }
-    take_cell(sums, p, z, nonzero)
-}
-
-// k of each pixel, by the marks and the sums, which are set to 0.
-pub fn take_row(sums: &mut [i32], cover: &mut [u8], nonzero: bool)
-    requires { ⌜ length (now sums) ≡ length (now cover) * 16 ⌝ }
-    requires { ⌜ Marked (now cover) (at (now sums)) ⌝ }
-    requires { ⌜ Tame (now sums) (length (now cover) * 4) ⌝ }
-    ensures { λ _. ⌜ now (sums .exit) ≡ zeros (length (now (sums .entry))) ⌝ }
-    ensures { λ _. ⌜ now (cover .exit) ≡ tab (length (now (cover .entry))) (pixelOf nonzero (now (sums .entry))) ⌝ }
-{
-    let mut z = Cell {
-        a: 0,
-        b: 0,
-        c: 0,
-        d: 0,
-        full: 0,
-        count: 0,
-    };
-    let mut p = 0;
-    while p < cover.len() {
-        z = next_cell(sums, p, cover[p], z, nonzero);
-        cover[p] = z.count;
-        p += 1;
-    }
 }

@@ -8,7 +8,7 @@ use Rattle.color.specs.declared.Pixel.{Pixel}
 use Rattle.rect.specs.Rects.{Inside}
 use Rattle.raster.specs.declared.Target.{Target}
 use Rattle.raster.specs.Surface.{pixelOf}
-use Rattle.raster.specs.Rows.{Placed, Part, stepped, rowsTo, Rows}
+use Rattle.raster.specs.Rows.{Part, stepped, rowsTo, Rows}
 use Rattle.raster.proofs.Overlay.{less-or, overlay-length, overlay-in, overlay-out, overlay-is}
 use Rattle.engine.specs.Rows.{rowsOf}
 

@@ -101,10 +101,7 @@ module _ (scissors : List ℕ) (count x y : ℕ) (m b : List ℕ) (e : m ≡ tab
       ∙ ap (λ (k : ℕ). tab k (λ i. scissored true scissors count (x + i) y (getD b i 0))) l
       ∙ ap (λ (z : List ℕ). tab n (λ i. scissored true scissors count (x + i) y (getD z i 0))) o
 
--- ---- a row's buffer: k of each pixel, then the paint of each
-pub covered-length : (b : List ℕ) (n : ℕ) → n ≤ length b → length (take n b) ≡ n
-covered-length b n h = simp length-take (omega arith)
-
+-- ---- a row's buffer
 pub first-of : (b : List ℕ) (n : ℕ) → take (n - 0) (drop 0 b) ≡ take n b
 first-of b n =
     let e : n - 0 ≡ n = omega arith in
@@ -119,14 +116,6 @@ first-given b q n e h = simp (length-append, length-drop) (omega arith)
 
 pub back-length : (b q : List ℕ) (n m : ℕ) → n ≤ m → m ≤ length b → length q ≡ m - n → length (take n b ++ (q ++ drop (m - n) (drop n b))) ≡ length b
 back-length b q n m l h e = simp (length-append, length-take, length-drop) (omega arith)
-
--- q is given back as the paint: before it stands what stood there
-module _ (b q rest : List ℕ) (n : ℕ) where
-  pub cover-part : n ≤ length b → take (n - 0) (drop 0 (take n b ++ (q ++ rest))) ≡ take n b
-  cover-part h = first-of (take n b ++ (q ++ rest)) n ∙ take-at (take n b) (q ++ rest) n (covered-length b n h)
-
-  pub paint-part : (m : ℕ) → n ≤ length b → length q ≡ m - n → take (m - n) (drop n (take n b ++ (q ++ rest))) ≡ q
-  paint-part m h e = rw (drop-at (take n b) (q ++ rest) n (covered-length b n h)) (take-at q rest (m - n) e)
 
 -- ---- pixels by a colour transformation
 module _ (n : ℕ) (row : List ℕ) (t : Tint) where

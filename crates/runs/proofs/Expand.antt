@@ -1,6 +1,6 @@
 -- What runs expand to, one more run, a longer run.
 use mathlib.Core.Path.{_≡_, refl, sym, ap, ap₂, subst, _∙_}
-use mathlib.Core.List.{List, [], _∷_, _++_, append-assoc}
+use mathlib.Core.List.{List, _++_, append-assoc}
 use mathlib.Core.Logic.{⊎-elim}
 use mathlib.Core.Bool.{Bool, true, false}
 use Prim.Native.Nat.{ℕ, zero, suc, _+_, _-_, _*_, _/_, _%_, _≤_, _<_}
@@ -12,7 +12,7 @@ use lib.Seq.{getD-append-add, getD-set-same, getD-set-other}
 use lib.Dec.{ltb}
 use borrow.Author.Count.{below-more}
 use borrow.Author.Tests.{ltb-true, ltb-false}
-use Rattle.lists.specs.Lists.{upto, tab, over}
+use Rattle.lists.specs.Lists.{tab, over}
 use Rattle.lists.proofs.Laws.{upto-same, upto-more, tab-length, tab-at, tab-ext, over-part}
 use Rattle.runs.specs.Runs.{endOf, startOf, levelOf, expand, Runs}
 

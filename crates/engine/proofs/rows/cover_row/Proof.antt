@@ -1,5 +1,5 @@
 -- `rows::cover_row` meets its contract: the scissors leave of k what they do, or all of it.
-use mathlib.Core.Path.{_≡_, subst, _∙_}
+use mathlib.Core.Path.{subst, _∙_}
 use native.Mathlib.Omega.{arith}
 use lib.ListN.{length}
 use borrow.Author.Tests.{not-true, not-false}
@@ -38,7 +38,7 @@ scissor-runs-requires c κs =
         (
           subst (Runs (call .last .1 .1 .1 .0) (call .result)) long (call .ensures .1 .0),
           coverage-fits (edgesOf (a .scratch .now) (a .style .edges)) (a .style .nonzero) (a .strip .x) (a .strip .y) (length (a .marks .now)) _
-          (call .ensures .1 .1),
+              (call .ensures .1 .1),
         ),
       ),
     )

@@ -108,7 +108,7 @@ module _ (c : tie.After-filter-edges Inv-loop μ-loop) where
       let same = back-length before list rampNumbers (rampNumbers + edges) (omega arith) room (long ∙ omega arith) in (
         omega (arith, few, room, same),
         subst (Band (at-loop .loop .scratch) edges (at-loop .loop .y) (c .before .before .before .least .result))
-        (sym (list-given before list edges room long (c .filter-edges .result) few))
+            (sym (list-given before list edges room long (c .filter-edges .result) few))
             (c .filter-edges .ensures .1),
       )
 
@@ -134,7 +134,7 @@ draw-rect-requires c κs =
         (
           (
             subst (λ (z : Target). Part z (l .surface)) rows
-            (band-part t _ (a .surface .now) (p .1 .1 .0 .0) (l .inv .0) (after-least .least .result) (band .0) (band .1)),
+                (band-part t _ (a .surface .now) (p .1 .1 .0 .0) (l .inv .0) (after-least .least .result) (band .0) (band .1)),
             subst (λ (z : Target). RowRoom (z .area .x1 - z .area .x0) (l .buffer) (l .runs)) rows (l .inv .4 ∙ p .1 .1 .0 .1 .0, l .inv .5 ∙ p .1 .1 .0 .1 .1),
           ),
           subst (λ (z : Target). MaskFor (a .fill .style .masked) (z .height * z .width) (a .mask .now)) rows (p .1 .1 .1),

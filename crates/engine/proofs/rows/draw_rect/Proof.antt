@@ -1,7 +1,7 @@
 -- `rows::draw_rect` meets its contract: the rows below y are drawn.
 use mathlib.Core.List.{List}
 use mathlib.Core.Path.{_≡_, refl, sym, ap, subst, _∙_}
-use Prim.Native.Nat.{_+_, _-_}
+use Prim.Native.Nat.{_-_}
 use native.Mathlib.Omega.{arith}
 use lib.IntN.{ℤ}
 use lib.ListN.{length, take}
@@ -13,7 +13,6 @@ use Rattle.paint.specs.Buffers.{rampNumbers}
 use Rattle.engine.specs.Picture.{maskAt}
 use Rattle.engine.specs.Rows.{stepWith, OnSurface, ListedFor}
 use Rattle.engine.proofs.Masks.{MaskRow, mask-row, mask-turn}
-use borrow.Author.Needs.{needs}
 use Rattle.engine.proofs.rows.draw_rect.Statement.{statement}
 use Rattle.engine.proofs.rows.draw_rect.Tie as tie
 
@@ -88,7 +87,7 @@ draw-row-requires c κs =
     let on : OnSurface (record { x = a .fill .target .area .x0; y = l .y; length = a .fill .target .area .x1 - a .fill .target .area .x0 }) =
     (omega (arith, placed .high, placed .on .high, in-loop .loop-test .taken), omega (arith, placed .wide, placed .on .wide, placed .on .across)) in (
       subst (λ (z : List ℤ). Outlined z (a .fill .style .edges) × ListedFor z (a .fill .style .edges) (a .numbers .now) (a .fill .listed) (l .y))
-      (sym (l .inv .1))
+          (sym (l .inv .1))
           (p .0 .0, (p .0 .1 .0, p .0 .1 .1 .row (l .y) (l .inv .0 .low) (in-loop .loop-test .taken))),
       (
         p .1 .0,

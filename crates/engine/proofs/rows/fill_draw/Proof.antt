@@ -59,7 +59,7 @@ fill-style-requires c κs =
         (
           (subst (λ (z : Style). z .scissors ≤ 4) e (p .0 .1 .scissors), scissors),
           subst (λ (z : Style). Shaded (z .shade) (take rampNumbers (numbers after-shade))) e
-          (subst (Shaded (after-shade .shade .result)) (sym (ramp after-shade)) (after-shade .shade .ensures .asked)),
+              (subst (Shaded (after-shade .shade .result)) (sym (ramp after-shade)) (after-shade .shade .ensures .asked)),
         ),
         (p .1 .1 .0 .0, subst (λ (z : Style). MaskFor (z .masked) (a .target .height * a .target .width) (a .mask .now)) e (p .1 .1 .0 .1)),
       ),
@@ -78,7 +78,7 @@ returns c =
     λ x y. ap (λ (z : List ℕ). shadeAt (shade .result) z x y) (ramp after-shade) ∙ shade .ensures .paint x y in (
       call .ensures .0,
       own-steps (a .target) (edgesOf (a .scratch .now) (a .n)) _ (a .d .now) (maskAt (a .target .width) (a .mask .now)) (a .surface .now) (call .last .0)
-      (style .result) (a .n) (shade .result) _ (take rampNumbers (numbers after-shade)) (style .ensures) edges (scissors .ensures) paint (call .ensures .1),
+          (style .result) (a .n) (shade .result) _ (take rampNumbers (numbers after-shade)) (style .ensures) edges (scissors .ensures) paint (call .ensures .1),
     )
 
 pub fill-draw-spec : {M : Type 1} → statement M

@@ -1,6 +1,5 @@
 -- `rows::scissor_runs` meets its contract: k of each pixel, cut by the scissors, and collected again.
 use mathlib.Core.Path.{_≡_, sym, subst, _∙_}
-use Prim.Native.Nat.{ℕ}
 use native.Mathlib.Omega.{arith}
 use lib.ListN.{length}
 use Rattle.runs.specs.Runs.{Runs}
@@ -52,7 +51,7 @@ returns c =
       subst (Runs (made .last .1 .0) (made .result)) (cut-length after-scissor-row) (made .ensures .0 .0),
       made .ensures .1
           ∙ cut-row (a .scissors .now) (a .count) (a .strip .x) (a .strip .y) (cut .last .1 .1 .1 .1 .0) (laid .last .1 .1 .0) (cut .ensures)
-      (a .strip .length) _
+          (a .strip .length) _
           (laid .ensures) (laid .kept .1 .1 .0 ∙ entry .pre .1 .0 .1),
     )
 

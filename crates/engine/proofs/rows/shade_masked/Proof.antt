@@ -1,9 +1,9 @@
 -- `rows::shade_masked` meets its contract: the paint's row, blended through the mask by all of the row's runs.
 use mathlib.Core.Path.{_≡_, sym, ap, subst, _∙_}
-use mathlib.Core.List.{List, _++_}
+use mathlib.Core.List.{_++_}
 use Prim.Native.Nat.{ℕ, _-_, _*_, _≤_}
 use native.Mathlib.Omega.{arith}
-use lib.ListN.{length, getD, take, drop}
+use lib.ListN.{length, getD, drop}
 use Rattle.lists.proofs.Laws.{part-length}
 use Rattle.runs.specs.Runs.{startOf, expand}
 use Rattle.runs.proofs.Expand.{runs-few, runs-length}
@@ -38,7 +38,8 @@ part-end c =
     let start = entry after-paint-row in
     let n = start .args .strip .length in
     subst (λ (k : ℕ). n * 4 ≤ k)
-    (sym (first-given (start .args .buffer .now) (after-paint-row .paint-row .last .1 .0) (n * 4) (painted after-paint-row) (omega (arith, start .pre .1 .0 .2 .0))))
+    (sym
+    (first-given (start .args .buffer .now) (after-paint-row .paint-row .last .1 .0) (n * 4) (painted after-paint-row) (omega (arith, start .pre .1 .0 .2 .0))))
     (omega (arith, start .pre .1 .0 .2 .0))
 
 composite-masked-runs-requires : tie.Need-composite-masked-runs-requires
