@@ -11,7 +11,7 @@ use mir.Val.{Fits}
 use Rattle.fixed.specs.Floor.{floorDiv}
 use Rattle.fixed.proofs.Poly as P
 use Rattle.fixed.proofs.Poly.{_⊕_, _⊖_, _⊗_}
-use Rattle.fixed.proofs.Within.{Within, within-pos, within-sub, within-mul, within-widen}
+use Rattle.fixed.proofs.Within.{Within, within-sub, within-mul, within-widen}
 use Rattle.paint.specs.Ramps.{mixByte}
 use Rattle.paint.specs.Segments.{parts, reciprocalOf}
 

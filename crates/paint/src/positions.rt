@@ -4,16 +4,12 @@ use crate::gradient;
 use crate::gradient::RAMP_UNIT;
 use crate::segments::BEHIND;
 ghost use mathlib.Core.Path.{_≡_};
-ghost use mathlib.Core.Bool.{true};
 ghost use Prim.Native.Nat.{_+_, _≤_};
-ghost use lib.IntN.{pos, natAbs};
-ghost use lib.Signed.{_<ℤ_};
+ghost use lib.IntN.{natAbs};
 ghost use lib.ListN.{length};
 ghost use Rattle.lists.specs.Lists.{tab};
 ghost use Rattle.paint.specs.Gradient.{squaredLength, linearT, mapped};
-ghost use Rattle.paint.specs.Radial.{radialT, focalAllowed};
 ghost use Rattle.paint.specs.Buffers.{LimitedPoints};
-ghost use Rattle.paint.specs.Circles.{LimitedCircle};
 ghost use Rattle.paint.specs.Segments.{positionOf};
 
 // The position of t.

@@ -1,5 +1,5 @@
 -- `block::color_words` meets its contract.
-use mathlib.Core.Path.{_≡_, subst}
+use mathlib.Core.Path.{subst}
 use Prim.Native.Nat.{ℕ}
 use native.Mathlib.Omega.{arith}
 use Rattle.paint.specs.Buffers.{HeldRamp}

@@ -1,13 +1,12 @@
 -- `block::segment_words` meets its contract: the colours before i are written, and the segment has the ramp's colours.
-use mathlib.Core.Path.{_≡_, ap, _∙_, subst}
-use Prim.Native.Nat.{ℕ, _+_, _-_, _≤_, _<_}
+use mathlib.Core.Path.{_≡_, ap, _∙_}
+use Prim.Native.Nat.{ℕ, _-_, _≤_, _<_}
 use native.Mathlib.Omega.{arith}
 use lib.ListN.{length, getD}
 use Rattle.paint.specs.Ramps.{rampAt}
 use Rattle.paint.specs.Buffers.{stopsIn}
 use Rattle.paint.specs.Segments.{Serves, Begun, tAt}
 use Rattle.paint.proofs.Begins.{begun-none, begun-turn, begun-all}
-use borrow.Author.Needs.{needs}
 use Rattle.paint.proofs.block.segment_words.Statement.{statement}
 use Rattle.paint.proofs.block.segment_words.Tie as tie
 

@@ -1,8 +1,7 @@
 -- `block::two_words` meets its contract.
-use mathlib.Core.Path.{_≡_, sym, ap₂, _∙_}
-use Prim.Native.Nat.{ℕ, _<_}
+use mathlib.Core.Path.{ap₂, _∙_}
 use native.Mathlib.Omega.{arith}
-use lib.ListN.{length, getD}
+use lib.ListN.{getD}
 use Rattle.color.specs.declared.Pixel.{Pixel}
 use Rattle.paint.specs.Segments.{twoStops}
 use Rattle.paint.proofs.Serving.{two-colors}

@@ -1,5 +1,5 @@
 -- `row::blocks` meets its contract: the pixels before i are stored.
-use mathlib.Core.Path.{_≡_, refl, sym, ap, _∙_}
+use mathlib.Core.Path.{_≡_, sym, _∙_}
 use mathlib.Core.List.{List, _++_}
 use Prim.Native.Nat.{ℕ, _+_, _-_, _*_, _≤_, _<_}
 use native.Mathlib.Omega.{arith}
@@ -10,7 +10,6 @@ use Rattle.raster.specs.Surface.{run}
 use Rattle.raster.specs.Rows.{Stored}
 use Rattle.raster.proofs.Runs.{run-same, stored-none, stored-part, stored-all}
 use Rattle.paint.specs.Circles.{gradientAt}
-use borrow.Author.Needs.{needs}
 use Rattle.paint.proofs.row.blocks.Statement.{statement}
 use Rattle.paint.proofs.row.blocks.Tie as tie
 

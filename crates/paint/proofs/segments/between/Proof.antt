@@ -1,5 +1,4 @@
 -- `segments::between` meets its contract.
-use mathlib.Core.Path.{_≡_}
 use native.Mathlib.Omega.{arith}
 use borrow.Author.Needs.{needs}
 use Rattle.paint.specs.Segments.{segmentOf}

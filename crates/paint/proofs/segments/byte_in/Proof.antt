@@ -1,11 +1,10 @@
 -- `segments::byte_in` meets its contract: the line's number fits 64 bits, and its whole part is the byte.
-use mathlib.Core.Path.{_≡_, sym, ap, _∙_, subst}
+use mathlib.Core.Path.{_≡_, ap}
 use Prim.Native.Nat.{ℕ, _+_, _-_, _*_, _/_, _<_}
 use native.Mathlib.Omega.{arith}
 use lib.IntN.{ℤ, pos, natAbs, _-ℤ_, _*ℤ_}
 use mir.Syntax.{w64}
 use borrow.Author.Needs.{needs}
-use Rattle.fixed.proofs.Within.{Within}
 use Rattle.fixed.proofs.Means.{Num, need, keep, add, mul, shr, said, tight, of-nat}
 use Rattle.paint.specs.Ramps.{mixByte}
 use Rattle.paint.specs.Segments.{parts, reciprocalOf, lineOf}

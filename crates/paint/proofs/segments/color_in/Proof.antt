@@ -1,5 +1,5 @@
 -- `segments::color_in` meets its contract.
-use mathlib.Core.Path.{_≡_, ap}
+use mathlib.Core.Path.{ap}
 use Prim.Native.Nat.{_≤_}
 use native.Mathlib.Omega.{arith}
 use Rattle.paint.specs.Segments.{segmentOf}

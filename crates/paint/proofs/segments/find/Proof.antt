@@ -1,6 +1,6 @@
 -- `segments::find` meets its contract.
 use mathlib.Core.Path.{_≡_, ap}
-use Prim.Native.Nat.{_+_, _-_, _≤_}
+use Prim.Native.Nat.{_+_, _-_}
 use native.Mathlib.Omega.{arith}
 use Rattle.paint.specs.Segments.{segmentOf}
 use Rattle.paint.specs.declared.Segment.{Segment}

@@ -1,5 +1,5 @@
 -- `words::finish_words` meets its contract.
-use mathlib.Core.Path.{_≡_, refl}
+use mathlib.Core.Path.{refl}
 use lib.ListN.{length}
 use Rattle.paint.proofs.Begins.{opaque-words}
 use borrow.Author.Needs.{needs}

@@ -1,10 +1,9 @@
 -- `words::lowest_alpha` meets its contract: no alpha before i is below low.
-use mathlib.Core.Path.{_≡_, ap, _∙_, subst}
-use Prim.Native.Nat.{ℕ, _+_, _-_, _≤_}
+use mathlib.Core.Path.{_≡_, ap, subst}
+use Prim.Native.Nat.{ℕ, _-_, _≤_}
 use native.Mathlib.Omega.{arith}
-use lib.ListN.{length, getD}
+use lib.ListN.{length}
 use Rattle.color.specs.declared.Pixel.{Pixel}
-use Rattle.paint.specs.Buffers.{unpacked}
 use Rattle.paint.specs.Segments.{Covering}
 use Rattle.paint.proofs.Begins.{covering-none, covering-turn}
 use borrow.Author.Needs.{needs}

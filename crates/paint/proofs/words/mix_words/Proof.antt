@@ -1,8 +1,8 @@
 -- `words::mix_words` meets its contract: the colours before i are written.
-use mathlib.Core.Path.{_≡_, ap, _∙_}
-use Prim.Native.Nat.{ℕ, _+_, _-_, _≤_}
+use mathlib.Core.Path.{ap, _∙_}
+use Prim.Native.Nat.{_-_, _≤_}
 use native.Mathlib.Omega.{arith}
-use lib.ListN.{length, getD, length-set}
+use lib.ListN.{length, getD}
 use Rattle.paint.specs.Segments.{Begun, twoStops}
 use Rattle.paint.proofs.Begins.{begun-none, begun-turn, begun-all}
 use borrow.Author.Needs.{needs}

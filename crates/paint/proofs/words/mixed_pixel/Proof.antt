@@ -1,5 +1,5 @@
 -- `words::mixed_pixel` meets its contract.
-use mathlib.Core.Path.{_≡_, ap, _∙_}
+use mathlib.Core.Path.{ap, _∙_}
 use Prim.Native.Nat.{ℕ}
 use Rattle.paint.specs.Ramps.{mixByte}
 use Rattle.paint.proofs.words.mixed_pixel.Statement.{statement}

@@ -1,6 +1,5 @@
 -- `words::put_words` meets its contract: the pixels before i are stored.
-use mathlib.Core.Path.{_≡_}
-use Prim.Native.Nat.{ℕ, _+_, _-_, _*_, _≤_}
+use Prim.Native.Nat.{_-_, _≤_}
 use native.Mathlib.Omega.{arith}
 use lib.ListN.{length, getD}
 use Rattle.raster.specs.Rows.{Stored}
