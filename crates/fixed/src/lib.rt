@@ -15,7 +15,6 @@ pub use crate::little::i16_at;
 pub use crate::little::i32_at;
 pub use crate::little::u16_at;
 pub use crate::little::u32_at;
-pub use crate::root::isqrt;
 pub use crate::root::isqrt_near;
 
 // What four bytes are as an f32.

@@ -1,4 +1,4 @@
-// The square root of a whole number below 2^60, rounded down: from nothing, and from a guess.
+// The square root of a whole number below 2^60, rounded down, from a guess.
 ghost use mathlib.Core.Path.{_≡_};
 ghost use Prim.Native.Nat.{_+_, _*_, _≤_, _<_};
 ghost use Rattle.fixed.specs.Roots as Roots;
@@ -6,15 +6,7 @@ ghost use Rattle.fixed.specs.Roots as Roots;
 // 2^30: the root of every number below 2^60 is below it.
 const ABOVE: u64 = 1073741824;
 
-// From nothing: 30 turns.
-pub fn isqrt(n: u64) -> u64
-    requires { ⌜ n < 1152921504606846976 ⌝ }
-    ensures { λ r. ⌜ r ≡ Roots.isqrt n ⌝ }
-{
-    halve(n, 0, ABOVE)
-}
-
-// From a guess, which may be any number: the nearer it is, the fewer turns. One division.
+// The guess may be any number: the nearer it is, the fewer turns. One division.
 pub fn isqrt_near(n: u64, guess: u64) -> u64
     requires { ⌜ n < 1152921504606846976 ⌝ }
     ensures { λ r. ⌜ r ≡ Roots.isqrt n ⌝ }
