@@ -6,6 +6,7 @@
 --     Folded      t modulo 65,536
 --     Quotients   floor division from one numerator to the next
 --     Walk        t from pixel to pixel of a row
+--     Along       t along a row as a line in parts of 2^44
 --
 -- Radial gradients:
 --     Lagrange    Q is A² + D (dx² + dy²)
@@ -31,6 +32,7 @@ pub mod Slope
 pub mod Folded
 pub mod Quotients
 pub mod Walk
+pub mod Along
 pub mod Lagrange
 pub mod Focal
 pub mod Differences

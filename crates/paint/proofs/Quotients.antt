@@ -20,12 +20,12 @@ divided a k r d h e =
     (q, omega (arith, div-add-mod' a d, ap (λ (x : ℕ). x * d) q))
 
 -- ---- integers
-floor-whole : (z : ℤ) (d : ℕ) → 0 < d → z ≡ floorDiv z d *ℤ pos d +ℤ pos (floorMod z d)
+pub floor-whole : (z : ℤ) (d : ℕ) → 0 < d → z ≡ floorDiv z d *ℤ pos d +ℤ pos (floorMod z d)
 floor-whole (pos a) d h = P.eq (P.num a) (P.num (a / d) ⊗ P.num d ⊕ P.num (a % d)) (omega (arith, div-add-mod' a d))
 floor-whole (negsuc a) d h =
     P.eq (P.var (negsuc a)) (P.var (negsuc (a / d)) ⊗ P.num d ⊕ P.num (d - suc (a % d))) (omega (arith, div-add-mod' a d, mod-lt a h))
 
-floor-parts : (z q : ℤ) (r d : ℕ) → r < d → z ≡ q *ℤ pos d +ℤ pos r → (floorDiv z d ≡ q) × (floorMod z d ≡ r)
+pub floor-parts : (z q : ℤ) (r d : ℕ) → r < d → z ≡ q *ℤ pos d +ℤ pos r → (floorDiv z d ≡ q) × (floorMod z d ≡ r)
 floor-parts (pos a) (pos k) r d h e =
     let f = divided a k r d h (omega (arith, P.from-eq (P.num a) (P.num k ⊗ P.num d ⊕ P.num r) e)) in
     (ap pos (f .0), f .1)

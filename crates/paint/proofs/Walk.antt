@@ -36,7 +36,7 @@ small z h = record { size = h }
 
 -- ---- points that do not coincide
 module _ (p : FixedPoints) (apart : natAbs (squaredLength p) ≡ 0 → ⊥) where
-  positive : 0 < natAbs (squaredLength p)
+  pub positive : 0 < natAbs (squaredLength p)
   positive = above-zero (above (squared-is p) apart)
 
   pub whole-is-t : (x y : ℕ) → quotientAt p x y .whole ≡ linearT p x y

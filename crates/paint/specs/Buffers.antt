@@ -13,7 +13,7 @@ use Rattle.fixed.specs.declared.Real.{Real}
 use Rattle.fixed.specs.declared.Real.the-variants.{Number, Nan}
 use Rattle.fixed.specs.Floor.{floorDiv, floorMod}
 use Rattle.color.specs.declared.Pixel.{Pixel}
-use Rattle.paint.specs.Gradient.{rampUnit, projection, squaredLength, linearT}
+use Rattle.paint.specs.Gradient.{rampUnit, projection, squaredLength, linearT, mapped}
 use Rattle.paint.specs.Ramps.{stop, black, white, withEnd}
 use Rattle.paint.specs.Paints.{gradientColor}
 use Rattle.paint.specs.declared.FixedPoints.{FixedPoints}
@@ -107,6 +107,31 @@ addQuotients a b d =
 pub record Moderate (q : Quotient) : Type 0 where
   pub whole : natAbs (q .whole) ≤ 1152921504606846976
   pub rest : natAbs (q .rest) ≤ 1152921504606846976
+
+-- ---- t along a row as a line in parts of 2^44
+abbrev pub lineParts : ℕ
+lineParts = 17592186044416
+
+-- a quotient over d in these parts, rounded up
+unfoldable pub inParts : Quotient → ℤ → ℤ
+inParts q d = q .whole *ℤ pos lineParts +ℤ pos (natAbs (q .rest) * lineParts / natAbs d + 1)
+
+-- a quotient over d as a division leaves it: 0 ≤ rest < d
+pub record Proper (q : Quotient) (d : ℤ) : Type 0 where
+  pub rest : q .rest ≡ pos (natAbs (q .rest))
+  pub divisor : d ≡ pos (natAbs d)
+  pub below : natAbs (q .rest) < natAbs d
+
+-- a spread mode that leaves t as it is
+pub record Pads (spread : ℕ) : Type 0 where
+  pub same : (t : ℤ) → mapped spread t ≡ t
+
+-- so small that the line has t at 128 pixels from q on, and fits 64 bits
+pub record Lined (spread : ℕ) (q step : Quotient) (d : ℤ) : Type 0 where
+  pub pads : Pads spread
+  pub whole : natAbs (q .whole) < 131072
+  pub growth : natAbs (step .whole) < 1024
+  pub length : natAbs d < 137438953472
 
 -- ---- a linear gradient as it is drawn
 abbrev pub linearAt : LinearGradient → List Stop → ℕ → ℕ → Pixel

@@ -32,7 +32,7 @@ const END: u32 = 65536;
 // The pixels from (x, y) on, as many as ks has room for.
 pub fn block(g: AnyGradient, ramp: &[u32], x: usize, y: usize, ks: &mut [u32], row: &mut [u8])
     requires { ⌜ HeldGradient g (now ramp) × Sloped g ⌝ }
-    requires { ⌜ (x + length (now ks) ≤ 1024) × (y ≤ 1024) × (length (now row) ≡ length (now ks) * 4) ⌝ }
+    requires { ⌜ (x + length (now ks) ≤ 1024) × (y ≤ 1024) × (length (now row) ≡ length (now ks) * 4) × (length (now ks) ≤ 128) ⌝ }
     ensures { λ _. ⌜ now (row .exit) ≡ run (length (now (ks .entry))) (λ i. gradientAt g (now (ramp .entry)) (x + i) y) ⌝ }
 {
     match g {
@@ -43,7 +43,7 @@ pub fn block(g: AnyGradient, ramp: &[u32], x: usize, y: usize, ks: &mut [u32], r
 
 fn linear_block(g: LinearGradient, ramp: &[u32], x: usize, y: usize, ks: &mut [u32], row: &mut [u8])
     requires { ⌜ LimitedPoints (g .points) × HeldRamp (now ramp) (g .count) × (natAbs (squaredLength (g .points)) ≡ 0 → ⊥) ⌝ }
-    requires { ⌜ (x + length (now ks) ≤ 1024) × (y ≤ 1024) × (length (now row) ≡ length (now ks) * 4) ⌝ }
+    requires { ⌜ (x + length (now ks) ≤ 1024) × (y ≤ 1024) × (length (now row) ≡ length (now ks) * 4) × (length (now ks) ≤ 128) ⌝ }
     ensures { λ _. ⌜ now (row .exit) ≡ run (length (now (ks .entry))) (λ i. linearAt g (stopsIn (now (ramp .entry)) (g .count)) (x + i) y) ⌝ }
 {
     linear_positions(g, x, y, ks);

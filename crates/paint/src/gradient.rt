@@ -9,7 +9,7 @@ ghost use mathlib.Core.Bool.{true};
 ghost use Rattle.fixed.specs.Floats.{atMost, scaled};
 ghost use Rattle.paint.specs.Gradient.{fixedPoints, rampUnit, centre, squaredLength, projection, linearT, mapped};
 ghost use lib.Signed.{_<ℤ_};
-ghost use Rattle.paint.specs.Buffers.{LimitedPoints, Moderate, quotientOf, addQuotients, quotientAt, rowStep};
+ghost use Rattle.paint.specs.Buffers.{LimitedPoints, Pads, Moderate, quotientOf, addQuotients, quotientAt, rowStep};
 
 // t at the second point, where a ramp ends.
 pub const RAMP_UNIT: i64 = 65536;
@@ -63,6 +63,13 @@ pub fn spread(mode: u32, t: i64) -> i64
         return rest;
     }
     t
+}
+
+// Whether the spread pads.
+pub fn pads(mode: u32) -> bool
+    ensures { λ r. ⌜ (r ≡ true → Pads mode) ⌝ }
+{
+    mode != REPEAT && mode != REFLECT
 }
 
 fn coordinate(v: f32) -> i64

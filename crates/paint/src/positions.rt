@@ -1,15 +1,18 @@
 // Where on the ramp the pixels of a row lie. A position is 0 before the ramp, t + 1 on it and 65,537 behind it, so that each is a small number.
 use crate::LinearGradient;
+use crate::Quotient;
 use crate::gradient;
 use crate::gradient::RAMP_UNIT;
 use crate::segments::BEHIND;
 ghost use mathlib.Core.Path.{_≡_};
-ghost use Prim.Native.Nat.{_+_, _≤_};
-ghost use lib.IntN.{natAbs};
+ghost use mathlib.Core.Bool.{true};
+ghost use Prim.Native.Nat.{_+_, _*_, _/_, _≤_, _<_};
+ghost use lib.IntN.{pos, natAbs, _+ℤ_, _*ℤ_};
 ghost use lib.ListN.{length};
+ghost use Rattle.fixed.specs.Floor.{floorDiv};
 ghost use Rattle.lists.specs.Lists.{tab};
 ghost use Rattle.paint.specs.Gradient.{squaredLength, linearT, mapped};
-ghost use Rattle.paint.specs.Buffers.{LimitedPoints};
+ghost use Rattle.paint.specs.Buffers.{LimitedPoints, Proper, Lined, quotientAt, rowStep, lineParts, inParts};
 ghost use Rattle.paint.specs.Segments.{positionOf};
 
 // The position of t.
@@ -26,16 +29,129 @@ pub fn position(spread: u32, t: i64) -> u32
     BEHIND
 }
 
+// t along a row is a line in parts of 2^44. Half as many bits are 2^22.
+const PARTS: i64 = 17592186044416;
+
+const HALF_BITS: u64 = 4194304;
+
+// A line serves where the squared length of the gradient, t at the first pixel and what t grows by from pixel to pixel are below these.
+const LENGTH_LIMIT: i64 = 137438953472;
+
+const FIRST_LIMIT: i64 = 131072;
+
+const STEP_LIMIT: i64 = 1024;
+
+// For fewer pixels than these it is not worth the divisions that begin it.
+const LINE_LEAST: usize = 16;
+
 // The positions of the pixels from (x, y) on, of two points that do not coincide: t goes from pixel to pixel without a division.
 pub fn linear_positions(g: LinearGradient, x: usize, y: usize, ks: &mut [u32])
     requires { ⌜ LimitedPoints (g .points) × (natAbs (squaredLength (g .points)) ≡ 0 → ⊥) ⌝ }
-    requires { ⌜ (x + length (now ks) ≤ 1024) × (y ≤ 1024) ⌝ }
+    requires { ⌜ (x + length (now ks) ≤ 1024) × (y ≤ 1024) × (length (now ks) ≤ 128) ⌝ }
     ensures { λ _. ⌜ now (ks .exit) ≡ tab (length (now (ks .entry))) (λ i. positionOf (mapped (g .spread) (linearT (g .points) (x + i) y))) ⌝ }
 {
     let p = g.points;
     let d = gradient::squared_length(p);
     let step = gradient::row_step(p);
-    let mut q = gradient::quotient_at(p, x, y);
+    let q = gradient::quotient_at(p, x, y);
+    if has_line(g.spread, ks.len(), q, step, d) {
+        along_line(in_parts(q, d), in_parts(step, d), ks);
+        return;
+    }
+    along_quotients(g, x, y, q, step, d, ks);
+}
+
+// Whether a line serves for n pixels.
+fn has_line(spread: u32, n: usize, q: Quotient, step: Quotient, d: i64) -> bool
+    ensures { λ r. ⌜ (r ≡ true → Lined spread q step d) ⌝ }
+{
+    if n < LINE_LEAST {
+        return false;
+    }
+    if !gradient::pads(spread) {
+        return false;
+    }
+    if !is_below(q.whole, FIRST_LIMIT) {
+        return false;
+    }
+    if !is_below(step.whole, STEP_LIMIT) {
+        return false;
+    }
+    is_below(d, LENGTH_LIMIT)
+}
+
+// Whether z is below n in size.
+fn is_below(z: i64, n: i64) -> bool
+    requires { ⌜ natAbs n ≤ 137438953472 ⌝ }
+    ensures { λ r. ⌜ (r ≡ true → natAbs z < natAbs n) ⌝ }
+{
+    -n < z && z < n
+}
+
+// A quotient over d in parts of a line, rounded up.
+fn in_parts(q: Quotient, d: i64) -> i64
+    requires { ⌜ Proper q d × (natAbs d < 137438953472) × (natAbs (q .whole) < 131072) ⌝ }
+    ensures { λ r. ⌜ r ≡ inParts q d ⌝ }
+{
+    q.whole * PARTS + ((fraction(q.rest as u64, d as u64) + 1) as i64)
+}
+
+// r / d in parts of a line, by two divisions of 64 bits.
+fn fraction(r: u64, d: u64) -> u64
+    requires { ⌜ (r < d) × (d < 137438953472) ⌝ }
+    ensures { λ k. ⌜ (k ≡ r * lineParts / d) × (k < lineParts) ⌝ }
+{
+    let n = r * HALF_BITS;
+    n / d * HALF_BITS + n % d * HALF_BITS / d
+}
+
+// The positions of pixels whose t is a line, where the spread pads.
+fn along_line(first: i64, step: i64, ks: &mut [u32])
+    requires { ⌜ (natAbs first ≤ 2305843009213693952) × (natAbs step ≤ 18014398509481984) × (length (now ks) ≤ 128) ⌝ }
+    ensures { λ _. ⌜ now (ks .exit) ≡ tab (length (now (ks .entry))) (λ i. positionOf (floorDiv (first +ℤ step *ℤ pos i) lineParts)) ⌝ }
+{
+    let mut t = first;
+    let mut i = 0;
+    while i < ks.len() {
+        ks[i] = position_in_parts(t);
+        t += step;
+        i += 1;
+    }
+}
+
+// The position of t in parts of a line: the high half of its bits has all of t, and 12 of a part's.
+fn position_in_parts(t: i64) -> u32
+    requires { ⌜ natAbs t ≤ 4611686018427387904 ⌝ }
+    ensures { λ k. ⌜ k ≡ positionOf (floorDiv t lineParts) ⌝ }
+{
+    padded(((t >> 32) as i32) >> 12)
+}
+
+// The position of t where the spread pads.
+fn padded(t: i32) -> u32
+    ensures { λ k. ⌜ k ≡ positionOf t ⌝ }
+{
+    let v = if t < 65536 { t } else { 65536 };
+    let w = if v < 0 { -1 } else { v };
+    (w + 1) as u32
+}
+
+// The positions of the pixels from (x, y) on, of any gradient: q is t at the first of them.
+fn along_quotients(
+    g: LinearGradient,
+    x: usize,
+    y: usize,
+    first: Quotient,
+    step: Quotient,
+    d: i64,
+    ks: &mut [u32],
+)
+    requires { ⌜ LimitedPoints (g .points) × (natAbs (squaredLength (g .points)) ≡ 0 → ⊥) ⌝ }
+    requires { ⌜ (x + length (now ks) ≤ 1024) × (y ≤ 1024) ⌝ }
+    requires { ⌜ (first ≡ quotientAt (g .points) x y) × (step ≡ rowStep (g .points)) × (d ≡ squaredLength (g .points)) ⌝ }
+    ensures { λ _. ⌜ now (ks .exit) ≡ tab (length (now (ks .entry))) (λ i. positionOf (mapped (g .spread) (linearT (g .points) (x + i) y))) ⌝ }
+{
+    let mut q = first;
     let mut i = 0;
     while i < ks.len() {
         ks[i] = position(g.spread, q.whole);

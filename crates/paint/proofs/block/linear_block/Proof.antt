@@ -39,7 +39,7 @@ pub linear-block-spec : {M : Type 1} → statement M
 linear-block-spec =
     tie.close
     (tie.spec
-    (λ c κs. let entry = c .before .before .before .before in ((entry .pre .0 .0, entry .pre .0 .2), (entry .pre .1 .0, entry .pre .1 .1)))
+    (λ c κs. let entry = c .before .before .before .before in ((entry .pre .0 .0, entry .pre .0 .2), (entry .pre .1 .0, entry .pre .1 .1, entry .pre .1 .3)))
     color-row-requires
     (λ c. search needs)
     (λ c. search needs)

@@ -1,131 +1,119 @@
--- `positions::linear_positions` meets its contract: the positions before i are stored, and q is t at the pixel i.
-use mathlib.Core.Path.{_≡_, refl, ap, _∙_}
-use Prim.Native.Nat.{ℕ, _+_, _-_, _≤_}
+-- `positions::linear_positions` meets its contract: by a line where one serves, and by quotients where none does.
+use mathlib.Core.Path.{_≡_, ap₂, _∙_}
+use Prim.Native.Nat.{ℕ}
 use native.Mathlib.Omega.{arith}
-use lib.IntN.{ℤ}
-use lib.ListN.{length, length-set}
+use lib.IntN.{ℤ, pos, _+ℤ_, _*ℤ_}
+use lib.ListN.{length}
 use mir.Syntax.{w64}
 use mir.Val.{toZ, ofZ}
-use Rattle.lists.specs.Lists.{tab, over}
-use Rattle.lists.proofs.Laws.{tab-turn, tab-all}
-use Rattle.fixed.proofs.Signed.{back, clean}
-use Rattle.paint.specs.Gradient.{squaredLength, linearT, mapped}
-use Rattle.paint.specs.Buffers.{Moderate, quotientAt}
+use Rattle.lists.specs.Lists.{tab}
+use Rattle.fixed.specs.Floor.{floorDiv}
+use Rattle.fixed.proofs.Signed.{back}
+use Rattle.paint.specs.Gradient.{squaredLength}
+use Rattle.paint.specs.Buffers.{Lined, quotientAt, rowStep, lineParts, inParts}
 use Rattle.paint.specs.Segments.{positionOf}
-use Rattle.paint.specs.declared.LinearGradient.{LinearGradient}
-use Rattle.paint.specs.declared.Quotient.{Quotient}
-use Rattle.paint.proofs.Walk.{whole-is-t, next-pixel, length-moderate, step-moderate, at-moderate}
+use Rattle.paint.proofs.Along.{parts-small, at-proper, step-proper, line-positions}
 use borrow.Author.Needs.{needs}
 use Rattle.paint.proofs.positions.linear_positions.Statement.{statement}
 use Rattle.paint.proofs.positions.linear_positions.Tie as tie
 
--- the position of the ith pixel
-abbrev place : LinearGradient → ℕ → ℕ → ℕ → ℕ
-place g x y i = positionOf (mapped (g .spread) (linearT (g .points) (x + i) y))
+abbrev start : tie.After-quotient-at → tie.Start
+start c = c .before .before .before .before .before
 
-abbrev Inv-loop : tie.InvT-loop
-Inv-loop g x y ks₀ d step q₀ i₀ ks q i =
-    (i ≤ length ks₀) × (length ks ≡ length ks₀) × (q ≡ quotientAt (g .points) (x + i) y) × (ks ≡ over (tab i (place g x y)) ks₀)
-
-abbrev μ-loop : tie.MeasureT-loop
-μ-loop g x y ks₀ d step q₀ i₀ ks q i = length ks₀ - i
-
-abbrev start : tie.At-loop Inv-loop μ-loop → tie.Start Inv-loop μ-loop
-start c = c .before .before .before .before .before .before
-
-moderate : (c : tie.In-loop Inv-loop μ-loop) → Moderate (c .before .loop .q)
-moderate c =
-    let l = c .before .loop in
-    let entry = start (c .before) in
-    let a = entry .args in
-    let p = entry .pre in
-    rw (l .inv .2) (at-moderate (a .g .points) (p .0 .1) (p .0 .0) (a .x + l .i) (a .y) (omega (arith, p .1 .0, l .inv .0)) (p .1 .1))
-
-placed : (c : tie.After-position Inv-loop μ-loop)
-    → let at-loop = c .before .before .before in
-    let a = start at-loop .args in c .position .result ≡ place (a .g) (a .x) (a .y) (at-loop .loop .i)
-placed c =
-    let in-loop = c .before .before in
-    let entry = start (in-loop .before) in
-    let a = entry .args in
-    let l = in-loop .before .loop in
-    c .position .ensures
-    ∙ ap (λ (z : ℤ). positionOf (mapped (a .g .spread) z))
-    (clean w64 1152921504606846976 (l .q .whole) tt (moderate in-loop .whole)
-    ∙ ap (λ (r : Quotient). r .whole) (l .inv .2)
-    ∙ whole-is-t (a .g .points) (entry .pre .0 .1) (a .x + l .i) (a .y))
-
-length-is : (c : tie.After-squared-length Inv-loop μ-loop)
-    → toZ w64 (ofZ w64 (c .squared-length .result)) ≡ squaredLength (c .before .before .before .args .g .points)
+-- what the local holds
+length-is : (c : tie.After-quotient-at) → toZ w64 (ofZ w64 (c .before .before .squared-length .result)) ≡ squaredLength (start c .args .g .points)
 length-is c =
-    let d = c .squared-length in
+    let d = c .before .before .squared-length in
     back w64 (d .result) (d .ok) ∙ d .ensures
 
-quotient-at-requires : tie.Need-quotient-at-requires Inv-loop μ-loop
+quotient-at-requires : tie.Need-quotient-at-requires
 quotient-at-requires c κs =
     let entry = c .before .before .before .before in
-    ((entry .pre .0 .0, entry .pre .0 .1), (omega arith, omega arith))
+    (entry .pre .0, (omega (arith, entry .pre .1 .0), entry .pre .1 .1))
 
-loop-holds : tie.Need-loop-holds Inv-loop μ-loop
-loop-holds c =
-    let a = c .before .before .before .before .before .args in
-    let e : a .x + 0 ≡ a .x = omega arith in
-    (omega arith, refl, rw e (c .quotient-at .ensures), refl)
+-- ---- a line serves
+lined : (c : tie.Then1)
+    → let a = start (c .before .before) .args in Lined (a .g .spread) (quotientAt (a .g .points) (a .x) (a .y)) (rowStep (a .g .points)) (squaredLength (a .g .points))
+lined c =
+    let known = c .before .before in
+    rw (known .quotient-at .ensures, known .before .row-step .ensures, length-is known) at (c .before .has-line .ensures (c .if1 .taken))
 
-add-quotients-requires : tie.Need-add-quotients-requires Inv-loop μ-loop
-add-quotients-requires c κs =
-    let in-loop = c .before .before in
-    let after-row-step = in-loop .before .before .before in
-    let after-squared-length = after-row-step .before in
-    let entry = after-squared-length .before .before .before in
-    let p = entry .args .g .points in
-    let r = entry .pre .0 in (
-      moderate in-loop,
-      rw (after-row-step .row-step .ensures) (step-moderate p (r .1) (r .0)),
-      rw (length-is after-squared-length) (length-moderate p (r .1) (r .0)),
-    )
-
-loop-again : tie.Need-loop-again Inv-loop μ-loop
-loop-again c =
-    let after-position = c .before in
-    let at-loop = after-position .before .before .before in
-    let after-row-step = at-loop .before .before in
-    let after-squared-length = after-row-step .before in
-    let entry = start at-loop in
+in-parts-requires : tie.Need-in-parts-requires
+in-parts-requires c κs =
+    let known = c .before .before in
+    let entry = start known in
     let a = entry .args in
-    let l = at-loop .loop in
-    let e : a .x + (l .i + 1) ≡ a .x + l .i + 1 = omega arith in (
-      search needs,
-      simp length-set (omega (arith, l .inv .1)),
-      c .add-quotients .ensures
-          ∙ rw (l .inv .2, after-row-step .row-step .ensures, length-is after-squared-length, e)
-          (next-pixel (a .g .points) (entry .pre .0 .1) (a .x + l .i) (a .y)),
-      tab-turn (place (a .g) (a .x) (a .y)) (l .ks) (a .ks .now) (l .i) (after-position .position .result) (placed after-position) (l .inv .3)
-          (omega (arith, l .inv .1)),
+    rw (known .quotient-at .ensures, length-is known) (at-proper (a .g .points) (entry .pre .0 .1) (a .x) (a .y), lined c .length, lined c .whole)
+
+in-parts-requires-2 : tie.Need-in-parts-requires-2
+in-parts-requires-2 c κs =
+    let known = c .before .before .before in
+    let entry = start known in
+    rw (known .before .row-step .ensures, length-is known)
+    (step-proper (entry .args .g .points) (entry .pre .0 .1), lined (c .before) .length, omega (arith, lined (c .before) .growth))
+
+first-is : (c : tie.After-in-parts)
+    → let a = start (c .before .before .before) .args in
+    toZ w64 (ofZ w64 (c .in-parts .result)) ≡ inParts (quotientAt (a .g .points) (a .x) (a .y)) (squaredLength (a .g .points))
+first-is c =
+    let known = c .before .before .before in
+    back w64 (c .in-parts .result) (c .in-parts .ok) ∙ c .in-parts .ensures ∙ ap₂ inParts (known .quotient-at .ensures) (length-is known)
+
+step-is : (c : tie.After-in-parts2)
+    → let a = start (c .before .before .before .before) .args in
+    toZ w64 (ofZ w64 (c .in-parts2 .result)) ≡ inParts (rowStep (a .g .points)) (squaredLength (a .g .points))
+step-is c =
+    let known = c .before .before .before .before in
+    back w64 (c .in-parts2 .result) (c .in-parts2 .ok) ∙ c .in-parts2 .ensures ∙ ap₂ inParts (known .before .row-step .ensures) (length-is known)
+
+along-line-requires : tie.Need-along-line-requires
+along-line-requires c κs =
+    let after-step = c .before in
+    let after-first = after-step .before in
+    let then1 = after-first .before in
+    let entry = start (then1 .before .before) in
+    let a = entry .args in
+    let p = a .g .points in
+    let apart = entry .pre .0 .1 in
+    rw (first-is after-first, step-is after-step) (
+      parts-small (quotientAt p (a .x) (a .y)) (squaredLength p) (at-proper p apart (a .x) (a .y)) 131072 (lined then1 .whole),
+      parts-small (rowStep p) (squaredLength p) (step-proper p apart) 1024 (lined then1 .growth),
+      entry .pre .1 .2,
     )
 
-returns : tie.Need-returns Inv-loop μ-loop
+returns : tie.Need-returns
 returns c =
-    let l = c .before .loop in
-    let a = start (c .before) .args in
-    tab-all (place (a .g) (a .x) (a .y)) (l .ks) (a .ks .now) (l .i) (length (a .ks .now)) (l .inv .3) (omega (arith, l .inv .1)) refl
+    let after-line = c .before .before in
+    let after-step = after-line .before .before in
+    let after-first = after-step .before in
+    let then1 = after-first .before in
+    let entry = start (then1 .before .before) in
+    let a = entry .args in
+    let n = length (a .ks .now) in
+    after-line .along-line .ensures
+    ∙ ap₂ (λ (first step : ℤ). tab n (λ i. positionOf (floorDiv (first +ℤ step *ℤ pos i) lineParts))) (first-is after-first) (step-is after-step)
+    ∙ line-positions (a .g .points) (entry .pre .0 .1) (a .g .spread) (a .x) (a .y) n (lined then1 .pads) (entry .pre .1 .2) (lined then1 .length)
+
+-- ---- none does
+along-quotients-requires : tie.Need-along-quotients-requires
+along-quotients-requires c κs =
+    let known = c .before .before .before in
+    let entry = start known in
+    (entry .pre .0, ((entry .pre .1 .0, entry .pre .1 .1), (known .quotient-at .ensures, known .before .row-step .ensures, length-is known)))
 
 pub linear-positions-spec : {M : Type 1} → statement M
 linear-positions-spec =
     tie.close
     (tie.spec
-    Inv-loop
-    μ-loop
     (λ c κs. c .before .before .pre .0 .0)
     (λ c κs. c .before .before .before .pre .0)
     quotient-at-requires
-    loop-holds
     (λ c κs. tt)
+    in-parts-requires
+    in-parts-requires-2
+    along-line-requires
     (λ c. search needs)
+    returns
+    along-quotients-requires
     (λ c. search needs)
-    add-quotients-requires
-    (λ c. search needs)
-    (λ c. search needs)
-    loop-again
-    (λ c. search needs)
-    returns)
+    (λ c. c .before .before .along-quotients .ensures))

@@ -47,7 +47,7 @@ block-requires c κs =
     let e = after-least .least .result in
     let ks = part-length (l .loop .ks) 0 (e - i) (omega arith) (omega (arith, h .1, l .loop .inv .1)) in
     let row = part-length (l .loop .row) (i * 4) (e * 4) (omega (arith, h .0)) (omega (arith, h .2, row-long l)) in
-    ((s .pre .0 .0, s .pre .0 .1), (omega (arith, ks, h .0, h .2, s .pre .1 .0), s .pre .1 .1, omega (arith, ks, row, h .0)))
+    ((s .pre .0 .0, s .pre .0 .1), (omega (arith, ks, h .0, h .2, s .pre .1 .0), s .pre .1 .1, omega (arith, ks, row, h .0), omega (arith, ks, h .1)))
 
 loop-again : tie.Need-loop-again Inv-loop μ-loop
 loop-again c =

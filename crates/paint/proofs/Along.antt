@@ -1,0 +1,216 @@
+-- t along a row as a line: its quotients by d are quotients of a line in parts of 2^44, as long as (j + 1) d is below that.
+use mathlib.Core.Path.{_≡_, refl, sym, ap, ap₂, _∙_, subst}
+use mathlib.Core.Bool.{Bool, true, false, cond}
+use mathlib.Core.List.{[], _∷_}
+use Prim.Native.Nat.{ℕ, _+_, _*_, _/_, _%_, _≤_, _<_}
+use native.Mathlib.Nat.{le-refl, le-trans, mul-le-mul, mul-le-mul-right, lt-of-mul-lt-mul-right, div-eq-of-lt-le, div-lt-iff-lt-mul, div-div-eq-div-mul, div-add-mod, mod-lt}
+use native.Mathlib.Omega.{arith}
+use borrow.Author.Tests.{le-ltb, ltb-true}
+use lib.Dec.{T, lit<, ltb}
+use lib.IntN.{ℤ, pos, negsuc, natAbs, _+ℤ_, _-ℤ_, _*ℤ_}
+use lib.Signed.{nonNeg, ltZ, ltZ-yes}
+use Rattle.fixed.specs.Floor.{floorDiv, floorMod}
+use Rattle.fixed.proofs.Poly as P
+use Rattle.fixed.proofs.Poly.{_⊕_, _⊖_, _⊗_}
+use Rattle.fixed.proofs.Within.{Within, within-pos, within-add, within-mul, within-widen}
+use Rattle.fixed.proofs.Sign.{is-positive}
+use Rattle.lists.specs.Lists.{tab}
+use Rattle.lists.proofs.Laws.{upto-same}
+use Rattle.paint.specs.Gradient.{rampUnit, centre, squaredLength, projection, linearT, mapped}
+use Rattle.paint.specs.Buffers.{Proper, Pads, quotientOf, quotientAt, rowStep, lineParts, inParts}
+use Rattle.paint.specs.Segments.{positionOf}
+use Rattle.paint.specs.declared.FixedPoints.{FixedPoints}
+use Rattle.paint.specs.declared.Quotient.{Quotient}
+use Rattle.paint.proofs.Folded.{rest-below}
+use Rattle.paint.proofs.Quotients.{floor-whole, floor-parts}
+use Rattle.paint.proofs.Slope.{squared-is, above}
+use Rattle.paint.proofs.Walk.{positive, whole-is-t}
+
+-- ---- natural numbers: u and v are a s / d and h s / d, k is (a j + h) / d
+lower : (s d a h j u v k : ℕ) → 0 < d → a * s < d * u + d → h * s < d * v + d → d * k ≤ a * j + h → k * s ≤ (u + 1) * j + (v + 1)
+lower s d a h j u v k l f g e =
+    let f' : a * s ≤ d * u + d = omega arith in
+    let m : k * s < (u + 1) * j + (v + 1) = lt-of-mul-lt-mul-right d (omega (arith, mul-le-mul-right j f', mul-le-mul-right s e)) in
+    omega arith
+
+upper : (s d a h j u v k : ℕ) → (j + 1) * d < s → d * u ≤ a * s → d * v ≤ h * s → a * j + h < d * k + d → (u + 1) * j + (v + 1) < (k + 1) * s
+upper s d a h j u v k l f g e =
+    let e' : a * j + h + 1 ≤ d * k + d = omega arith in
+    lt-of-mul-lt-mul-right d (omega (arith, mul-le-mul-right j f, mul-le-mul-right s e'))
+
+linear-form : (s d a h j : ℕ) → 0 < d → (j + 1) * d < s → ((a * s / d + 1) * j + (h * s / d + 1)) / s ≡ (a * j + h) / d
+linear-form s d a h j l near =
+    let A = div-add-mod (a * s) d in
+    let H = div-add-mod (h * s) d in
+    let K = div-add-mod (a * j + h) d in
+    let u = a * s / d in
+    let v = h * s / d in
+    let k = (a * j + h) / d in
+    div-eq-of-lt-le s (lower s d a h j u v k l (omega (arith, A, mod-lt (a * s) l)) (omega (arith, H, mod-lt (h * s) l)) (omega (arith, K)))
+    (upper s d a h j u v k near (omega (arith, A)) (omega (arith, H)) (omega (arith, K, mod-lt (a * j + h) l)))
+
+-- ---- a fraction in parts of 2^44, by two divisions of 22 bits more each
+pub fraction-below : (r d : ℕ) → r < d → r * lineParts / d < lineParts
+fraction-below r d h = div-lt-iff-lt-mul {k = d} {x = r * lineParts} {y = lineParts} (omega arith) .1 (omega arith)
+
+pub twice-divided : (r d : ℕ) → 0 < d → r * 4194304 / d * 4194304 + r * 4194304 % d * 4194304 / d ≡ r * lineParts / d
+twice-divided r d some =
+    let n = r * 4194304 in
+    let m = n % d * 4194304 in
+    let A = div-add-mod n d in
+    let B = div-add-mod m d in
+    sym (div-eq-of-lt-le d (omega (arith, A, B)) (omega (arith, A, B, mod-lt m some)))
+
+-- ---- integers: n is t's numerator at the first pixel, s what it grows by
+module _ (n s : ℤ) (d j : ℕ) (some : 0 < d) where
+  -- t after j steps, and the line's number there
+  abbrev wholes : ℕ → ℤ
+  wholes k = floorDiv n d +ℤ floorDiv s d *ℤ pos j +ℤ pos k
+
+  by-quotients : floorDiv (n +ℤ s *ℤ pos j) d ≡ wholes ((floorMod s d * j + floorMod n d) / d)
+  by-quotients =
+      let z = floorMod s d * j + floorMod n d in
+      floor-parts (n +ℤ s *ℤ pos j) (wholes (z / d)) (z % d) d (mod-lt z some)
+      (ap₂ (λ (x y : ℤ). x +ℤ y *ℤ pos j) (floor-whole n d some) (floor-whole s d some)
+      ∙ P.eq (P.var (floorDiv n d) ⊗ P.num d ⊕ P.num (floorMod n d) ⊕ (P.var (floorDiv s d) ⊗ P.num d ⊕ P.num (floorMod s d)) ⊗ P.num j)
+      ((P.var (floorDiv n d) ⊕ P.var (floorDiv s d) ⊗ P.num j ⊕ P.num (z / d)) ⊗ P.num d ⊕ P.num (z % d))
+      (omega (arith, div-add-mod z d)))
+      .0
+
+  by-parts : (u v : ℕ)
+      → floorDiv (floorDiv n d *ℤ pos lineParts +ℤ pos v +ℤ (floorDiv s d *ℤ pos lineParts +ℤ pos u) *ℤ pos j) lineParts ≡ wholes ((u * j + v) / lineParts)
+  by-parts u v =
+      let z = u * j + v in
+      floor-parts (floorDiv n d *ℤ pos lineParts +ℤ pos v +ℤ (floorDiv s d *ℤ pos lineParts +ℤ pos u) *ℤ pos j) (wholes (z / lineParts)) (z % lineParts) lineParts
+      (mod-lt z (lit< tt))
+      (P.eq (P.var (floorDiv n d) ⊗ P.num lineParts ⊕ P.num v ⊕ (P.var (floorDiv s d) ⊗ P.num lineParts ⊕ P.num u) ⊗ P.num j)
+      ((P.var (floorDiv n d) ⊕ P.var (floorDiv s d) ⊗ P.num j ⊕ P.num (z / lineParts)) ⊗ P.num lineParts ⊕ P.num (z % lineParts))
+      (omega (arith, div-add-mod z lineParts)))
+      .0
+
+  same-quotient : (j + 1) * d < lineParts
+      → floorDiv (inParts (quotientOf n d) (pos d) +ℤ inParts (quotientOf s d) (pos d) *ℤ pos j) lineParts ≡ floorDiv (n +ℤ s *ℤ pos j) d
+  unfolding inParts
+  same-quotient near =
+      by-parts (floorMod s d * lineParts / d + 1) (floorMod n d * lineParts / d + 1)
+      ∙ ap wholes (linear-form lineParts d (floorMod s d) (floorMod n d) j some near)
+      ∙ sym by-quotients
+
+-- ---- the parts of a quotient
+module _ (q : Quotient) (d : ℤ) (h : Proper q d) where
+  fraction-small : natAbs (q .rest) * lineParts / natAbs d + 1 ≤ lineParts
+  fraction-small = omega (arith, fraction-below (natAbs (q .rest)) (natAbs d) (h .below))
+
+  pub parts-small : (w : ℕ) → natAbs (q .whole) < w → natAbs (inParts q d) ≤ w * lineParts
+  unfolding inParts
+  parts-small w l =
+      le-trans (within-add (within-mul {m = natAbs (q .whole)} {a = q .whole} (record { size = le-refl _ }) (within-pos lineParts))
+      (within-pos (natAbs (q .rest) * lineParts / natAbs d + 1))
+      .size)
+      (omega (arith, fraction-small))
+
+-- ---- the numbers of a line of at most 128 steps
+pub line-size : (first step : ℤ) (i : ℕ) → natAbs first ≤ 2305843009213693952 → natAbs step ≤ 18014398509481984 → i ≤ 128
+    → Within 4611686018427387904 (first +ℤ step *ℤ pos i)
+line-size first step i h k l =
+    within-widen tt
+    (within-add {m = 2305843009213693952} {a = first} (record { size = h })
+    (within-mul {m = 18014398509481984} {n = 128} {a = step} {b = pos i} (record { size = k }) (record { size = l })))
+
+pub line-first : (first step : ℤ) → first ≡ first +ℤ step *ℤ pos 0
+line-first first step = P.eq (P.var first) (P.var first ⊕ P.var step ⊗ P.num 0) (omega arith)
+
+pub line-next : (first step : ℤ) (i : ℕ) → first +ℤ step *ℤ pos i +ℤ step ≡ first +ℤ step *ℤ pos (i + 1)
+line-next first step i = P.eq (P.var first ⊕ P.var step ⊗ P.num i ⊕ P.var step) (P.var first ⊕ P.var step ⊗ P.num (i + 1)) (omega arith)
+
+-- the high half of 64 bits has 30 and a sign
+pub high-half : (z : ℤ) → natAbs z ≤ 4611686018427387904 → Within 1073741824 (floorDiv z 4294967296)
+high-half (pos n) h = record { size = omega arith }
+high-half (negsuc n) h = record { size = omega arith }
+
+-- and its floor is that of the whole
+pub floor-twice : (z : ℤ) → floorDiv (floorDiv z 4294967296) 4096 ≡ floorDiv z lineParts
+floor-twice (pos n) = ap pos (div-div-eq-div-mul n 4294967296 4096)
+floor-twice (negsuc n) = ap negsuc (div-div-eq-div-mul n 4294967296 4096)
+
+-- t cut to -1..65,536, one below its position
+abbrev pub cut : ℤ → ℤ
+cut t = let v = cond (ltZ t (pos 65536)) t (pos 65536) in cond (ltZ v (pos 0)) (negsuc 0) v
+
+module _ where
+  pub cut-small : (t : ℤ) → Within 65536 (cut t)
+  cut-small (negsuc n) = record { size = omega arith }
+  cut-small (pos n) = by (ltb n 65536) refl
+    where
+      by : (b : Bool) → ltb n 65536 ≡ b → Within 65536 (cut (pos n))
+      by true e = rw (e, le-ltb n 0 (omega arith)) (record { size = omega (arith, ltb-true n 65536 e) })
+      by false e = rw e (record { size = omega arith })
+
+  pub cut-sign : (t : ℤ) → T (nonNeg (cut t +ℤ pos 1))
+  cut-sign (negsuc n) = tt
+  cut-sign (pos n) = by (ltb n 65536) refl
+    where
+      by : (b : Bool) → ltb n 65536 ≡ b → T (nonNeg (cut (pos n) +ℤ pos 1))
+      by true e = rw (e, le-ltb n 0 (omega arith)) tt
+      by false e = rw e tt
+
+  pub cut-position : (t : ℤ) → natAbs (cut t +ℤ pos 1) ≡ positionOf t
+  unfolding positionOf
+  cut-position (negsuc n) = refl
+  cut-position (pos n) = by (ltb n 65536) refl
+    where
+      by : (b : Bool) → ltb n 65536 ≡ b → natAbs (cut (pos n) +ℤ pos 1) ≡ positionOf (pos n)
+      by true e = rw (e, le-ltb n 0 (omega arith))
+      by false e = rw (e, le-ltb n 0 (omega arith))
+
+-- what the tests of a limit tell
+pub below-size : (z n : ℤ) → ltZ (pos 0 -ℤ n) z ≡ true → ltZ z n ≡ true → natAbs z < natAbs n
+below-size z n e f =
+    by z n (P.from-lt (P.num 0 ⊖ P.var n) (P.var z) (ltZ-yes (subst T (sym e) tt))) (P.from-lt (P.var z) (P.var n) (ltZ-yes (subst T (sym f) tt)))
+  where
+    by : (z n : ℤ) → 0 + P.dn n + P.dn z < P.up z + (0 + P.up n) → P.up z + P.dn n < P.up n + P.dn z → natAbs z < natAbs n
+    by (pos a) (pos b) h k = omega arith
+    by (pos a) (negsuc b) h k = omega arith
+    by (negsuc a) (pos b) h k = omega arith
+    by (negsuc a) (negsuc b) h k = omega arith
+
+-- ---- t along a row
+shifted-by : (dx x0 rest : ℤ) (x j : ℕ)
+    → pos 65536 *ℤ (dx *ℤ (pos (256 * (x + j) + 128) -ℤ x0) +ℤ rest)
+    ≡ pos 65536 *ℤ (dx *ℤ (pos (256 * x + 128) -ℤ x0) +ℤ rest) +ℤ pos 16777216 *ℤ dx *ℤ pos j
+shifted-by dx x0 rest x j =
+    P.eq (P.num 65536 ⊗ (P.var dx ⊗ (P.num (256 * (x + j) + 128) ⊖ P.var x0) ⊕ P.var rest))
+    (P.num 65536 ⊗ (P.var dx ⊗ (P.num (256 * x + 128) ⊖ P.var x0) ⊕ P.var rest) ⊕ P.num 16777216 ⊗ P.var dx ⊗ P.num j)
+    (omega arith)
+
+module _ (p : FixedPoints) (apart : natAbs (squaredLength p) ≡ 0 → ⊥) where
+  proper : (z : ℤ) → Proper (quotientOf z (natAbs (squaredLength p))) (squaredLength p)
+  proper z = record { rest = refl; divisor = is-positive (above (squared-is p) apart); below = rest-below z (natAbs (squaredLength p)) (positive p apart) }
+
+  pub at-proper : (x y : ℕ) → Proper (quotientAt p x y) (squaredLength p)
+  unfolding quotientAt
+  at-proper x y = proper (pos rampUnit *ℤ projection p x y)
+
+  pub step-proper : Proper (rowStep p) (squaredLength p)
+  unfolding rowStep
+  step-proper = proper (pos 16777216 *ℤ (p .x1 -ℤ p .x0))
+
+  line-is-t : (x y j : ℕ) → (j + 1) * natAbs (squaredLength p) < lineParts
+      → floorDiv (inParts (quotientAt p x y) (squaredLength p) +ℤ inParts (rowStep p) (squaredLength p) *ℤ pos j) lineParts ≡ linearT p (x + j) y
+  unfolding quotientAt rowStep inParts
+  line-is-t x y j near =
+      same-quotient (pos rampUnit *ℤ projection p x y) (pos 16777216 *ℤ (p .x1 -ℤ p .x0)) (natAbs (squaredLength p)) j (positive p apart) near
+      ∙ ap (λ (z : ℤ). floorDiv z (natAbs (squaredLength p)))
+      (sym (shifted-by (p .x1 -ℤ p .x0) (p .x0) ((p .y1 -ℤ p .y0) *ℤ (centre y -ℤ p .y0)) x j))
+      ∙ whole-is-t p apart (x + j) y
+
+  pub line-positions : (spread x y n : ℕ) → Pads spread → n ≤ 128 → natAbs (squaredLength p) < 137438953472
+      → tab n (λ i. positionOf (floorDiv (inParts (quotientAt p x y) (squaredLength p) +ℤ inParts (rowStep p) (squaredLength p) *ℤ pos i) lineParts))
+      ≡ tab n (λ i. positionOf (mapped spread (linearT p (x + i) y)))
+  line-positions spread x y n pads few small =
+      upto-same n _ _
+      (λ i l.
+      let few' : i + 1 ≤ 128 = omega arith in
+      let small' : natAbs (squaredLength p) ≤ 137438953471 = omega arith in
+      let near : (i + 1) * natAbs (squaredLength p) < lineParts = omega (arith, mul-le-mul few' small') in
+      ap (λ (t : ℤ). positionOf t ∷ []) (line-is-t x y i near ∙ sym (pads .same (linearT p (x + i) y))))

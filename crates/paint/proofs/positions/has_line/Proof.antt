@@ -1,0 +1,41 @@
+-- `positions::has_line` meets its contract.
+use mathlib.Core.Path.{_≡_, refl, sym, subst}
+use mathlib.Core.Bool.{Bool, true, false, not}
+use lib.Dec.{T, lit≤}
+use mir.Syntax.{w64}
+use mir.Facts.{toZ-ofZ}
+use Rattle.fixed.proofs.Signed.{back}
+use Rattle.paint.proofs.positions.has_line.Statement.{statement}
+use Rattle.paint.proofs.positions.has_line.Tie as tie
+
+-- a test that is passed
+passed : (b : Bool) → not b ≡ false → b ≡ true
+passed true e = refl
+passed false e = absurd (subst T e tt)
+
+returns-5 : tie.Need-returns-5
+returns-5 c e =
+    let after-step = c .before .before in
+    let after-first = after-step .before .before .before in
+    let after-pads = after-first .before .before .before in
+    let entry = after-pads .before .before in
+    record {
+      pads = after-pads .pads .ensures (passed _ (after-first .before .before .if2 .left));
+      whole = rw (back w64 (entry .args .q .whole) (after-first .before .struct-told .given .0 .1)) at (after-first .is-below .ensures (passed _ (after-step .before .before .if3 .left)));
+      growth = rw (back w64 (entry .args .step .whole) (after-step .before .struct-told2 .given .0 .1)) at (after-step .is-below2 .ensures (passed _ (c .before .if4 .left)));
+      length = rw (toZ-ofZ (entry .fits .d)) at (c .is-below3 .ensures e);
+    }
+
+pub has-line-spec : {M : Type 1} → statement M
+has-line-spec =
+    tie.close
+    (tie.spec
+    (λ c e. absurd (subst T (sym e) tt))
+    (λ c κs. tt)
+    (λ c e. absurd (subst T (sym e) tt))
+    (λ c κs. lit≤ tt)
+    (λ c e. absurd (subst T (sym e) tt))
+    (λ c κs. lit≤ tt)
+    (λ c e. absurd (subst T (sym e) tt))
+    (λ c κs. lit≤ tt)
+    returns-5)
