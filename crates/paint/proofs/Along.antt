@@ -1,17 +1,15 @@
 -- t along a row as a line: its quotients by d are quotients of a line in parts of 2^44, as long as (j + 1) d is below that.
-use mathlib.Core.Path.{_≡_, refl, sym, ap, ap₂, _∙_, subst}
-use mathlib.Core.Bool.{Bool, true, false, cond}
+use mathlib.Core.Path.{_≡_, refl, sym, ap, ap₂, _∙_}
 use mathlib.Core.List.{[], _∷_}
 use Prim.Native.Nat.{ℕ, _+_, _*_, _/_, _%_, _≤_, _<_}
-use native.Mathlib.Nat.{le-refl, le-trans, mul-le-mul, mul-le-mul-right, lt-of-mul-lt-mul-right, div-eq-of-lt-le, div-lt-iff-lt-mul, div-div-eq-div-mul, div-add-mod, mod-lt}
+use native.Mathlib.Nat.{le-refl, le-trans, mul-le-mul, mul-le-mul-right, lt-of-mul-lt-mul-right}
+use native.Mathlib.Nat.{div-eq-of-lt-le, div-lt-iff-lt-mul, div-div-eq-div-mul, div-add-mod, mod-lt}
 use native.Mathlib.Omega.{arith}
-use borrow.Author.Tests.{le-ltb, ltb-true}
-use lib.Dec.{T, lit<, ltb}
+use lib.Dec.{lit<}
 use lib.IntN.{ℤ, pos, negsuc, natAbs, _+ℤ_, _-ℤ_, _*ℤ_}
-use lib.Signed.{nonNeg, ltZ, ltZ-yes}
 use Rattle.fixed.specs.Floor.{floorDiv, floorMod}
 use Rattle.fixed.proofs.Poly as P
-use Rattle.fixed.proofs.Poly.{_⊕_, _⊖_, _⊗_}
+use Rattle.fixed.proofs.Poly.{_⊕_, _⊗_}
 use Rattle.fixed.proofs.Within.{Within, within-pos, within-add, within-mul, within-widen}
 use Rattle.fixed.proofs.Sign.{is-positive}
 use Rattle.lists.specs.Lists.{tab}
@@ -24,7 +22,7 @@ use Rattle.paint.specs.declared.Quotient.{Quotient}
 use Rattle.paint.proofs.Folded.{rest-below}
 use Rattle.paint.proofs.Quotients.{floor-whole, floor-parts}
 use Rattle.paint.proofs.Slope.{squared-is, above}
-use Rattle.paint.proofs.Walk.{positive, whole-is-t}
+use Rattle.paint.proofs.Walk.{shifted, positive, whole-is-t}
 
 -- ---- natural numbers: u and v are a s / d and h s / d, k is (a j + h) / d
 lower : (s d a h j u v k : ℕ) → 0 < d → a * s < d * u + d → h * s < d * v + d → d * k ≤ a * j + h → k * s ≤ (u + 1) * j + (v + 1)
@@ -49,7 +47,7 @@ linear-form s d a h j l near =
     div-eq-of-lt-le s (lower s d a h j u v k l (omega (arith, A, mod-lt (a * s) l)) (omega (arith, H, mod-lt (h * s) l)) (omega (arith, K)))
     (upper s d a h j u v k near (omega (arith, A)) (omega (arith, H)) (omega (arith, K, mod-lt (a * j + h) l)))
 
--- ---- a fraction in parts of 2^44, by two divisions of 22 bits more each
+-- ---- a fraction in parts of 2^44, by two divisions
 pub fraction-below : (r d : ℕ) → r < d → r * lineParts / d < lineParts
 fraction-below r d h = div-lt-iff-lt-mul {k = d} {x = r * lineParts} {y = lineParts} (omega arith) .1 (omega arith)
 
@@ -63,7 +61,7 @@ twice-divided r d some =
 
 -- ---- integers: n is t's numerator at the first pixel, s what it grows by
 module _ (n s : ℤ) (d j : ℕ) (some : 0 < d) where
-  -- t after j steps, and the line's number there
+  -- t at the jth pixel: the wholes, and what the rests add up to
   abbrev wholes : ℕ → ℤ
   wholes k = floorDiv n d +ℤ floorDiv s d *ℤ pos j +ℤ pos k
 
@@ -81,8 +79,8 @@ module _ (n s : ℤ) (d j : ℕ) (some : 0 < d) where
       → floorDiv (floorDiv n d *ℤ pos lineParts +ℤ pos v +ℤ (floorDiv s d *ℤ pos lineParts +ℤ pos u) *ℤ pos j) lineParts ≡ wholes ((u * j + v) / lineParts)
   by-parts u v =
       let z = u * j + v in
-      floor-parts (floorDiv n d *ℤ pos lineParts +ℤ pos v +ℤ (floorDiv s d *ℤ pos lineParts +ℤ pos u) *ℤ pos j) (wholes (z / lineParts)) (z % lineParts) lineParts
-      (mod-lt z (lit< tt))
+      floor-parts (floorDiv n d *ℤ pos lineParts +ℤ pos v +ℤ (floorDiv s d *ℤ pos lineParts +ℤ pos u) *ℤ pos j) (wholes (z / lineParts))
+      (z % lineParts) lineParts (mod-lt z (lit< tt))
       (P.eq (P.var (floorDiv n d) ⊗ P.num lineParts ⊕ P.num v ⊕ (P.var (floorDiv s d) ⊗ P.num lineParts ⊕ P.num u) ⊗ P.num j)
       ((P.var (floorDiv n d) ⊕ P.var (floorDiv s d) ⊗ P.num j ⊕ P.num (z / lineParts)) ⊗ P.num lineParts ⊕ P.num (z % lineParts))
       (omega (arith, div-add-mod z lineParts)))
@@ -123,66 +121,17 @@ line-first first step = P.eq (P.var first) (P.var first ⊕ P.var step ⊗ P.num
 pub line-next : (first step : ℤ) (i : ℕ) → first +ℤ step *ℤ pos i +ℤ step ≡ first +ℤ step *ℤ pos (i + 1)
 line-next first step i = P.eq (P.var first ⊕ P.var step ⊗ P.num i ⊕ P.var step) (P.var first ⊕ P.var step ⊗ P.num (i + 1)) (omega arith)
 
--- the high half of 64 bits has 30 and a sign
+-- the high half of their bits
 pub high-half : (z : ℤ) → natAbs z ≤ 4611686018427387904 → Within 1073741824 (floorDiv z 4294967296)
 high-half (pos n) h = record { size = omega arith }
 high-half (negsuc n) h = record { size = omega arith }
 
--- and its floor is that of the whole
+-- t by the high half
 pub floor-twice : (z : ℤ) → floorDiv (floorDiv z 4294967296) 4096 ≡ floorDiv z lineParts
 floor-twice (pos n) = ap pos (div-div-eq-div-mul n 4294967296 4096)
 floor-twice (negsuc n) = ap negsuc (div-div-eq-div-mul n 4294967296 4096)
 
--- t cut to -1..65,536, one below its position
-abbrev pub cut : ℤ → ℤ
-cut t = let v = cond (ltZ t (pos 65536)) t (pos 65536) in cond (ltZ v (pos 0)) (negsuc 0) v
-
-module _ where
-  pub cut-small : (t : ℤ) → Within 65536 (cut t)
-  cut-small (negsuc n) = record { size = omega arith }
-  cut-small (pos n) = by (ltb n 65536) refl
-    where
-      by : (b : Bool) → ltb n 65536 ≡ b → Within 65536 (cut (pos n))
-      by true e = rw (e, le-ltb n 0 (omega arith)) (record { size = omega (arith, ltb-true n 65536 e) })
-      by false e = rw e (record { size = omega arith })
-
-  pub cut-sign : (t : ℤ) → T (nonNeg (cut t +ℤ pos 1))
-  cut-sign (negsuc n) = tt
-  cut-sign (pos n) = by (ltb n 65536) refl
-    where
-      by : (b : Bool) → ltb n 65536 ≡ b → T (nonNeg (cut (pos n) +ℤ pos 1))
-      by true e = rw (e, le-ltb n 0 (omega arith)) tt
-      by false e = rw e tt
-
-  pub cut-position : (t : ℤ) → natAbs (cut t +ℤ pos 1) ≡ positionOf t
-  unfolding positionOf
-  cut-position (negsuc n) = refl
-  cut-position (pos n) = by (ltb n 65536) refl
-    where
-      by : (b : Bool) → ltb n 65536 ≡ b → natAbs (cut (pos n) +ℤ pos 1) ≡ positionOf (pos n)
-      by true e = rw (e, le-ltb n 0 (omega arith))
-      by false e = rw (e, le-ltb n 0 (omega arith))
-
--- what the tests of a limit tell
-pub below-size : (z n : ℤ) → ltZ (pos 0 -ℤ n) z ≡ true → ltZ z n ≡ true → natAbs z < natAbs n
-below-size z n e f =
-    by z n (P.from-lt (P.num 0 ⊖ P.var n) (P.var z) (ltZ-yes (subst T (sym e) tt))) (P.from-lt (P.var z) (P.var n) (ltZ-yes (subst T (sym f) tt)))
-  where
-    by : (z n : ℤ) → 0 + P.dn n + P.dn z < P.up z + (0 + P.up n) → P.up z + P.dn n < P.up n + P.dn z → natAbs z < natAbs n
-    by (pos a) (pos b) h k = omega arith
-    by (pos a) (negsuc b) h k = omega arith
-    by (negsuc a) (pos b) h k = omega arith
-    by (negsuc a) (negsuc b) h k = omega arith
-
 -- ---- t along a row
-shifted-by : (dx x0 rest : ℤ) (x j : ℕ)
-    → pos 65536 *ℤ (dx *ℤ (pos (256 * (x + j) + 128) -ℤ x0) +ℤ rest)
-    ≡ pos 65536 *ℤ (dx *ℤ (pos (256 * x + 128) -ℤ x0) +ℤ rest) +ℤ pos 16777216 *ℤ dx *ℤ pos j
-shifted-by dx x0 rest x j =
-    P.eq (P.num 65536 ⊗ (P.var dx ⊗ (P.num (256 * (x + j) + 128) ⊖ P.var x0) ⊕ P.var rest))
-    (P.num 65536 ⊗ (P.var dx ⊗ (P.num (256 * x + 128) ⊖ P.var x0) ⊕ P.var rest) ⊕ P.num 16777216 ⊗ P.var dx ⊗ P.num j)
-    (omega arith)
-
 module _ (p : FixedPoints) (apart : natAbs (squaredLength p) ≡ 0 → ⊥) where
   proper : (z : ℤ) → Proper (quotientOf z (natAbs (squaredLength p))) (squaredLength p)
   proper z = record { rest = refl; divisor = is-positive (above (squared-is p) apart); below = rest-below z (natAbs (squaredLength p)) (positive p apart) }
@@ -201,7 +150,7 @@ module _ (p : FixedPoints) (apart : natAbs (squaredLength p) ≡ 0 → ⊥) wher
   line-is-t x y j near =
       same-quotient (pos rampUnit *ℤ projection p x y) (pos 16777216 *ℤ (p .x1 -ℤ p .x0)) (natAbs (squaredLength p)) j (positive p apart) near
       ∙ ap (λ (z : ℤ). floorDiv z (natAbs (squaredLength p)))
-      (sym (shifted-by (p .x1 -ℤ p .x0) (p .x0) ((p .y1 -ℤ p .y0) *ℤ (centre y -ℤ p .y0)) x j))
+      (sym (shifted (p .x1 -ℤ p .x0) (p .x0) ((p .y1 -ℤ p .y0) *ℤ (centre y -ℤ p .y0)) x j))
       ∙ whole-is-t p apart (x + j) y
 
   pub line-positions : (spread x y n : ℕ) → Pads spread → n ≤ 128 → natAbs (squaredLength p) < 137438953472

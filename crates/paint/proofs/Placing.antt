@@ -7,8 +7,9 @@ use native.Mathlib.Numerals.{add-one}
 use native.Mathlib.Omega.{arith}
 use borrow.Author.Tests.{le-ltb, ltb-true}
 use lib.Dec.{ltb}
-use lib.IntN.{ℤ, pos, negsuc}
+use lib.IntN.{ℤ, pos, negsuc, _+ℤ_}
 use lib.ListN.{length, getD}
+use lib.Signed.{ltZ}
 use Rattle.lists.specs.Lists.{tab}
 use Rattle.lists.proofs.Laws.{tab-length, tab-at}
 use Rattle.color.specs.declared.Pixel.{Pixel}
@@ -31,14 +32,25 @@ same-color (i ∷ rest) (pos n) = by (ltb n rampUnit) refl
     by true e = rw (le-ltb n 0 (omega arith), e, add-one n, le-ltb n 0 (omega arith), e)
     by false e = rw (le-ltb n 0 (omega arith), e)
 
-below : (u : ℤ) → positionOf u ≤ 65537
+pub position-small : (u : ℤ) → positionOf u ≤ 65537
 unfolding positionOf
-below (negsuc n) = omega arith
-below (pos n) = by (ltb n rampUnit) refl
+position-small (negsuc n) = omega arith
+position-small (pos n) = by (ltb n rampUnit) refl
   where
     by : (t : Bool) → ltb n rampUnit ≡ t → positionOf (pos n) ≤ 65537
     by true e = rw (le-ltb n 0 (omega arith), e) (omega (arith, ltb-true n rampUnit e))
     by false e = rw (le-ltb n 0 (omega arith), e) (omega arith)
+
+-- one more than t cut to -1..65,536 is its position
+pub cut-next : (t : ℤ) → let v = cond (ltZ t (pos rampUnit)) t (pos rampUnit) in cond (ltZ v (pos 0)) (negsuc 0) v +ℤ pos 1 ≡ pos (positionOf t)
+unfolding positionOf
+cut-next (negsuc n) = refl
+cut-next (pos n) = by (ltb n rampUnit) refl
+  where
+    by : (b : Bool) → ltb n rampUnit ≡ b
+        → let v = cond (ltb n rampUnit) (pos n) (pos rampUnit) in cond (ltZ v (pos 0)) (negsuc 0) v +ℤ pos 1 ≡ pos (positionOf (pos n))
+    by true e = rw (e, le-ltb n 0 (omega arith))
+    by false e = rw (e, le-ltb n 0 (omega arith))
 
 at-position : (spread : ℕ) (premultiply : Bool) (ramp : List Stop) (t : ℤ)
     → colorAtPosition premultiply ramp (positionOf (mapped spread t)) ≡ gradientColor spread premultiply ramp t
@@ -52,7 +64,7 @@ module _ (n spread : ℕ) (f : ℕ → ℤ) (ks : List ℕ) (e : ks ≡ tab n (�
     few = omega (arith, ap length e ∙ tab-length n _);
     below = λ i l.
         let m : i < n = omega (arith, ap length e ∙ tab-length n _) in
-        rw (e, tab-at n (λ i. positionOf (mapped spread (f i))) i 0 m) (below (mapped spread (f i)));
+        rw (e, tab-at n (λ i. positionOf (mapped spread (f i))) i 0 m) (position-small (mapped spread (f i)));
   }
 
   pub colored : (premultiply : Bool) (ramp : List Stop)

@@ -23,13 +23,17 @@ use Rattle.paint.proofs.Folded.{rest-below}
 use Rattle.paint.proofs.Quotients.{quotients-add}
 use Rattle.paint.proofs.Slope.{squared-is, above, one-t}
 
--- a pixel further on the row the numerator is larger by 65,536 times 256 dx
-shifted : (dx x0 rest : ℤ) (x : ℕ)
-    → pos 65536 *ℤ (dx *ℤ (pos (256 * (x + 1) + 128) -ℤ x0) +ℤ rest) ≡ pos 65536 *ℤ (dx *ℤ (pos (256 * x + 128) -ℤ x0) +ℤ rest) +ℤ pos 16777216 *ℤ dx
-shifted dx x0 rest x =
-    P.eq (P.num 65536 ⊗ (P.var dx ⊗ (P.num (256 * (x + 1) + 128) ⊖ P.var x0) ⊕ P.var rest))
-    (P.num 65536 ⊗ (P.var dx ⊗ (P.num (256 * x + 128) ⊖ P.var x0) ⊕ P.var rest) ⊕ P.num 16777216 ⊗ P.var dx)
+-- j pixels further on the row the numerator is larger by 65,536 times 256 dx j
+pub shifted : (dx x0 rest : ℤ) (x j : ℕ)
+    → pos 65536 *ℤ (dx *ℤ (pos (256 * (x + j) + 128) -ℤ x0) +ℤ rest)
+    ≡ pos 65536 *ℤ (dx *ℤ (pos (256 * x + 128) -ℤ x0) +ℤ rest) +ℤ pos 16777216 *ℤ dx *ℤ pos j
+shifted dx x0 rest x j =
+    P.eq (P.num 65536 ⊗ (P.var dx ⊗ (P.num (256 * (x + j) + 128) ⊖ P.var x0) ⊕ P.var rest))
+    (P.num 65536 ⊗ (P.var dx ⊗ (P.num (256 * x + 128) ⊖ P.var x0) ⊕ P.var rest) ⊕ P.num 16777216 ⊗ P.var dx ⊗ P.num j)
     (omega arith)
+
+once : (z : ℤ) → z *ℤ pos 1 ≡ z
+once z = P.eq (P.var z ⊗ P.num 1) (P.var z) (omega arith)
 
 small : (z : ℤ) → natAbs z ≤ 1048576 → Within 1048576 z
 small z h = record { size = h }
@@ -51,7 +55,9 @@ module _ (p : FixedPoints) (apart : natAbs (squaredLength p) ≡ 0 → ⊥) wher
       (is-positive (above (squared-is p) apart))
       ∙ quotients-add (pos rampUnit *ℤ projection p x y) (pos 16777216 *ℤ (p .x1 -ℤ p .x0)) (natAbs (squaredLength p)) positive
       ∙ ap (λ (z : ℤ). quotientOf z (natAbs (squaredLength p)))
-      (sym (shifted (p .x1 -ℤ p .x0) (p .x0) ((p .y1 -ℤ p .y0) *ℤ (centre y -ℤ p .y0)) x))
+      (sym
+      (shifted (p .x1 -ℤ p .x0) (p .x0) ((p .y1 -ℤ p .y0) *ℤ (centre y -ℤ p .y0)) x 1
+      ∙ ap (λ (z : ℤ). pos rampUnit *ℤ projection p x y +ℤ z) (once (pos 16777216 *ℤ (p .x1 -ℤ p .x0)))))
 
   -- ---- sizes
   module _ (near : LimitedPoints p) where

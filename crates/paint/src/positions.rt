@@ -29,20 +29,23 @@ pub fn position(spread: u32, t: i64) -> u32
     BEHIND
 }
 
-// t along a row is a line in parts of 2^44. Half as many bits are 2^22.
+// t along a row as a line is counted in parts: 2^44 of them are 1 of t, and 2^22 is the root of that.
 const PARTS: i64 = 17592186044416;
 
-const HALF_BITS: u64 = 4194304;
+const PARTS_ROOT: u64 = 4194304;
 
-// A line serves where the squared length of the gradient, t at the first pixel and what t grows by from pixel to pixel are below these.
+// The line has t at each pixel of a block, and fits 64 bits, if these are below: the gradient's squared length, t at the first pixel, what t grows by.
 const LENGTH_LIMIT: i64 = 137438953472;
 
 const FIRST_LIMIT: i64 = 131072;
 
 const STEP_LIMIT: i64 = 1024;
 
-// For fewer pixels than these it is not worth the divisions that begin it.
+// For fewer pixels the divisions that begin a line cost more than it saves.
 const LINE_LEAST: usize = 16;
+
+// t where a ramp ends, in 32 bits.
+const RAMP_END: i32 = 65536;
 
 // The positions of the pixels from (x, y) on, of two points that do not coincide: t goes from pixel to pixel without a division.
 pub fn linear_positions(g: LinearGradient, x: usize, y: usize, ks: &mut [u32])
@@ -88,7 +91,7 @@ fn is_below(z: i64, n: i64) -> bool
     -n < z && z < n
 }
 
-// A quotient over d in parts of a line, rounded up.
+// A quotient over d in parts, rounded up.
 fn in_parts(q: Quotient, d: i64) -> i64
     requires { ⌜ Proper q d × (natAbs d < 137438953472) × (natAbs (q .whole) < 131072) ⌝ }
     ensures { λ r. ⌜ r ≡ inParts q d ⌝ }
@@ -96,16 +99,17 @@ fn in_parts(q: Quotient, d: i64) -> i64
     q.whole * PARTS + ((fraction(q.rest as u64, d as u64) + 1) as i64)
 }
 
-// r / d in parts of a line, by two divisions of 64 bits.
+// r / d in parts, by two divisions, since r in parts may exceed 64 bits.
 fn fraction(r: u64, d: u64) -> u64
     requires { ⌜ (r < d) × (d < 137438953472) ⌝ }
     ensures { λ k. ⌜ (k ≡ r * lineParts / d) × (k < lineParts) ⌝ }
 {
-    let n = r * HALF_BITS;
-    n / d * HALF_BITS + n % d * HALF_BITS / d
+    let n = r * PARTS_ROOT;
+    n / d * PARTS_ROOT + n % d * PARTS_ROOT / d
 }
 
-// The positions of pixels whose t is a line, where the spread pads.
+// The positions of pixels whose t is a line in parts, where the spread pads: plain sums of at most 2^61 + 128 * 2^54, which the compiler does several at
+// a time.
 fn along_line(first: i64, step: i64, ks: &mut [u32])
     requires { ⌜ (natAbs first ≤ 2305843009213693952) × (natAbs step ≤ 18014398509481984) × (length (now ks) ≤ 128) ⌝ }
     ensures { λ _. ⌜ now (ks .exit) ≡ tab (length (now (ks .entry))) (λ i. positionOf (floorDiv (first +ℤ step *ℤ pos i) lineParts)) ⌝ }
@@ -119,7 +123,7 @@ fn along_line(first: i64, step: i64, ks: &mut [u32])
     }
 }
 
-// The position of t in parts of a line: the high half of its bits has all of t, and 12 of a part's.
+// The position of t in parts: t is in the high 32 bits, above 12 of the 44 that parts take.
 fn position_in_parts(t: i64) -> u32
     requires { ⌜ natAbs t ≤ 4611686018427387904 ⌝ }
     ensures { λ k. ⌜ k ≡ positionOf (floorDiv t lineParts) ⌝ }
@@ -131,12 +135,12 @@ fn position_in_parts(t: i64) -> u32
 fn padded(t: i32) -> u32
     ensures { λ k. ⌜ k ≡ positionOf t ⌝ }
 {
-    let v = if t < 65536 { t } else { 65536 };
+    let v = if t < RAMP_END { t } else { RAMP_END };
     let w = if v < 0 { -1 } else { v };
     (w + 1) as u32
 }
 
-// The positions of the pixels from (x, y) on, of any gradient: q is t at the first of them.
+// The positions of the pixels from (x, y) on, of any gradient. t at the first of them is given, and so is what it grows by; x and y are for the contract.
 fn along_quotients(
     g: LinearGradient,
     x: usize,

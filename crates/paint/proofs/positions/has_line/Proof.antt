@@ -19,10 +19,12 @@ returns-5 c e =
     let after-first = after-step .before .before .before in
     let after-pads = after-first .before .before .before in
     let entry = after-pads .before .before in
+    let first = after-first .is-below .ensures (passed _ (after-step .before .before .if3 .left)) in
+    let step = after-step .is-below2 .ensures (passed _ (c .before .if4 .left)) in
     record {
       pads = after-pads .pads .ensures (passed _ (after-first .before .before .if2 .left));
-      whole = rw (back w64 (entry .args .q .whole) (after-first .before .struct-told .given .0 .1)) at (after-first .is-below .ensures (passed _ (after-step .before .before .if3 .left)));
-      growth = rw (back w64 (entry .args .step .whole) (after-step .before .struct-told2 .given .0 .1)) at (after-step .is-below2 .ensures (passed _ (c .before .if4 .left)));
+      whole = rw (back w64 (entry .args .q .whole) (after-first .before .struct-told .given .0 .1)) at first;
+      growth = rw (back w64 (entry .args .step .whole) (after-step .before .struct-told2 .given .0 .1)) at step;
       length = rw (toZ-ofZ (entry .fits .d)) at (c .is-below3 .ensures e);
     }
 

@@ -7,7 +7,6 @@ use mir.Syntax.{w64}
 use Rattle.fixed.proofs.Means.{Num, need, keep, lit, add, mul, of-nat}
 use Rattle.paint.specs.Buffers.{lineParts, inParts}
 use Rattle.paint.proofs.Sizes.{sized}
-use borrow.Author.Needs.{needs}
 use Rattle.paint.proofs.positions.in_parts.Statement.{statement}
 use Rattle.paint.proofs.positions.in_parts.Tie as tie
 

@@ -1,14 +1,10 @@
 -- `positions::is_below` meets its contract.
-use mathlib.Core.Path.{_≡_, sym, ap, _∙_, subst}
-use mathlib.Core.Bool.{true}
+use mathlib.Core.Path.{sym, _∙_, subst}
 use lib.Dec.{T}
-use lib.IntN.{pos, _-ℤ_}
-use lib.Signed.{ltZ}
 use mir.Syntax.{w64}
-use Rattle.fixed.proofs.Means.{Num, need, keep, lit, sub}
-use Rattle.paint.proofs.Sizes.{sized}
 use mir.Facts.{toZ-ofZ}
-use Rattle.paint.proofs.Along.{below-size}
+use Rattle.fixed.proofs.Means.{Num, need, keep, lit, sub}
+use Rattle.paint.proofs.Sizes.{sized, below-size}
 use Rattle.paint.proofs.positions.is_below.Statement.{statement}
 use Rattle.paint.proofs.positions.is_below.Tie as tie
 

@@ -1,6 +1,5 @@
 -- `positions::linear_positions` meets its contract: by a line where one serves, and by quotients where none does.
 use mathlib.Core.Path.{_≡_, ap₂, _∙_}
-use Prim.Native.Nat.{ℕ}
 use native.Mathlib.Omega.{arith}
 use lib.IntN.{ℤ, pos, _+ℤ_, _*ℤ_}
 use lib.ListN.{length}
@@ -33,7 +32,8 @@ quotient-at-requires c κs =
 
 -- ---- a line serves
 lined : (c : tie.Then1)
-    → let a = start (c .before .before) .args in Lined (a .g .spread) (quotientAt (a .g .points) (a .x) (a .y)) (rowStep (a .g .points)) (squaredLength (a .g .points))
+    → let a = start (c .before .before) .args in
+    let p = a .g .points in Lined (a .g .spread) (quotientAt p (a .x) (a .y)) (rowStep p) (squaredLength p)
 lined c =
     let known = c .before .before in
     rw (known .quotient-at .ensures, known .before .row-step .ensures, length-is known) at (c .before .has-line .ensures (c .if1 .taken))

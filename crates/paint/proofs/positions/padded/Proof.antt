@@ -8,9 +8,9 @@ use lib.Signed.{ltZ}
 use mir.Syntax.{w32}
 use mir.Val.{toZ, ofZ}
 use mir.Facts.{toZ-ofZ}
-use Rattle.fixed.proofs.Means.{Num, need, keep, lit, add}
+use Rattle.fixed.proofs.Means.{Num, need, keep}
 use Rattle.paint.specs.Segments.{positionOf}
-use Rattle.paint.proofs.Along.{cut, cut-small, cut-sign, cut-position}
+use Rattle.paint.proofs.Placing.{position-small, cut-next}
 use Rattle.paint.proofs.positions.padded.Statement.{statement}
 use Rattle.paint.proofs.positions.padded.Tie as tie
 
@@ -37,19 +37,22 @@ second-cut c =
     ap (toZ w32) (h .1) ∙ ap (λ (b : Bool). cond b (negsuc 0) v) (sym test))
     (c .if2 .came)
 
-is-cut : (c : tie.Joined2) → toZ w32 (c .if2 .w) ≡ cut (c .before .before .args .t)
-is-cut c = second-cut c ∙ ap (λ (v : ℤ). cond (ltZ v (pos 0)) (negsuc 0) v) (first-cut (c .before))
-
-abbrev sum : tie.Joined2 → Num
-sum c =
-    add (record { bound = 65536; read = toZ w32 (c .if2 .w); int = cut (c .before .before .args .t); same = is-cut c; size = cut-small (c .before .before .args .t) })
-    (lit 1)
-
-cast-result : tie.Need-cast-result
-cast-result c = rw (keep w32 (sum c) tt .same) (cut-sign (c .before .before .args .t), omega (arith, sum c .size .size))
+-- one more than what is left of t
+abbrev next : tie.Joined2 → Num
+next c =
+    let t = c .before .before .args .t in
+    record {
+      bound = 65537;
+      read = toZ w32 (c .if2 .w) +ℤ pos 1;
+      int = pos (positionOf t);
+      same = ap (λ (w : ℤ). w +ℤ pos 1) (second-cut c ∙ ap (λ (v : ℤ). cond (ltZ v (pos 0)) (negsuc 0) v) (first-cut (c .before))) ∙ cut-next t;
+      size = record { size = position-small t };
+    }
 
 pub padded-spec : {M : Type 1} → statement M
 padded-spec =
     tie.close
-    (tie.spec (λ c. need (sum c) tt) cast-result
-    (λ c. ap natAbs (keep w32 (sum c) tt .same) ∙ cut-position (c .before .before .args .t)))
+    (tie.spec
+    (λ c. need (next c) tt)
+    (λ c. rw (keep w32 (next c) tt .same) (tt, omega (arith, position-small (c .before .before .args .t))))
+    (λ c. ap natAbs (keep w32 (next c) tt .same)))

@@ -1,9 +1,7 @@
 -- `positions::position_in_parts` meets its contract: two floors are one.
-use mathlib.Core.Path.{_≡_, ap, _∙_}
-use lib.IntN.{ℤ}
+use mathlib.Core.Path.{ap, _∙_}
 use mir.Syntax.{w32, w64}
-use Rattle.fixed.proofs.Means.{Num, need, keep, shr, said, tight}
-use Rattle.paint.specs.Buffers.{lineParts}
+use Rattle.fixed.proofs.Means.{Num, need, keep, shr, tight}
 use Rattle.paint.specs.Segments.{positionOf}
 use Rattle.paint.proofs.Sizes.{sized}
 use Rattle.paint.proofs.Along.{high-half, floor-twice}
