@@ -1,8 +1,8 @@
 -- Marks in two levels: one more mark, none, and pixels without one.
-use mathlib.Core.Path.{_≡_, refl, sym, ap, _∙_}
+use mathlib.Core.Path.{_≡_, refl, sym, ap, subst, _∙_}
 use mathlib.Core.List.{List}
 use mathlib.Core.Bool.{Bool, true, false, cond}
-use Prim.Native.Nat.{ℕ, _+_, _*_, _/_, _≤_, _<_, min, max}
+use Prim.Native.Nat.{ℕ, _+_, _-_, _*_, _/_, _%_, _≤_, _<_, min, max}
 use native.Mathlib.Omega.{arith}
 use native.Mathlib.Decide.{ℕ-discrete}
 use lib.Dec.{eqb, ltb}
@@ -11,41 +11,61 @@ use lib.ListN.{length, getD, set, length-set}
 use lib.Seq.{getD-set-same, getD-set-other}
 use Rattle.lists.specs.Lists.{tab}
 use Rattle.lists.proofs.Laws.{tab-at}
-use Rattle.coverage.specs.Marks.{touched, Grouped, Blank}
+use Rattle.coverage.specs.Marks.{raised, touched, Grouped, Blank}
 
 -- ---- pixel p is marked
-module _ (groups : List ℕ) (p : ℕ) (h : p < 1024) (long : length groups ≡ 34) where
-  pub touched-long : length (touched groups p) ≡ 34
-  unfolding touched
-  touched-long = simp length-set long
+module _ (s : List ℕ) (i n : ℕ) (h : i < length s) where
+  raised-reached : n ≤ getD (raised s i n) i 0
+  unfolding raised
+  raised-reached = omega (arith, getD-set-same s i (max (getD s i 0) n) 0 h)
 
-  first-touched : getD (touched groups p) 32 0 ≡ min (getD groups 32 0) p
-  unfolding touched
-  first-touched =
-      getD-set-other (set (set groups (p / 32) 1) 32 (min (getD groups 32 0) p)) 33 32 (max (getD groups 33 0) (p + 1)) 0 (λ q. absurd (omega (arith, q)))
-      ∙ getD-set-same (set groups (p / 32) 1) 32 (min (getD groups 32 0) p) 0 (simp length-set (omega arith))
+  raised-grown : (j : ℕ) → getD s j 0 ≤ getD (raised s i n) j 0
+  unfolding raised
+  raised-grown j = by (ℕ-discrete j i)
+    where
+      by : Dec (j ≡ i) → getD s j 0 ≤ getD (set s i (max (getD s i 0) n)) j 0
+      by (yes e) = rw e (omega (arith, getD-set-same s i (max (getD s i 0) n) 0 h))
+      by (no e) = omega (arith, getD-set-other s i j (max (getD s i 0) n) 0 e)
 
-  end-touched : getD (touched groups p) 33 0 ≡ max (getD groups 33 0) (p + 1)
+raised-long : (s : List ℕ) (i n : ℕ) → length (raised s i n) ≡ length s
+unfolding raised
+raised-long s i n = length-set s i (max (getD s i 0) n)
+
+module _ (groups : List ℕ) (p : ℕ) (h : p < 1024) (long : length groups ≡ 64) where
+  pub touched-long : length (touched groups p) ≡ 64
+  unfolding touched
+  touched-long = raised-long (raised groups (p / 32) (p + 1)) (32 + p / 32) (32 - p % 32) ∙ raised-long groups (p / 32) (p + 1) ∙ long
+
+  here : p / 32 < length groups
+  here = omega arith
+
+  there : 32 + p / 32 < length (raised groups (p / 32) (p + 1))
+  there = omega (arith, raised-long groups (p / 32) (p + 1))
+
+  touched-grown : (j : ℕ) → getD groups j 0 ≤ getD (touched groups p) j 0
+  unfolding touched
+  touched-grown j =
+      omega (arith, raised-grown groups (p / 32) (p + 1) here j, raised-grown (raised groups (p / 32) (p + 1)) (32 + p / 32) (32 - p % 32) there j)
+
+  end-touched : p < getD (touched groups p) (p / 32) 0
   unfolding touched
   end-touched =
-      getD-set-same (set (set groups (p / 32) 1) 32 (min (getD groups 32 0) p)) 33 (max (getD groups 33 0) (p + 1)) 0 (simp length-set (omega arith))
+      omega (
+        arith,
+        raised-reached groups (p / 32) (p + 1) here,
+        raised-grown (raised groups (p / 32) (p + 1)) (32 + p / 32) (32 - p % 32) there (p / 32),
+      )
 
-  group-touched : (j : ℕ) → j < 32 → getD (touched groups p) j 0 ≡ getD (set groups (p / 32) 1) j 0
+  begin-touched : 32 - p % 32 ≤ getD (touched groups p) (32 + p / 32) 0
   unfolding touched
-  group-touched j l =
-      getD-set-other (set (set groups (p / 32) 1) 32 (min (getD groups 32 0) p)) 33 j (max (getD groups 33 0) (p + 1)) 0 (λ q. absurd (omega (arith, q)))
-      ∙ getD-set-other (set groups (p / 32) 1) 32 j (min (getD groups 32 0) p) 0 (λ q. absurd (omega (arith, q)))
+  begin-touched = raised-reached (raised groups (p / 32) (p + 1)) (32 + p / 32) (32 - p % 32) there
 
 touched-grouped : (marks groups : List ℕ) (p : ℕ) → p < length marks → Grouped marks groups → Grouped (set marks p 1) (touched groups p)
 touched-grouped marks groups p h g = record {
   wide = omega (arith, wide, g .wide);
   long = touched-long groups p low (g .long);
-  none = λ i l q. none i (omega (arith, wide)) q (ℕ-discrete (i / 32) (p / 32));
-  first = λ i l q. other i (λ e. omega (arith, q, first-touched groups p low (g .long), e))
-      ∙ g .first i (omega (arith, wide)) (omega (arith, q, first-touched groups p low (g .long)));
-  last = λ i l q. other i (λ e. omega (arith, q, end-touched groups p low (g .long), e))
-      ∙ g .last i (omega (arith, wide)) (omega (arith, q, end-touched groups p low (g .long)));
-  within = omega (arith, wide, end-touched groups p low (g .long), g .within);
+  ended = λ i l q. other i (λ e. past i e q) ∙ g .ended i (omega (arith, wide)) (omega (arith, q, touched-grown groups p low (g .long) (i / 32)));
+  begun = λ i l q. other i (λ e. before i e q) ∙ g .begun i (omega (arith, wide)) (omega (arith, q, touched-grown groups p low (g .long) (32 + i / 32)));
 }
   where
     wide : length (set marks p 1) ≡ length marks
@@ -57,24 +77,23 @@ touched-grouped marks groups p h g = record {
     other : (i : ℕ) → (i ≡ p → ⊥) → getD (set marks p 1) i 0 ≡ getD marks i 0
     other i e = getD-set-other marks p i 1 0 e
 
-    none : (i : ℕ) → i < length marks → getD (touched groups p) (i / 32) 0 ≡ 0 → Dec (i / 32 ≡ p / 32) → getD (set marks p 1) i 0 ≡ 0
-    none i l q (yes e) =
-        let s : getD (set groups (p / 32) 1) (i / 32) 0 ≡ 1 =
-        ap (λ (j : ℕ). getD (set groups (p / 32) 1) j 0) e ∙ getD-set-same groups (p / 32) 1 0 (omega (arith, g .long)) in
-        absurd (omega (arith, q, s, group-touched groups p low (g .long) (i / 32) (omega (arith, g .wide))))
-    none i l q (no e) =
-        other i (λ s. e (ap (λ (j : ℕ). j / 32) s))
-        ∙ g .none i l (sym (getD-set-other groups (p / 32) (i / 32) 1 0 e) ∙ sym (group-touched groups p low (g .long) (i / 32) (omega (arith, g .wide))) ∙ q)
+    past : (i : ℕ) → i ≡ p → getD (touched groups p) (i / 32) 0 ≤ i → ⊥
+    past i e q =
+        let r : getD (touched groups p) (p / 32) 0 ≤ p = subst (λ (j : ℕ). getD (touched groups p) (j / 32) 0 ≤ j) e q in
+        absurd (omega (arith, r, end-touched groups p low (g .long)))
+
+    before : (i : ℕ) → i ≡ p → getD (touched groups p) (32 + i / 32) 0 + i % 32 < 32 → ⊥
+    before i e q =
+        let r : getD (touched groups p) (32 + p / 32) 0 + p % 32 < 32 = subst (λ (j : ℕ). getD (touched groups p) (32 + j / 32) 0 + j % 32 < 32) e q in
+        absurd (omega (arith, r, begin-touched groups p low (g .long)))
 
 -- a mark over a mark
 again-grouped : (marks groups : List ℕ) (p : ℕ) → p < length marks → (getD marks p 0 ≡ 0 → ⊥) → Grouped marks groups → Grouped (set marks p 1) groups
 again-grouped marks groups p h m g = record {
   wide = omega (arith, wide, g .wide);
   long = g .long;
-  none = λ i l q. by i (g .none i (omega (arith, wide)) q);
-  first = λ i l q. by i (g .first i (omega (arith, wide)) q);
-  last = λ i l q. by i (g .last i (omega (arith, wide)) q);
-  within = omega (arith, wide, g .within);
+  ended = λ i l q. by i (g .ended i (omega (arith, wide)) q);
+  begun = λ i l q. by i (g .begun i (omega (arith, wide)) q);
 }
   where
     wide : length (set marks p 1) ≡ length marks
@@ -91,16 +110,13 @@ marked-grouped marks groups p mark h o g = by (eqb mark 0) refl
     by true q = touched-grouped marks groups p h g
     by false q = again-grouped marks groups p h (λ e. eqb-false mark 0 q (o ∙ e)) g
 
--- no pixel is marked
-pub none-grouped : (marks groups : List ℕ) (n : ℕ) → marks ≡ tab n (λ j. 0) → length marks ≡ n → n ≤ 1024 → length groups ≡ 34 → getD groups 33 0 ≡ 0
-    → Grouped marks groups
-none-grouped marks groups n o wide h long q = record {
+-- no pixel is marked: the groups may be anything
+pub none-grouped : {groups : List ℕ} (marks : List ℕ) (n : ℕ) → marks ≡ tab n (λ j. 0) → length marks ≡ n → n ≤ 1024 → length groups ≡ 64 → Grouped marks groups
+none-grouped marks n o wide h long = record {
   wide = omega arith;
   long = long;
-  none = λ i l s. clear i (omega arith);
-  first = λ i l s. clear i (omega arith);
-  last = λ i l s. clear i (omega arith);
-  within = omega arith;
+  ended = λ i l s. clear i (omega arith);
+  begun = λ i l s. clear i (omega arith);
 }
   where
     clear : (i : ℕ) → i < n → getD marks i 0 ≡ 0
@@ -116,16 +132,36 @@ blank-one marks e h q = record { low = omega arith; high = omega arith; none = �
     only : (i : ℕ) → e ≤ i → i < e + 1 → i ≡ e
     only i l g = omega arith
 
-pub blank-group : (marks groups : List ℕ) (e r : ℕ) → e < length marks → Grouped marks groups → getD groups (e / 32) 0 ≡ 0
-    → r ≡ min (e / 32 * 32 + 32) (length marks) → Blank marks e r
-blank-group marks groups e r h g q o = record {
+-- from e on, which lies after the marks of its group
+pub blank-past : (marks groups : List ℕ) (e : ℕ) → e < length marks → Grouped marks groups → min (getD groups (e / 32) 0) (length marks) ≤ e
+    → Blank marks e (min ((e / 32 + 1) * 32) (length marks))
+blank-past marks groups e h g q = record {
   low = omega arith;
   high = omega arith;
-  none = λ i l k. g .none i (omega arith) (ap (λ (j : ℕ). getD groups j 0) (same i l k) ∙ q);
+  none = λ i l k. g .ended i (omega arith) (by i l (same i l k));
 }
   where
-    same : (i : ℕ) → e ≤ i → i < r → i / 32 ≡ e / 32
+    same : (i : ℕ) → e ≤ i → i < min ((e / 32 + 1) * 32) (length marks) → i / 32 ≡ e / 32
     same i l k = omega arith
+
+    by : (i : ℕ) → e ≤ i → i / 32 ≡ e / 32 → getD groups (i / 32) 0 ≤ i
+    by i l s = rw s (omega arith)
+
+-- of group h up to where its marks begin, which is its end where it has none
+pub blank-begin : (marks groups : List ℕ) (h : ℕ) → Grouped marks groups
+    → Blank marks (min (h * 32) (length marks)) (min (h * 32 + (32 - min (getD groups (32 + h) 0) 32)) (length marks))
+blank-begin marks groups h g = record {
+  low = omega arith;
+  high = omega arith;
+  none = λ i l k. g .begun i (omega arith) (by i l k (same i l k));
+}
+  where
+    same : (i : ℕ) → min (h * 32) (length marks) ≤ i → i < min (h * 32 + (32 - min (getD groups (32 + h) 0) 32)) (length marks) → i / 32 ≡ h
+    same i l k = omega arith
+
+    by : (i : ℕ) → min (h * 32) (length marks) ≤ i → i < min (h * 32 + (32 - min (getD groups (32 + h) 0) 32)) (length marks) → i / 32 ≡ h
+        → getD groups (32 + i / 32) 0 + i % 32 < 32
+    by i l k s = rw s (omega arith)
 
 -- blank pixels after blank pixels
 pub blank-more : (marks : List ℕ) (p e r : ℕ) → Blank marks p e → Blank marks e r → Blank marks p r
@@ -134,11 +170,3 @@ blank-more marks p e r a b = record { low = omega (arith, a .low, b .low); high 
     by : (i : ℕ) → p ≤ i → i < r → (t : Bool) → ltb i e ≡ t → getD marks i 0 ≡ 0
     by i l g true q = a .none i l (ltb-true i e q)
     by i l g false q = b .none i (ltb-false i e q) g
-
--- before the first marked pixel, and after the last
-pub blank-first : (marks groups : List ℕ) (e : ℕ) → Grouped marks groups → e ≡ min (getD groups 32 0) (length marks) → Blank marks 0 e
-blank-first marks groups e g o = record { low = omega arith; high = omega arith; none = λ i l k. g .first i (omega arith) (omega arith) }
-
-pub blank-last : (marks groups : List ℕ) (p e : ℕ) → Grouped marks groups → getD groups 33 0 ≤ e → Blank marks p e → Blank marks p (length marks)
-blank-last marks groups p e g h b =
-    blank-more marks p e (length marks) b (record { low = b .high; high = omega arith; none = λ i l k. g .last i k (omega arith) })

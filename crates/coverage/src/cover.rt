@@ -9,8 +9,8 @@
 use crate::GROUP_NUMBERS;
 use crate::Line;
 use crate::edges::add_listed;
-use crate::marks::unmark;
 use crate::walk::take_runs;
+use crate::zero::zero_counts;
 use rect::least;
 ghost use mathlib.Core.Path.{_≡_};
 ghost use mathlib.Core.List.{_++_};
@@ -69,7 +69,7 @@ fn window_runs(
         ++ tab (length (now (marks .entry))) (λ i. coverage (edgesOf (now (scratch .entry)) (line .edges)) (line .nonzero) (line .x + from + i) (line .y)) ⌝ }
 {
     let mut groups = [0u16; GROUP_NUMBERS];
-    unmark(marks, &mut groups);
+    zero_counts(marks);
     let edges = line.edges;
     let at = edges * 4;
     let end = at + marks.len() * 16;

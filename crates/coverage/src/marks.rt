@@ -1,36 +1,30 @@
-// Marks of pixels in which something may begin, in two levels: one for each pixel of a window and one for each group of 32. After the groups stand the first
-// marked pixel and the end of the last.
-use crate::zero::zero_counts;
-use rect::least;
+// Marks of pixels in which something may begin, in two levels: one for each pixel of a window, and two numbers for each group of 32 pixels. The first 32 numbers
+// tell before which pixel the marks of a group end, the next 32 how far before the group's end they begin; both are 0 where there is none.
 use rect::most;
 ghost use mathlib.Core.Path.{_≡_};
 ghost use mathlib.Core.Bool.{cond};
 ghost use Prim.Native.Nat.{_<_, _≤_};
 ghost use lib.Dec.{eqb};
 ghost use lib.ListN.{length};
-ghost use Rattle.coverage.specs.Marks.{touched, Grouped};
+ghost use Rattle.coverage.specs.Marks.{raised, touched};
 
-// No pixel is marked.
-pub fn unmark(marks: &mut [u8], groups: &mut [u16])
-    requires { ⌜ (length (now marks) ≤ 1024) × (length (now groups) ≡ 34) ⌝ }
-    ensures { λ _. ⌜ Grouped (now (marks .exit)) (now (groups .exit)) ⌝ }
-{
-    zero_counts(marks);
-    groups[32] = 1024;
-    groups[33] = 0;
-}
-
-// Notes that pixel p is marked, if it was not: its group, and the first and the last such pixel.
+// Notes for its group that pixel p is marked, if it was not.
 pub fn touch(groups: &mut [u16], p: usize, mark: u8)
-    requires { ⌜ (p < 1024) × (length (now groups) ≡ 34) ⌝ }
+    requires { ⌜ (p < 1024) × (length (now groups) ≡ 64) ⌝ }
     ensures { λ _. ⌜ now (groups .exit) ≡ cond (eqb mark 0) (touched (now (groups .entry)) p) (now (groups .entry)) ⌝ }
 {
     if mark != 0 {
         return;
     }
-    let first = least(groups[32] as usize, p);
-    let end = most(groups[33] as usize, p + 1);
-    groups[p / 32] = 1;
-    groups[32] = first as u16;
-    groups[33] = end as u16;
+    raise(groups, p / 32, p + 1);
+    raise(groups, 32 + p / 32, 32 - p % 32);
+}
+
+// The number at a place becomes n, if it was less.
+fn raise(groups: &mut [u16], i: usize, n: usize)
+    requires { ⌜ (i < length (now groups)) × (n ≤ 1024) ⌝ }
+    ensures { λ _. ⌜ now (groups .exit) ≡ raised (now (groups .entry)) i n ⌝ }
+{
+    let m = most(groups[i] as usize, n);
+    groups[i] = m as u16;
 }

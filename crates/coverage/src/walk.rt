@@ -4,7 +4,7 @@ use crate::samples::take_cell;
 use rect::least;
 ghost use mathlib.Core.Path.{_≡_};
 ghost use mathlib.Core.List.{_++_};
-ghost use Prim.Native.Nat.{_+_, _*_, _<_, _≤_};
+ghost use Prim.Native.Nat.{_+_, _*_, _<_, _≤_, min};
 ghost use lib.ListN.{length};
 ghost use Rattle.lists.specs.Lists.{tab};
 ghost use Rattle.runs.specs.Runs.{expand, Runs};
@@ -37,7 +37,7 @@ pub fn take_runs(
         full: 0,
         count: 0,
     };
-    let mut e = next_mark(marks, groups, least(groups[32] as usize, marks.len()));
+    let mut e = group_from(marks, groups, 0);
     let mut m = runs::push(runs, n, from, from + e, 0);
     while e < marks.len() {
         z = take_cell(sums, e, z, nonzero);
@@ -54,28 +54,30 @@ fn next_mark(marks: &[u8], groups: &[u16], p: usize) -> usize
     requires { ⌜ (p ≤ length (now marks)) × Grouped (now marks) (now groups) ⌝ }
     ensures { λ r. ⌜ Blank (now (marks .entry)) p r ⌝ }
 {
-    let end = groups[33] as usize;
-    let mut e = p;
-    while e < end {
-        let next = skip(marks, groups, e);
-        if next == e {
-            return e;
-        }
-        e = next;
+    if marks.len() <= p {
+        return p;
     }
-    marks.len()
+    let last = least(groups[p / 32] as usize, marks.len());
+    if p < last {
+        return scan(marks, p, last);
+    }
+    group_from(marks, groups, p / 32 + 1)
 }
 
-// Where to look after e: at the next group, or at the first marked pixel of this one.
-fn skip(marks: &[u8], groups: &[u16], e: usize) -> usize
-    requires { ⌜ (e < length (now marks)) × Grouped (now marks) (now groups) ⌝ }
-    ensures { λ r. ⌜ Blank (now (marks .entry)) e r ⌝ }
+// The first marked pixel of the groups from number g on, or the window's end.
+fn group_from(marks: &[u8], groups: &[u16], g: usize) -> usize
+    requires { ⌜ (g ≤ 32) × Grouped (now marks) (now groups) ⌝ }
+    ensures { λ r. ⌜ Blank (now (marks .entry)) (min (g * 32) (length (now (marks .entry)))) r ⌝ }
 {
-    let end = least(e / 32 * 32 + 32, marks.len());
-    if groups[e / 32] == 0 {
-        return end;
+    let mut h = g;
+    while h * 32 < marks.len() {
+        let back = least(groups[32 + h] as usize, 32);
+        if back != 0 {
+            return least(h * 32 + (32 - back), marks.len());
+        }
+        h += 1;
     }
-    scan(marks, e, end)
+    marks.len()
 }
 
 // The first marked pixel from p on and before end, or end.

@@ -11,6 +11,7 @@ use Rattle.runs.specs.Runs.{expand, Runs}
 use Rattle.path.specs.Stored.{edgeAt, edgesOf}
 use Rattle.coverage.specs.Winding.{coverage}
 use Rattle.coverage.specs.Scanline.{at, laid, zeros, pixelOf, Marked, Tame}
+use Rattle.coverage.proofs.Groups.{none-grouped}
 use Rattle.coverage.proofs.Zeros.{clear-laid}
 use Rattle.coverage.proofs.Window.{sumsOf, sums-long, sums-marked, sums-tame, window-covers, part-is, given-back}
 use borrow.Author.Needs.{needs}
@@ -19,15 +20,15 @@ use Rattle.coverage.proofs.cover.window_runs.Tie as tie
 
 -- the part that is lent
 lent : (c : tie.After-add-listed)
-    → let a = c .before .before .before .before .before .before .before .before .before .before .before .before .before .before .args in
-    let w = length (c .before .before .before .before .before .before .before .before .unmark .last .0) in
+    → let a = c .before .before .before .before .before .before .before .before .before .before .before .before .args in
+    let w = length (c .before .before .before .before .before .before .before .zero-counts .last .0) in
     let n = a .line .edges in
     take (n * 4 + w * 16 - n * 4) (drop (n * 4) (c .add-listed .last .0))
     ≡ sumsOf (4 * (a .line .x + a .from)) w (a .line .y) (edgesOf (a .scratch .now) n)
 lent c =
-    let entry = c .before .before .before .before .before .before .before .before .before .before .before .before .before .before in
+    let entry = c .before .before .before .before .before .before .before .before .before .before .before .before in
     let a = entry .args in
-    let u = c .before .before .before .before .before .before .before .before .unmark in
+    let u = c .before .before .before .before .before .before .before .zero-counts in
     let w = length (u .last .0) in
     let n = a .line .edges in
     let es = edgesOf (a .scratch .now) n in
@@ -35,11 +36,8 @@ lent c =
     part-is (n * 4) (w * 16) (a .scratch .now) (sumsOf (4 * x) w (a .line .y) es) (c .add-listed .last .0) (omega (arith, u .kept .0, entry .pre .1 .0 .2))
     (sums-long (4 * x) w (a .line .y) es) (c .add-listed .ensures .0)
 
-slice-aggregate-unmark : tie.Need-slice-aggregate-unmark
-slice-aggregate-unmark c = search needs
-
-unmark-requires : tie.Need-unmark-requires
-unmark-requires c κs = (omega (arith, c .before .before .before .before .before .pre .1 .0 .1), refl)
+zero-counts-requires : tie.Need-zero-counts-requires
+zero-counts-requires c κs = search needs
 
 mul-at : tie.Need-mul-at
 mul-at c = search needs
@@ -61,13 +59,17 @@ slice-aggregate-add-listed c = search needs
 
 add-listed-requires : tie.Need-add-listed-requires
 add-listed-requires c κs =
-    let entry = c .before .before .before .before .before .before .before .before .before .before .before .before .before in
+    let entry = c .before .before .before .before .before .before .before .before .before .before .before in
     let a = entry .args in
-    let u = c .before .before .before .before .before .before .before .unmark in
+    let u = c .before .before .before .before .before .before .zero-counts in
     let p = entry .pre .0 .0 in
     let n = a .line .edges in
     let r : n * 4 + length (u .last .0) * 16 ≤ length (a .scratch .now) = omega (arith, u .kept .0, entry .pre .1 .0 .2) in (
-      (entry .pre .1 .0 .0, omega (arith, u .kept .0, entry .pre .1 .0 .1), u .ensures),
+      (
+        entry .pre .1 .0 .0,
+        omega (arith, u .kept .0, entry .pre .1 .0 .1),
+        none-grouped (u .last .0) (length (a .marks .now)) (u .ensures) (u .kept .0) (omega (arith, entry .pre .1 .0 .1)) refl,
+      ),
       (
         record { few = p .few; room = r; small = p .small },
         (clear-laid (a .scratch .now) n (length (u .last .0) * 16) r (p .clear), entry .pre .0 .1),
@@ -92,11 +94,11 @@ slice-aggregate-take-runs c = search needs
 take-runs-requires : tie.Need-take-runs-requires
 take-runs-requires c κs =
     let after-add-listed = c .before .before .before .before .before .before .before .before in
-    let after-unmark = after-add-listed .before .before .before .before .before .before .before .before in
-    let entry = after-unmark .before .before .before .before .before .before in
+    let after-zero-counts = after-add-listed .before .before .before .before .before .before .before in
+    let entry = after-zero-counts .before .before .before .before .before in
     let a = entry .args in
     let g = after-add-listed .add-listed in
-    let u = after-unmark .unmark in
+    let u = after-zero-counts .zero-counts in
     let w = length (u .last .0) in
     let es = edgesOf (a .scratch .now) (a .line .edges) in
     let x = a .line .x + a .from in
@@ -127,10 +129,10 @@ returns : tie.Need-returns
 returns c =
     let after-take-runs = c .before .before .before in
     let after-add-listed = after-take-runs .before .before .before .before .before .before .before .before .before in
-    let after-unmark = after-add-listed .before .before .before .before .before .before .before .before in
-    let entry = after-unmark .before .before .before .before .before .before in
+    let after-zero-counts = after-add-listed .before .before .before .before .before .before .before in
+    let entry = after-zero-counts .before .before .before .before .before in
     let a = entry .args in
-    let u = after-unmark .unmark in
+    let u = after-zero-counts .zero-counts in
     let g = after-add-listed .add-listed in
     let t = after-take-runs .take-runs in
     let w = length (u .last .0) in
@@ -159,8 +161,7 @@ pub window-runs-spec : {M : Type 1} → statement M
 window-runs-spec =
     tie.close
     (tie.spec
-    slice-aggregate-unmark
-    unmark-requires
+    zero-counts-requires
     mul-at
     mul-end
     add-end

@@ -1,60 +1,61 @@
 -- `coverage::walk::next_mark` meets its contract. Assumes nothing.
-use Prim.Native.Nat.{_-_}
+use Prim.Native.Nat.{_+_, _*_, _/_, min}
 use native.Mathlib.Omega.{arith}
 use lib.ListN.{length}
-use Rattle.coverage.specs.Marks.{Blank}
-use Rattle.coverage.proofs.Groups.{blank-none, blank-more, blank-last}
+use Rattle.coverage.proofs.Groups.{blank-none, blank-more, blank-past}
+use borrow.Author.Needs.{needs}
 use Rattle.coverage.proofs.walk.next_mark.Statement.{statement}
 use Rattle.coverage.proofs.walk.next_mark.Tie as tie
 
-abbrev Inv-loop : tie.InvT-loop
-Inv-loop marks groups p end e₀ e = Blank marks p e
+returns : tie.Need-returns
+returns c = let entry = c .before .before .before in blank-none (entry .args .marks .now) (entry .args .p) (entry .pre .0)
 
-abbrev μ-loop : tie.MeasureT-loop
-μ-loop marks groups p end e₀ e = length marks - e
+mul-least : tie.Need-mul-least
+mul-least c = search needs
 
-shared-slice-read-end : tie.Need-shared-slice-read-end Inv-loop μ-loop
-shared-slice-read-end c = let entry = c .before .before .before in omega (arith, entry .pre .1 .long)
+shared-slice-read-least : tie.Need-shared-slice-read-least
+shared-slice-read-least c =
+    let entry = c .before .before .before .before in omega (arith, entry .pre .1 .long, entry .pre .1 .wide, c .before .if1 .left)
 
-cast-end : tie.Need-cast-end Inv-loop μ-loop
-cast-end c = omega (arith, c .shared-slice-known3 .given 33)
+cast-least : tie.Need-cast-least
+cast-least c = omega (arith, c .shared-slice-known3 .given (c .before .before .before .before .args .p / 32))
 
-loop-holds : tie.Need-loop-holds Inv-loop μ-loop
-loop-holds c = let entry = c .before .before .before in blank-none (entry .args .marks .now) (entry .args .p) (entry .pre .0)
+least-requires : tie.Need-least-requires
+least-requires c κs = search needs
 
-skip-requires : tie.Need-skip-requires Inv-loop μ-loop
-skip-requires c κs = let entry = c .before .before .before .before .before in (omega (arith, entry .pre .1 .within), entry .pre .1)
+scan-requires : tie.Need-scan-requires
+scan-requires c κs = let l = c .before .least .ensures in (omega (arith, c .if2 .taken), omega (arith, l))
 
-returns : tie.Need-returns Inv-loop μ-loop
-returns c = c .before .before .before .loop .inv
+returns-2 : tie.Need-returns-2
+returns-2 c = c .scan .ensures
 
-loop-less : tie.Need-loop-less Inv-loop μ-loop
-loop-less c = let s = c .before .skip .ensures in omega (arith, s .low, s .high, c .if1 .left)
+add-group-from : tie.Need-add-group-from
+add-group-from c = search needs
 
-loop-again : tie.Need-loop-again Inv-loop μ-loop
-loop-again c =
+group-from-requires : tie.Need-group-from-requires
+group-from-requires c κs =
+    let entry = c .before .before .before .before .before .before in (omega (arith, entry .pre .1 .wide, c .before .before .before .if1 .left), entry .pre .1)
+
+returns-3 : tie.Need-returns-3
+returns-3 c =
     let entry = c .before .before .before .before .before .before .before in
-    let l = c .before .before .before .loop in
-    let s = c .before .skip in
-    blank-more (entry .args .marks .now) (entry .args .p) (l .e) (s .result) (l .inv) (s .ensures)
-
-returns-2 : tie.Need-returns-2 Inv-loop μ-loop
-returns-2 c =
-    let entry = c .before .before .before .before .before in
-    let l = c .before .loop in
-    blank-last (entry .args .marks .now) (entry .args .groups .now) (entry .args .p) (l .e) (entry .pre .1) (omega arith) (l .inv)
+    let a = entry .args in
+    let m = a .marks .now in
+    blank-more m (a .p) (min ((a .p / 32 + 1) * 32) (length m)) (c .group-from .result)
+    (blank-past m (a .groups .now) (a .p) (omega (arith, c .before .before .before .before .if1 .left)) (entry .pre .1)
+    (omega (arith, c .before .before .least .ensures, c .before .if2 .left))) (c .group-from .ensures)
 
 pub next-mark-spec : {M : Type 1} → statement M
 next-mark-spec =
     tie.close
     (tie.spec
-    Inv-loop
-    μ-loop
-    shared-slice-read-end
-    cast-end
-    loop-holds
-    skip-requires
     returns
-    loop-less
-    loop-again
-    returns-2)
+    mul-least
+    shared-slice-read-least
+    cast-least
+    least-requires
+    scan-requires
+    returns-2
+    add-group-from
+    group-from-requires
+    returns-3)

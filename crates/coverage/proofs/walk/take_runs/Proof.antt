@@ -1,15 +1,15 @@
 -- `coverage::walk::take_runs` meets its contract. Assumes nothing.
 use mathlib.Core.Path.{_≡_, refl, sym, ap, subst, _∙_}
 use mathlib.Core.List.{_++_, append-nil}
-use Prim.Native.Nat.{ℕ, _+_, _-_, _*_, _≤_}
+use Prim.Native.Nat.{ℕ, _+_, _-_, _*_, _≤_, min}
 use native.Mathlib.Omega.{arith}
 use lib.IntN.{ℤ, natAbs}
 use lib.ListN.{length}
 use Rattle.lists.specs.Lists.{tab}
 use Rattle.runs.specs.Runs.{expand, Runs}
 use Rattle.coverage.specs.Scanline.{pixelOf}
+use Rattle.coverage.specs.Marks.{Blank}
 use Rattle.coverage.proofs.Cells.{stands-bounded, numbers-stand}
-use Rattle.coverage.proofs.Groups.{blank-first, blank-more}
 use Rattle.coverage.proofs.Walked.{Walked, Longer, noCell, pixel-le, walked-first, walked-blank, cell-count, cell-full, walked-cell, walked-sums}
 use borrow.Author.Needs.{needs}
 use Rattle.coverage.proofs.walk.take_runs.Statement.{statement}
@@ -26,52 +26,42 @@ Inv-loop sums₀ marks groups nonzero runs₀ n from z₀ e₀ m₀ sums runs z 
 abbrev μ-loop : tie.MeasureT-loop
 μ-loop sums₀ marks groups nonzero runs₀ n from z₀ e₀ m₀ sums runs z e m = length marks - e
 
-shared-slice-read-least : tie.Need-shared-slice-read-least Inv-loop μ-loop
-shared-slice-read-least c = omega (arith, c .before .before .before .before .pre .1 .0 .long)
-
-cast-least : tie.Need-cast-least Inv-loop μ-loop
-cast-least c = omega (arith, c .shared-slice-known3 .given 32)
-
-least-requires : tie.Need-least-requires Inv-loop μ-loop
-least-requires c κs = search needs
-
-next-mark-requires : tie.Need-next-mark-requires Inv-loop μ-loop
-next-mark-requires c κs = (omega (arith, c .least .ensures), c .before .before .before .before .before .pre .1 .0)
+group-from-requires : tie.Need-group-from-requires Inv-loop μ-loop
+group-from-requires c κs = (omega arith, c .before .before .before .pre .1 .0)
 
 add-push : tie.Need-add-push Inv-loop μ-loop
-add-push c = omega (arith, c .before .next-mark .ensures .high, c .before .before .before .before .before .before .before .pre .1 .1 .2)
+add-push c = omega (arith, c .before .group-from .ensures .high, c .before .before .before .before .before .pre .1 .1 .2)
 
 push-requires : tie.Need-push-requires Inv-loop μ-loop
 push-requires c κs =
-    let entry = c .before .before .before .before .before .before .before in
-    let b = c .before .next-mark .ensures in
+    let entry = c .before .before .before .before .before in
+    let b = c .before .group-from .ensures in
     let r = entry .pre .1 .1 in
     (r .0, (omega arith, omega (arith, b .high, r .1), omega (arith, b .high, r .2), omega arith))
 
 -- what the first run comes to
 first-run : (c : tie.After-push Inv-loop μ-loop)
-    → let a = c .before .before .before .before .before .before .before .before .args in
-    Walked (a .nonzero) (a .sums .now) (a .from) (c .before .before .next-mark .result) noCell (a .sums .now) (c .push .last .0) (c .push .result)
-    × Longer (pixelOf (a .nonzero) (a .sums .now)) (a .runs .now) (a .n) 0 (c .push .last .0) (c .push .result) (c .before .before .next-mark .result)
+    → let a = c .before .before .before .before .before .before .args in
+    Walked (a .nonzero) (a .sums .now) (a .from) (c .before .before .group-from .result) noCell (a .sums .now) (c .push .last .0) (c .push .result)
+    × Longer (pixelOf (a .nonzero) (a .sums .now)) (a .runs .now) (a .n) 0 (c .push .last .0) (c .push .result) (c .before .before .group-from .result)
 first-run c =
-    let after-next-mark = c .before .before in
-    let after-least = after-next-mark .before in
-    let entry = after-least .before .before .before .before .before in
+    let after-group-from = c .before .before in
+    let entry = after-group-from .before .before .before .before in
     let a = entry .args in
-    let m = after-next-mark .next-mark in
+    let m = after-group-from .group-from in
     let p = c .push in
-    let f = blank-first (a .marks .now) (a .groups .now) (after-least .least .result) (entry .pre .1 .0) (after-least .least .ensures) in
+    let e : min (0 * 32) (length (a .marks .now)) ≡ 0 = omega arith in
     walked-blank (a .nonzero) (a .sums .now) (a .marks .now) (a .from) 0 (a .n) noCell (a .sums .now) (a .runs .now)
     (walked-first (a .nonzero) (a .sums .now) (a .marks .now) (a .from) (a .runs .now) (a .n) (entry .pre .1 .1 .0)) (entry .pre .0 .0) (entry .pre .0 .1)
-    (m .result) (p .result) (a .from + m .result - a .from) (p .last .0)
-    (blank-more (a .marks .now) 0 (after-least .least .result) (m .result) f (m .ensures)) (p .ensures .0 .0) (omega arith) (p .ensures .1)
+    (m .result) (p .result) (a .from + m .result - a .from) (p .last .0) (subst (λ (q : ℕ). Blank (a .marks .now) q (m .result)) e (m .ensures))
+    (p .ensures .0 .0) (omega arith) (p .ensures .1)
 
 loop-holds : tie.Need-loop-holds Inv-loop μ-loop
-loop-holds c = (c .before .before .before .before .next-mark .ensures .high, refl, refl, first-run (c .before .before) .0, λ h q. q)
+loop-holds c = (c .before .before .before .before .group-from .ensures .high, refl, refl, first-run (c .before .before) .0, λ h q. q)
 
 take-cell-requires : tie.Need-take-cell-requires Inv-loop μ-loop
 take-cell-requires c κs =
-    let entry = c .before .before .before .before .before .before .before .before .before .before .before .before .before in
+    let entry = c .before .before .before .before .before .before .before .before .before .before .before in
     let a = entry .args in
     let l = c .before .before .loop in
     let w = l .inv .3 in
@@ -86,30 +76,30 @@ add-p c = search needs
 add-push-2 : tie.Need-add-push-2 Inv-loop μ-loop
 add-push-2 c =
     let turn = c .before .before .before .before .before in
-    let entry = turn .before .before .before .before .before .before .before .before .before .before .before in
+    let entry = turn .before .before .before .before .before .before .before .before .before in
     omega (arith, turn .loop .inv .0, entry .pre .1 .1 .2)
 
 add-push-3 : tie.Need-add-push-3 Inv-loop μ-loop
 add-push-3 c =
     let test = c .before .before .before .before in
-    let entry = test .before .before .before .before .before .before .before .before .before .before .before .before in
+    let entry = test .before .before .before .before .before .before .before .before .before .before in
     omega (arith, test .loop-test .taken, entry .pre .1 .1 .2)
 
 -- the runs have room for the row
 room : (c : tie.At-loop Inv-loop μ-loop)
-    → let a = c .before .before .before .before .before .before .before .before .before .before .before .args in
+    → let a = c .before .before .before .before .before .before .before .before .before .args in
     a .from + length (a .marks .now) ≤ length (c .loop .runs)
 room c =
     let after-push = c .before .before .before in
-    let entry = after-push .before .before .before .before .before .before .before .before in
+    let entry = after-push .before .before .before .before .before .before in
     omega (arith, c .loop .inv .2, after-push .push .ensures .0 .1, entry .pre .1 .1 .1)
 
 -- the pixel that is taken
 taken : (c : tie.After-take-cell Inv-loop μ-loop)
-    → let a = c .before .before .before .before .before .before .before .before .before .before .before .before .before .before .args in
+    → let a = c .before .before .before .before .before .before .before .before .before .before .before .before .args in
     (c .take-cell .result .count ≡ pixelOf (a .nonzero) (a .sums .now) (c .before .before .before .loop .e)) × (c .take-cell .result .full ≤ 16)
 taken c =
-    let entry = c .before .before .before .before .before .before .before .before .before .before .before .before .before .before in
+    let entry = c .before .before .before .before .before .before .before .before .before .before .before .before in
     let a = entry .args in
     let l = c .before .before .before .loop in
     let t = c .take-cell in (
@@ -121,7 +111,7 @@ taken c =
 
 push-requires-2 : tie.Need-push-requires-2 Inv-loop μ-loop
 push-requires-2 c κs =
-    let entry = c .before .before .before .before .before .before .before .before .before .before .before .before .before .before .before .before in
+    let entry = c .before .before .before .before .before .before .before .before .before .before .before .before .before .before in
     let a = entry .args in
     let l = c .before .before .before .before .before .loop in
     let here = c .before .before .before .before .loop-test .taken in
@@ -135,33 +125,33 @@ push-requires-2 c κs =
       ),
     )
 
-next-mark-requires-2 : tie.Need-next-mark-requires-2 Inv-loop μ-loop
-next-mark-requires-2 c κs =
+next-mark-requires : tie.Need-next-mark-requires Inv-loop μ-loop
+next-mark-requires c κs =
     let test = c .before .before .before .before .before .before .before in
-    let entry = test .before .before .before .before .before .before .before .before .before .before .before .before in
+    let entry = test .before .before .before .before .before .before .before .before .before .before in
     (omega (arith, test .loop-test .taken), entry .pre .1 .0)
 
 add-push-4 : tie.Need-add-push-4 Inv-loop μ-loop
 add-push-4 c =
     let test = c .before .before .before .before .before .before .before .before .before in
-    let entry = test .before .before .before .before .before .before .before .before .before .before .before .before in
+    let entry = test .before .before .before .before .before .before .before .before .before .before in
     omega (arith, test .loop-test .taken, entry .pre .1 .1 .2)
 
 add-push-5 : tie.Need-add-push-5 Inv-loop μ-loop
 add-push-5 c =
-    let after-next-mark2 = c .before in
-    let turn = after-next-mark2 .before .before .before .before .before .before .before .before .before in
-    let entry = turn .before .before .before .before .before .before .before .before .before .before .before in
-    omega (arith, after-next-mark2 .next-mark2 .ensures .high, entry .pre .1 .1 .2)
+    let after-next-mark = c .before in
+    let turn = after-next-mark .before .before .before .before .before .before .before .before .before in
+    let entry = turn .before .before .before .before .before .before .before .before .before in
+    omega (arith, after-next-mark .next-mark .ensures .high, entry .pre .1 .1 .2)
 
 push-requires-3 : tie.Need-push-requires-3 Inv-loop μ-loop
 push-requires-3 c κs =
-    let after-next-mark2 = c .before in
-    let after-push2 = after-next-mark2 .before .before .before in
+    let after-next-mark = c .before in
+    let after-push2 = after-next-mark .before .before .before in
     let after-take-cell = after-push2 .before .before .before in
     let turn = after-take-cell .before .before .before in
-    let entry = turn .before .before .before .before .before .before .before .before .before .before .before in
-    let b = after-next-mark2 .next-mark2 .ensures in
+    let entry = turn .before .before .before .before .before .before .before .before .before in
+    let b = after-next-mark .next-mark .ensures in
     let p = after-push2 .push2 in (
       p .ensures .0 .0,
       (
@@ -174,24 +164,24 @@ push-requires-3 c κs =
 
 loop-less : tie.Need-loop-less Inv-loop μ-loop
 loop-less c =
-    let after-next-mark2 = c .before .before .before .before in
-    let test = after-next-mark2 .before .before .before .before .before .before .before .before in
-    omega (arith, test .loop-test .taken, after-next-mark2 .next-mark2 .ensures .low, after-next-mark2 .next-mark2 .ensures .high)
+    let after-next-mark = c .before .before .before .before in
+    let test = after-next-mark .before .before .before .before .before .before .before .before in
+    omega (arith, test .loop-test .taken, after-next-mark .next-mark .ensures .low, after-next-mark .next-mark .ensures .high)
 
 loop-again : tie.Need-loop-again Inv-loop μ-loop
 loop-again c =
     let after-push3 = c .before .before in
-    let after-next-mark2 = after-push3 .before .before in
-    let after-push2 = after-next-mark2 .before .before .before in
+    let after-next-mark = after-push3 .before .before in
+    let after-push2 = after-next-mark .before .before .before in
     let after-take-cell = after-push2 .before .before .before in
     let test = after-take-cell .before .before in
     let turn = test .before in
-    let entry = turn .before .before .before .before .before .before .before .before .before .before .before in
+    let entry = turn .before .before .before .before .before .before .before .before .before in
     let a = entry .args in
     let l = turn .loop in
     let t = after-take-cell .take-cell in
     let p = after-push2 .push2 in
-    let m = after-next-mark2 .next-mark2 in
+    let m = after-next-mark .next-mark in
     let q = after-push3 .push3 in
     let u = walked-cell (a .nonzero) (a .sums .now) (a .marks .now) (a .from) (l .e) (l .m) (l .z) (l .sums) (l .runs) (l .inv .3) (entry .pre .0 .0)
     (t .result) (test .loop-test .taken) (t .ensures .0) (t .last .0) (t .ensures .1) (p .result) (a .from + (l .e + 1) - (a .from + l .e)) (p .last .0)
@@ -214,7 +204,7 @@ same-length-2 c = c .before .loop .inv .2 ∙ c .before .before .before .before 
 
 returns : tie.Need-returns Inv-loop μ-loop
 returns c =
-    let entry = c .before .before .before .before .before .before .before .before .before .before .before .before in
+    let entry = c .before .before .before .before .before .before .before .before .before .before in
     let a = entry .args in
     let l = c .before .loop in
     let w = l .inv .3 in
@@ -234,10 +224,7 @@ take-runs-spec =
     (tie.spec
     Inv-loop
     μ-loop
-    shared-slice-read-least
-    cast-least
-    least-requires
-    next-mark-requires
+    group-from-requires
     add-push
     push-requires
     loop-holds
@@ -246,7 +233,7 @@ take-runs-spec =
     add-push-2
     add-push-3
     push-requires-2
-    next-mark-requires-2
+    next-mark-requires
     add-push-4
     add-push-5
     push-requires-3
