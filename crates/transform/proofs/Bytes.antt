@@ -1,12 +1,13 @@
--- What the tests of a signed number tell of it, cut to 0..255.
+-- What the tests of a signed number tell of it, cut to 0..255; the bytes of a pixel as one number.
 use mathlib.Core.Path.{_≡_, refl, sym, ap, subst}
 use mathlib.Core.Bool.{true, false}
-use Prim.Native.Nat.{_≤_}
+use Prim.Native.Nat.{ℕ, _+_, _*_, _/_, _%_, _≤_, _<_}
 use native.Mathlib.Omega.{arith}
 use borrow.Author.Tests.{ltb-true, ltb-false}
 use lib.Dec.{T}
 use lib.IntN.{ℤ, pos, negsuc}
 use lib.Signed.{ltZ}
+use Rattle.color.specs.declared.Pixel.{Pixel}
 use Rattle.transform.specs.Transforms.{byteIn}
 
 pub none-below : (z : ℤ) → ltZ z (pos 0) ≡ true → 0 ≡ byteIn z
@@ -20,3 +21,20 @@ full-above (negsuc n) h = absurd (subst T (sym h) tt)
 pub kept-between : (z : ℤ) → ltZ z (pos 0) ≡ false → ltZ (pos 255) z ≡ false → (z ≡ pos (byteIn z)) × (byteIn z ≤ 255)
 kept-between (pos n) h k = (ap pos (omega (arith, ltb-false 255 n k)), omega arith)
 kept-between (negsuc n) h k = absurd (subst T h tt)
+
+-- ---- a pixel's bytes as one number, and out of it again
+pub word-back : (p : Pixel) (w : ℕ) → p .r < 256 → p .g < 256 → p .b < 256 → w ≡ p .r + p .g * 256 + p .b * 65536 + p .a * 16777216
+    → p ≡ record { r = w % 256; g = w / 256 % 256; b = w / 65536 % 256; a = w / 16777216 }
+word-back p w r g b e = λ i. record { r = red i; g = green i; b = blue i; a = alpha i }
+  where
+    red : p .r ≡ w % 256
+    red = omega arith
+
+    green : p .g ≡ w / 256 % 256
+    green = omega arith
+
+    blue : p .b ≡ w / 65536 % 256
+    blue = omega arith
+
+    alpha : p .a ≡ w / 16777216
+    alpha = omega arith

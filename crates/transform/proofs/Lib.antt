@@ -2,7 +2,7 @@
 --     Limits        a float cut to a limit is within it
 --     Quotients     a quotient by an alpha is a product with its reciprocal and a shift
 --     Opaque        under the alpha 255 nothing is to be divided or multiplied
---     Bytes         a number cut to 0..255
+--     Bytes         a number cut to 0..255; a pixel's bytes as one number
 --     Promises      no channel above its alpha afterwards; what scales 1 and biases 0 do
 pub mod Limits
 pub mod Quotients

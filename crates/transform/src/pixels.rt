@@ -5,7 +5,7 @@ use crate::reciprocals::reciprocal;
 use crate::reciprocals::unpremultiply;
 use color::Pixel;
 ghost use mathlib.Core.Path.{_≡_};
-ghost use Prim.Native.Nat.{_*_};
+ghost use Prim.Native.Nat.{_*_, _/_, _%_};
 ghost use lib.ListN.{length};
 ghost use Rattle.raster.specs.Surface.{run, pixelIn};
 ghost use Rattle.transform.specs.Transforms.{byteIn, transformChannel, transformed, unpremultiply};
@@ -28,18 +28,44 @@ pub fn transform_row(t: FixedTransform, row: &mut [u8], n: usize)
     transform_pixels(t, &table, row, n);
 }
 
-// The same with the table lent.
+// The same with the table lent. A pixel that is equal to the one before it, as it often is in a gradient, takes its colour.
 fn transform_pixels(t: FixedTransform, table: &[u32], row: &mut [u8], n: usize)
     requires { ⌜ (now table ≡ reciprocals) × (length (now row) ≡ n * 4) ⌝ }
     ensures { λ _. ⌜ now (row .exit) ≡ run n (λ i. transformed t (pixelIn (now (row .entry)) i)) ⌝ }
 {
+    let mut last = Pixel {
+        r: 0,
+        g: 0,
+        b: 0,
+        a: 0,
+    };
+    let mut q = transform_by(t, reciprocal(table, 0), last);
     let mut i = 0;
     while i < n {
         let p = raster::pixel(row, i);
-        let q = transform_by(t, reciprocal(table, p.a), p);
+        q = transform_after(t, table, last, q, p);
         raster::put_pixel(row, i, q);
+        last = p;
         i += 1;
     }
+}
+
+// A pixel after the last one, which is transformed to q.
+fn transform_after(t: FixedTransform, table: &[u32], last: Pixel, q: Pixel, p: Pixel) -> Pixel
+    requires { ⌜ (now table ≡ reciprocals) × (q ≡ transformed t last) ⌝ }
+    ensures { λ r. ⌜ r ≡ transformed t p ⌝ }
+{
+    if word(last) == word(p) {
+        return q;
+    }
+    transform_by(t, reciprocal(table, p.a), p)
+}
+
+// A pixel as one number, which no other pixel has.
+fn word(p: Pixel) -> u32
+    ensures { λ r. ⌜ p ≡ record { r = r % 256; g = r / 256 % 256; b = r / 65536 % 256; a = r / 16777216 } ⌝ }
+{
+    (p.r as u32) + (p.g as u32) * 256 + (p.b as u32) * 65536 + (p.a as u32) * 16777216
 }
 
 // A pixel, with the reciprocal of its alpha. What is opaque is premultiplied as it is.
