@@ -6,7 +6,7 @@ use native.Mathlib.Nat.{div-add-mod, mod-lt, mul-le-mul-left}
 use native.Mathlib.Omega.{arith}
 use borrow.Author.Tests.{ne-eqb, leb-true, leb-false}
 use lib.Dec.{leb}
-use lib.IntN.{ℤ, pos, negsuc, _+ℤ_, _*ℤ_}
+use lib.IntN.{ℤ, pos, _+ℤ_, _*ℤ_}
 use lib.Ieee.{lt, neg}
 use Rattle.fixed.specs.Floor.{floorDiv}
 use Rattle.color.specs.declared.Pixel.{Pixel}
@@ -14,13 +14,10 @@ use Rattle.color.specs.Channels.{premultiply, UnderAlpha}
 use Rattle.color.proofs.Alpha.{premultiplied-under}
 use Rattle.transform.specs.declared.FixedTransform.{FixedTransform}
 use Rattle.transform.specs.Transforms.{fixedScale, fixedBias, fixedTransform, unpremultiply, unpremultiplied, identityTransform}
-use Rattle.transform.specs.Transforms.{byteIn, transformChannel, transformChannels, transformed}
+use Rattle.transform.specs.Transforms.{transformChannel, transformChannels, transformed}
+use Rattle.transform.proofs.Bytes.{byte-small}
 
 -- ---- no channel is above its alpha afterwards
-byte-small : (z : ℤ) → byteIn z ≤ 255
-byte-small (pos n) = omega arith
-byte-small (negsuc n) = omega arith
-
 channel-small : (scale bias : ℤ) (c : ℕ) → transformChannel scale bias c < 256
 unfolding transformChannel
 channel-small scale bias c = omega (arith, byte-small (floorDiv (pos c *ℤ scale +ℤ pos 255 *ℤ bias +ℤ pos 128) 256))

@@ -2,7 +2,9 @@
 //
 //     convert       the eight floats as whole numbers, once for a draw
 //     reciprocals   bytes out of premultiplied form by a table, without a division
+//     bytewise      rows byte by byte, where each channel is to be transformed as it stands
 //     pixels        premultiplied bytes transformed: a pixel, and the pixels of a row
+pub mod bytewise;
 pub mod convert;
 pub mod pixels;
 pub mod reciprocals;

@@ -1,14 +1,20 @@
 // Premultiplied bytes transformed: a pixel, and the pixels of a row.
 use crate::FixedTransform;
+use crate::bytewise::is_narrow;
+use crate::bytewise::is_opaque;
+use crate::bytewise::transform_channels;
+use crate::bytewise::word;
 use crate::reciprocals;
 use crate::reciprocals::reciprocal;
 use crate::reciprocals::unpremultiply;
 use color::Pixel;
 ghost use mathlib.Core.Path.{_≡_};
-ghost use Prim.Native.Nat.{_*_, _/_, _%_};
+ghost use mathlib.Core.Bool.{true};
+ghost use Prim.Native.Nat.{_*_};
 ghost use lib.ListN.{length};
 ghost use Rattle.raster.specs.Surface.{run, pixelIn};
 ghost use Rattle.transform.specs.Transforms.{byteIn, transformChannel, transformed, unpremultiply};
+ghost use Rattle.transform.specs.Bytewise.{Narrow};
 ghost use Rattle.transform.specs.Reciprocals.{reciprocalOf, reciprocals};
 
 // A pixel, which may have any bytes.
@@ -19,13 +25,29 @@ pub fn transform_pixel(t: FixedTransform, p: Pixel) -> Pixel
     transform_by(t, reciprocal(&table, p.a), p)
 }
 
-// The n pixels of a row, each in its place.
+// The n pixels of a row, each in its place. Opaque pixels that stay opaque need no other form than they have.
 pub fn transform_row(t: FixedTransform, row: &mut [u8], n: usize)
     requires { ⌜ length (now row) ≡ n * 4 ⌝ }
     ensures { λ _. ⌜ now (row .exit) ≡ run n (λ i. transformed t (pixelIn (now (row .entry)) i)) ⌝ }
 {
+    if keeps_opaque(t) {
+        if is_opaque(row, n) {
+            transform_channels(t, row, n);
+            return;
+        }
+    }
     let table = reciprocals::table();
     transform_pixels(t, &table, row, n);
+}
+
+// Whether the alpha 255 stays, and the numbers are small enough for a row to go byte by byte.
+fn keeps_opaque(t: FixedTransform) -> bool
+    ensures { λ r. ⌜ (r ≡ true → (transformChannel (t .sa) (t .ba) 255 ≡ 255) × Narrow t) ⌝ }
+{
+    if transform_channel(255, t.sa, t.ba) == 255 {
+        return is_narrow(t);
+    }
+    false
 }
 
 // The same with the table lent. A pixel that is equal to the one before it, as it often is in a gradient, takes its colour.
@@ -59,13 +81,6 @@ fn transform_after(t: FixedTransform, table: &[u32], last: Pixel, q: Pixel, p: P
         return q;
     }
     transform_by(t, reciprocal(table, p.a), p)
-}
-
-// A pixel as one number, which no other pixel has.
-fn word(p: Pixel) -> u32
-    ensures { λ r. ⌜ p ≡ record { r = r % 256; g = r / 256 % 256; b = r / 65536 % 256; a = r / 16777216 } ⌝ }
-{
-    (p.r as u32) + (p.g as u32) * 256 + (p.b as u32) * 65536 + (p.a as u32) * 16777216
 }
 
 // A pixel, with the reciprocal of its alpha. What is opaque is premultiplied as it is.

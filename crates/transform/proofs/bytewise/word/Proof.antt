@@ -1,10 +1,10 @@
--- `transform::pixels::word` meets its contract.
+-- `transform::bytewise::word` meets its contract.
 use mathlib.Core.Path.{refl}
 use native.Mathlib.Omega.{arith}
 use borrow.Author.Needs.{needs}
 use Rattle.transform.proofs.Bytes.{word-back}
-use Rattle.transform.proofs.pixels.word.Statement.{statement}
-use Rattle.transform.proofs.pixels.word.Tie as tie
+use Rattle.transform.proofs.bytewise.word.Statement.{statement}
+use Rattle.transform.proofs.bytewise.word.Tie as tie
 
 returns : tie.Need-returns
 returns c =
