@@ -55,13 +55,11 @@ fn transform_pixels(t: FixedTransform, table: &[u32], row: &mut [u8], n: usize)
     requires { ⌜ (now table ≡ reciprocals) × (length (now row) ≡ n * 4) ⌝ }
     ensures { λ _. ⌜ now (row .exit) ≡ run n (λ i. transformed t (pixelIn (now (row .entry)) i)) ⌝ }
 {
-    let mut last = Pixel {
-        r: 0,
-        g: 0,
-        b: 0,
-        a: 0,
-    };
-    let mut q = transform_by(t, reciprocal(table, 0), last);
+    if n == 0 {
+        return;
+    }
+    let mut last = raster::pixel(row, 0);
+    let mut q = transform_by(t, reciprocal(table, last.a), last);
     let mut i = 0;
     while i < n {
         let p = raster::pixel(row, i);
