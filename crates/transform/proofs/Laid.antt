@@ -15,7 +15,7 @@ use Rattle.raster.specs.Rows.{Stored}
 use Rattle.raster.proofs.Runs.{run-is, run-same, stored-part, part-pixel}
 use Rattle.transform.specs.declared.FixedTransform.{FixedTransform}
 use Rattle.transform.specs.Transforms.{byteIn, transformChannel, transformChannels}
-use Rattle.transform.specs.Bytewise.{AllWithin, halfUp, laid, scalesOf, biasesOf}
+use Rattle.transform.specs.Bytewise.{AllWithin, addend, laid, scalesOf, addendsOf}
 
 -- ---- what is laid out for a byte
 -- the channels' numbers in order
@@ -45,16 +45,16 @@ module _ (r g b a : ℤ) where
       each (suc (suc zero)) = w .2
       each (suc (suc (suc c))) = w .3
 
-pub half-up-within : (b : ℤ) → natAbs b ≤ 256 → natAbs (halfUp b) ≤ 65408
-half-up-within b h =
+pub addend-within : (b : ℤ) → natAbs b ≤ 256 → natAbs (addend b) ≤ 65408
+addend-within b h =
     let w : Within 256 b = record { size = h } in
     within-add (within-mul (within-pos 255) w) (within-pos 128) .size
 
 -- ---- bytes made by the numbers that are laid out
 abbrev pub byteAt : List ℤ → List ℤ → List ℕ → ℕ → ℕ
-byteAt scales biases d j = byteIn (floorDiv (pos (getD d j 0) *ℤ getD scales j (pos 0) +ℤ getD biases j (pos 0)) 256)
+byteAt scales addends d j = byteIn (floorDiv (pos (getD d j 0) *ℤ getD scales j (pos 0) +ℤ getD addends j (pos 0)) 256)
 
-channel-is : (s b : ℤ) (c : ℕ) → byteIn (floorDiv (pos c *ℤ s +ℤ halfUp b) 256) ≡ transformChannel s b c
+channel-is : (s b : ℤ) (c : ℕ) → byteIn (floorDiv (pos c *ℤ s +ℤ addend b) 256) ≡ transformChannel s b c
 unfolding transformChannel
 channel-is s b c = ap (λ (z : ℤ). byteIn (floorDiv z 256)) (sym (+ℤ-assoc (pos c *ℤ s) (pos 255 *ℤ b) (pos 128)))
 
@@ -74,15 +74,15 @@ bytes-are-pixels n f g h =
 
 module _ (t : FixedTransform) (d : List ℕ) where
   channel-at : (j c : ℕ) → j < 64 → j % 4 ≡ c
-      → byteAt (scalesOf t) (biasesOf t) d j
+      → byteAt (scalesOf t) (addendsOf t) d j
       ≡ byteIn (floorDiv (pos (getD d j 0) *ℤ ofChannel (t .sr) (t .sg) (t .sb) (t .sa) c
-      +ℤ ofChannel (halfUp (t .br)) (halfUp (t .bg)) (halfUp (t .bb)) (halfUp (t .ba)) c) 256)
+      +ℤ ofChannel (addend (t .br)) (addend (t .bg)) (addend (t .bb)) (addend (t .ba)) c) 256)
   channel-at j c h e =
-      rw (laid-at (t .sr) (t .sg) (t .sb) (t .sa) j h, laid-at (halfUp (t .br)) (halfUp (t .bg)) (halfUp (t .bb)) (halfUp (t .ba)) j h, e)
+      rw (laid-at (t .sr) (t .sg) (t .sb) (t .sa) j h, laid-at (addend (t .br)) (addend (t .bg)) (addend (t .bb)) (addend (t .ba)) j h, e)
 
-  pub laid-bytes : (n : ℕ) → n ≤ 16 → tab (n * 4) (byteAt (scalesOf t) (biasesOf t) d) ≡ run n (λ i. transformChannels t (pixelIn d i))
+  pub laid-bytes : (n : ℕ) → n ≤ 16 → tab (n * 4) (byteAt (scalesOf t) (addendsOf t) d) ≡ run n (λ i. transformChannels t (pixelIn d i))
   laid-bytes n m =
-      bytes-are-pixels n (byteAt (scalesOf t) (biasesOf t) d) (λ i. transformChannels t (pixelIn d i))
+      bytes-are-pixels n (byteAt (scalesOf t) (addendsOf t) d) (λ i. transformChannels t (pixelIn d i))
       (λ i l k. record {
         r = (channel-at (i * 4) 0 (omega arith) (omega arith) ∙ channel-is (t .sr) (t .br) (getD d (i * 4) 0)) k;
         g = (channel-at (i * 4 + 1) 1 (omega arith) (omega arith) ∙ channel-is (t .sg) (t .bg) (getD d (i * 4 + 1) 0)) k;

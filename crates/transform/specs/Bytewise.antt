@@ -21,8 +21,8 @@ pub record Narrow (t : FixedTransform) : Type 0 where
   pub biases : AllWithin 256 (t .br) (t .bg) (t .bb) (t .ba)
 
 -- what is added to a product before it is shifted
-abbrev pub halfUp : ℤ → ℤ
-halfUp bias = pos 255 *ℤ bias +ℤ pos 128
+abbrev pub addend : ℤ → ℤ
+addend bias = pos 255 *ℤ bias +ℤ pos 128
 
 -- the numbers of four channels, for each byte of 16 pixels
 unfoldable pub laid : ℤ → ℤ → ℤ → ℤ → List ℤ
@@ -31,5 +31,5 @@ laid r g b a = upto 16 (λ i. r ∷ g ∷ b ∷ a ∷ [])
 abbrev pub scalesOf : FixedTransform → List ℤ
 scalesOf t = laid (t .sr) (t .sg) (t .sb) (t .sa)
 
-abbrev pub biasesOf : FixedTransform → List ℤ
-biasesOf t = laid (halfUp (t .br)) (halfUp (t .bg)) (halfUp (t .bb)) (halfUp (t .ba))
+abbrev pub addendsOf : FixedTransform → List ℤ
+addendsOf t = laid (addend (t .br)) (addend (t .bg)) (addend (t .bb)) (addend (t .ba))

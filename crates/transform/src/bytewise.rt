@@ -1,7 +1,7 @@
 // Rows byte by byte, where each channel is to be transformed as it stands: a loop that becomes vector code.
 //
-// The numbers of the four channels are laid out over 16 pixels, a scale and a bias to a byte, and a row goes 16 pixels at a time. A scale that fits
-// 16 bits makes one instruction of a product.
+// The numbers of the four channels are laid out over 16 pixels, a scale and an addend to a byte, and a row goes 16 pixels at a time. Scales that
+// fit 16 bits let one instruction make several products.
 use crate::FixedTransform;
 use color::Pixel;
 ghost use mathlib.Core.Path.{_≡_};
@@ -13,16 +13,18 @@ ghost use lib.Signed.{ltZ};
 ghost use Rattle.fixed.specs.Floor.{floorDiv};
 ghost use Rattle.raster.specs.Surface.{run, pixelIn};
 ghost use Rattle.transform.specs.Transforms.{byteIn, transformChannels};
-ghost use Rattle.transform.specs.Bytewise.{AllWithin, Narrow, Opaque, halfUp, laid, scalesOf, biasesOf};
+ghost use Rattle.transform.specs.Bytewise.{AllWithin, Narrow, Opaque, addend, laid, scalesOf, addendsOf};
 
-// The pixels that numbers are laid out for, and their bytes.
+// The pixels that numbers are laid out for.
 const BLOCK: usize = 16;
 
+// Their bytes.
 const BLOCK_BYTES: usize = 64;
 
-// The sizes that a scale and a bias may have.
+// The size that a scale may have, so that it fits 16 bits.
 const SCALE_LIMIT: u16 = 32767;
 
+// The size that a bias may have, which is 1.
 const BIAS_LIMIT: u16 = 256;
 
 // Whether a row's n pixels all have the alpha 255: then the bits that all of them have are a number as large as the alpha 255 makes one.
@@ -89,10 +91,10 @@ pub fn transform_channels(t: FixedTransform, row: &mut [u8], n: usize)
     ensures { λ _. ⌜ now (row .exit) ≡ run n (λ i. transformChannels t (pixelIn (now (row .entry)) i)) ⌝ }
 {
     let mut scales = [0i16; BLOCK_BYTES];
-    let mut biases = [0i32; BLOCK_BYTES];
+    let mut addends = [0i32; BLOCK_BYTES];
     lay_scales(t, &mut scales);
-    lay_biases(t, &mut biases);
-    transform_blocks(t, &scales, &biases, row, n);
+    lay_addends(t, &mut addends);
+    transform_blocks(t, &scales, &addends, row, n);
 }
 
 // The scales of the four channels, for each byte of 16 pixels.
@@ -133,24 +135,24 @@ fn lay_narrow(r: i16, g: i16, b: i16, a: i16, s: &mut [i16])
     }
 }
 
-// What is added to the products of the four channels, for each byte of 16 pixels.
-fn lay_biases(t: FixedTransform, biases: &mut [i32])
-    requires { ⌜ Narrow t × (length (now biases) ≡ 64) ⌝ }
-    ensures { λ _. ⌜ now (biases .exit) ≡ biasesOf t ⌝ }
+// The addends of the four channels, for each byte of 16 pixels.
+fn lay_addends(t: FixedTransform, addends: &mut [i32])
+    requires { ⌜ Narrow t × (length (now addends) ≡ 64) ⌝ }
+    ensures { λ _. ⌜ now (addends .exit) ≡ addendsOf t ⌝ }
 {
     lay_wide(
-        half_up(t.br),
-        half_up(t.bg),
-        half_up(t.bb),
-        half_up(t.ba),
-        biases,
+        addend(t.br),
+        addend(t.bg),
+        addend(t.bb),
+        addend(t.ba),
+        addends,
     );
 }
 
-// A bias of a byte, with the half by which the sum is rounded.
-fn half_up(bias: i32) -> i32
+// What is added to a product: the bias of a byte, and half of 256, by which the quotient is rounded.
+fn addend(bias: i32) -> i32
     requires { ⌜ natAbs bias ≤ 256 ⌝ }
-    ensures { λ r. ⌜ r ≡ halfUp bias ⌝ }
+    ensures { λ r. ⌜ r ≡ addend bias ⌝ }
 {
     255 * bias + 128
 }
@@ -172,8 +174,8 @@ fn lay_wide(r: i32, g: i32, b: i32, a: i32, s: &mut [i32])
 }
 
 // The row, 16 pixels at a time.
-fn transform_blocks(t: FixedTransform, scales: &[i16], biases: &[i32], row: &mut [u8], n: usize)
-    requires { ⌜ Narrow t × (now scales ≡ scalesOf t) × (now biases ≡ biasesOf t) ⌝ }
+fn transform_blocks(t: FixedTransform, scales: &[i16], addends: &[i32], row: &mut [u8], n: usize)
+    requires { ⌜ Narrow t × (now scales ≡ scalesOf t) × (now addends ≡ addendsOf t) ⌝ }
     requires { ⌜ length (now row) ≡ n * 4 ⌝ }
     ensures { λ _. ⌜ now (row .exit) ≡ run n (λ i. transformChannels t (pixelIn (now (row .entry)) i)) ⌝ }
 {
@@ -182,7 +184,7 @@ fn transform_blocks(t: FixedTransform, scales: &[i16], biases: &[i32], row: &mut
         let end = sooner(i + BLOCK, n);
         let from = i * 4;
         let to = end * 4;
-        transform_block(t, scales, biases, &mut row[from..to], end - i);
+        transform_block(t, scales, addends, &mut row[from..to], end - i);
         i = end;
     }
 }
@@ -195,36 +197,36 @@ fn sooner(a: usize, b: usize) -> usize
 }
 
 // At most 16 pixels.
-fn transform_block(t: FixedTransform, scales: &[i16], biases: &[i32], row: &mut [u8], n: usize)
-    requires { ⌜ Narrow t × (now scales ≡ scalesOf t) × (now biases ≡ biasesOf t) ⌝ }
+fn transform_block(t: FixedTransform, scales: &[i16], addends: &[i32], row: &mut [u8], n: usize)
+    requires { ⌜ Narrow t × (now scales ≡ scalesOf t) × (now addends ≡ addendsOf t) ⌝ }
     requires { ⌜ (length (now row) ≡ n * 4) × (n ≤ 16) ⌝ }
     ensures { λ _. ⌜ now (row .exit) ≡ run n (λ i. transformChannels t (pixelIn (now (row .entry)) i)) ⌝ }
 {
     let mut i = 0;
     while i < row.len() {
-        row[i] = transform_byte(row[i], scales[i], biases[i]);
+        row[i] = transform_byte(row[i], scales[i], addends[i]);
         i += 1;
     }
 }
 
-// A byte times its scale, and what is added.
-fn transform_byte(c: u8, scale: i16, bias: i32) -> u8
-    requires { ⌜ natAbs bias ≤ 65408 ⌝ }
-    ensures { λ r. ⌜ r ≡ byteIn (floorDiv (pos c *ℤ scale +ℤ bias) 256) ⌝ }
+// A byte times its scale, and its addend.
+fn transform_byte(c: u8, scale: i16, addend: i32) -> u8
+    requires { ⌜ natAbs addend ≤ 65408 ⌝ }
+    ensures { λ r. ⌜ r ≡ byteIn (floorDiv (pos c *ℤ scale +ℤ addend) 256) ⌝ }
 {
-    let z = ((c as i32) * (scale as i32) + bias) >> 8;
-    at_least_none(at_most_full(z)) as u8
+    let z = ((c as i32) * (scale as i32) + addend) >> 8;
+    clamp_below(clamp_above(z)) as u8
 }
 
 // z, or 255 where it is above: both are the same byte.
-fn at_most_full(z: i32) -> i32
+fn clamp_above(z: i32) -> i32
     ensures { λ r. ⌜ (byteIn r ≡ byteIn z) × (ltZ (pos 255) r ≡ false) ⌝ }
 {
     if z < 255 { z } else { 255 }
 }
 
 // z, or 0 where it is below.
-fn at_least_none(z: i32) -> i32
+fn clamp_below(z: i32) -> i32
     requires { ⌜ ltZ (pos 255) z ≡ false ⌝ }
     ensures { λ r. ⌜ r ≡ pos (byteIn z) ⌝ }
 {

@@ -11,57 +11,57 @@ use Rattle.lists.proofs.Laws.{tab-turn, tab-all, tab-read}
 use Rattle.fixed.specs.Floor.{floorDiv}
 use Rattle.fixed.proofs.Signed.{clean}
 use Rattle.transform.specs.Transforms.{byteIn}
-use Rattle.transform.specs.Bytewise.{halfUp}
-use Rattle.transform.proofs.Laid.{laid-length, laid-within, half-up-within, byteAt, laid-bytes}
+use Rattle.transform.specs.Bytewise.{addend}
+use Rattle.transform.proofs.Laid.{laid-length, laid-within, addend-within, byteAt, laid-bytes}
 use borrow.Author.Needs.{needs}
 use Rattle.transform.proofs.bytewise.transform_block.Statement.{statement}
 use Rattle.transform.proofs.bytewise.transform_block.Tie as tie
 
 abbrev Inv-loop : tie.InvT-loop
-Inv-loop scales biases row₀ n i₀ row i = (i ≤ n * 4) × (length row ≡ n * 4) × (row ≡ over (tab i (byteAt scales biases row₀)) row₀)
+Inv-loop scales addends row₀ n i₀ row i = (i ≤ n * 4) × (length row ≡ n * 4) × (row ≡ over (tab i (byteAt scales addends row₀)) row₀)
 
 abbrev μ-loop : tie.MeasureT-loop
-μ-loop scales biases row₀ n i₀ row i = n * 4 - i
+μ-loop scales addends row₀ n i₀ row i = n * 4 - i
 
 scales-length : (c : tie.Start Inv-loop μ-loop) → length (c .args .scales .now) ≡ 64
 scales-length c = ap length (c .pre .0 .1) ∙ laid-length _ _ _ _
 
-biases-length : (c : tie.Start Inv-loop μ-loop) → length (c .args .biases .now) ≡ 64
-biases-length c = ap length (c .pre .0 .2) ∙ laid-length _ _ _ _
+addends-length : (c : tie.Start Inv-loop μ-loop) → length (c .args .addends .now) ≡ 64
+addends-length c = ap length (c .pre .0 .2) ∙ laid-length _ _ _ _
 
-bias-small : (c : tie.Start Inv-loop μ-loop) (i : ℕ) → i < 64 → natAbs (getD (c .args .biases .now) i (pos 0)) ≤ 65408
-bias-small c i h =
+addend-small : (c : tie.Start Inv-loop μ-loop) (i : ℕ) → i < 64 → natAbs (getD (c .args .addends .now) i (pos 0)) ≤ 65408
+addend-small c i h =
     let t = c .args .t in
     let b = c .pre .0 .0 .biases in
     rw (c .pre .0 .2)
-    (laid-within (halfUp (t .br)) (halfUp (t .bg)) (halfUp (t .bb)) (halfUp (t .ba)) 65408
-    (half-up-within (t .br) (b .0), half-up-within (t .bg) (b .1), half-up-within (t .bb) (b .2), half-up-within (t .ba) (b .3)) i h)
+    (laid-within (addend (t .br)) (addend (t .bg)) (addend (t .bb)) (addend (t .ba)) 65408
+    (addend-within (t .br) (b .0), addend-within (t .bg) (b .1), addend-within (t .bb) (b .2), addend-within (t .ba) (b .3)) i h)
 
 transform-byte-requires : tie.Need-transform-byte-requires Inv-loop μ-loop
 transform-byte-requires c κs =
     let at-loop = c .before .before .before .before in
     let entry = at-loop .before .before in
-    let small = bias-small entry (at-loop .loop .i) (omega (arith, entry .pre .1)) in
+    let small = addend-small entry (at-loop .loop .i) (omega (arith, entry .pre .1)) in
     rw (clean w32 65408 _ tt small) small
 
 loop-again : tie.Need-loop-again Inv-loop μ-loop
 loop-again c =
-    let after-bias = c .before in
-    let after-scale = after-bias .before in
+    let after-addend = c .before in
+    let after-scale = after-addend .before in
     let at-loop = after-scale .before .before .before in
     let entry = at-loop .before .before in
     let a = entry .args in
     let l = at-loop .loop in
-    let f : ℕ → ℕ = byteAt (a .scales .now) (a .biases .now) (a .row .now) in
+    let f : ℕ → ℕ = byteAt (a .scales .now) (a .addends .now) (a .row .now) in
     let byte = rw (
       toZ-ofZ {w = w16} (record { sfits = after-scale .transform-byte-arg .given }),
-      toZ-ofZ {w = w32} (record { sfits = after-bias .transform-byte-arg2 .given }),
+      toZ-ofZ {w = w32} (record { sfits = after-addend .transform-byte-arg2 .given }),
     ) at (c .transform-byte .ensures) in (
       search needs,
       simp length-set (omega arith),
       tab-turn f (l .row) (a .row .now) (l .i) (c .transform-byte .result)
           (byte
-          ∙ ap (λ (d : ℕ). byteIn (floorDiv (pos d *ℤ getD (a .scales .now) (l .i) (pos 0) +ℤ getD (a .biases .now) (l .i) (pos 0)) 256))
+          ∙ ap (λ (d : ℕ). byteIn (floorDiv (pos d *ℤ getD (a .scales .now) (l .i) (pos 0) +ℤ getD (a .addends .now) (l .i) (pos 0)) 256))
           (tab-read f (l .row) (a .row .now) (l .i) 0 (l .inv .2)))
           (l .inv .2) (omega (arith, entry .pre .1)),
     )
@@ -72,7 +72,7 @@ returns c =
     let entry = at-loop .before .before in
     let a = entry .args in
     let l = at-loop .loop in
-    let f : ℕ → ℕ = byteAt (a .scales .now) (a .biases .now) (a .row .now) in
+    let f : ℕ → ℕ = byteAt (a .scales .now) (a .addends .now) (a .row .now) in
     tab-all f (l .row) (a .row .now) (l .i) (a .n * 4) (l .inv .2) (omega arith) (omega (arith, entry .pre .1))
     ∙ rw (entry .pre .0 .1, entry .pre .0 .2) (laid-bytes (a .t) (a .row .now) (a .n) (entry .pre .1 .1))
 
@@ -87,7 +87,7 @@ transform-block-spec =
     (λ c. search needs)
     (λ c. omega (arith, scales-length (c .before .before .before .before)))
     (λ c. search needs)
-    (λ c. omega (arith, biases-length (c .before .before .before .before .before)))
+    (λ c. omega (arith, addends-length (c .before .before .before .before .before)))
     transform-byte-requires
     (λ c. search needs)
     (λ c. search needs)

@@ -13,10 +13,10 @@ use Rattle.transform.proofs.bytewise.transform_blocks.Statement.{statem
 use Rattle.transform.proofs.bytewise.transform_blocks.Tie as tie
 
 abbrev Inv-loop : tie.InvT-loop
-Inv-loop t scales biases row₀ n i₀ row i = (i ≤ n) × Stored (λ j. transformChannels t (pixelIn row₀ j)) row₀ i row
+Inv-loop t scales addends row₀ n i₀ row i = (i ≤ n) × Stored (λ j. transformChannels t (pixelIn row₀ j)) row₀ i row
 
 abbrev μ-loop : tie.MeasureT-loop
-μ-loop t scales biases row₀ n i₀ row i = n - i
+μ-loop t scales addends row₀ n i₀ row i = n - i
 
 loop-holds : tie.Need-loop-holds Inv-loop μ-loop
 loop-holds c = (omega arith, stored-none _ _)

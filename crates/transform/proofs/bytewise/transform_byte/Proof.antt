@@ -1,4 +1,4 @@
--- `transform::bytewise::transform_byte` meets its contract: no step overflows, by the types of the parameters and the size of the bias.
+-- `transform::bytewise::transform_byte` meets its contract: no step overflows, by the types of the parameters and the size of the addend.
 use mathlib.Core.Path.{_≡_, ap, _∙_}
 use native.Mathlib.Omega.{arith}
 use borrow.Author.Needs.{needs}
@@ -19,24 +19,24 @@ abbrev product : tie.Start → Num
 product s = mul (of-nat w32 (s .args .c) 255 (omega (arith, s .fits .c .fits)) tt) (keep w32 (scale s) tt)
 
 abbrev sum : tie.Start → Num
-sum s = add (keep w32 (product s) tt) (small w32 65408 (s .args .bias) (s .fits .bias) (record { size = s .pre }))
+sum s = add (keep w32 (product s) tt) (small w32 65408 (s .args .addend) (s .fits .addend) (record { size = s .pre }))
 
 abbrev shifted : tie.Start → Num
 shifted s = shr (keep w32 (sum s) tt) 256
 
 -- what is left when it is cut
-told : (c : tie.After-at-least-none) → toZ w32 (ofZ w32 (c .at-least-none .result)) ≡ pos (byteIn (shifted (c .before .before) .int))
+told : (c : tie.After-clamp-below) → toZ w32 (ofZ w32 (c .clamp-below .result)) ≡ pos (byteIn (shifted (c .before .before) .int))
 told c =
-    let least = c .at-least-none in
-    let most = c .before .at-most-full in
+    let least = c .clamp-below in
+    let most = c .before .clamp-above in
     back w32 (least .result) (least .ok)
     ∙ least .ensures
     ∙ ap (λ (z : ℤ). pos (byteIn z)) (back w32 (most .result) (most .ok))
     ∙ ap pos (most .ensures .0)
     ∙ ap (λ (z : ℤ). pos (byteIn z)) (keep w32 (shifted (c .before .before)) tt .same)
 
-at-least-none-requires : tie.Need-at-least-none-requires
-at-least-none-requires c κs = rw (back w32 (c .at-most-full .result) (c .at-most-full .ok)) (c .at-most-full .ensures .1)
+clamp-below-requires : tie.Need-clamp-below-requires
+clamp-below-requires c κs = rw (back w32 (c .clamp-above .result) (c .clamp-above .ok)) (c .clamp-above .ensures .1)
 
 cast-result : tie.Need-cast-result
 cast-result c = rw (told c) (tt, record { fits = omega (arith, byte-small (shifted (c .before .before) .int)) })
@@ -53,6 +53,6 @@ transform-byte-spec =
     (λ c. need (product c) tt)
     (λ c. need (sum c) tt)
     (λ c κs. search needs)
-    at-least-none-requires
+    clamp-below-requires
     cast-result
     returns)

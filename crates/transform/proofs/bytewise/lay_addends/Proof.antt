@@ -1,11 +1,11 @@
--- `transform::bytewise::lay_biases` meets its contract.
+-- `transform::bytewise::lay_addends` meets its contract.
 use mathlib.Core.Path.{ap, _∙_}
 use borrow.Author.Needs.{needs}
 use mir.Syntax.{w32}
 use Rattle.fixed.proofs.Signed.{back}
-use Rattle.transform.specs.Bytewise.{halfUp}
-use Rattle.transform.proofs.bytewise.lay_biases.Statement.{statement}
-use Rattle.transform.proofs.bytewise.lay_biases.Tie as tie
+use Rattle.transform.specs.Bytewise.{addend}
+use Rattle.transform.proofs.bytewise.lay_addends.Statement.{statement}
+use Rattle.transform.proofs.bytewise.lay_addends.Tie as tie
 
 returns : tie.Need-returns
 returns c =
@@ -22,14 +22,14 @@ returns c =
     let bb = bg .1 in
     let ba = bb .1 in
     rw (
-      back w32 (after-first .half-up .result) (after-first .half-up .ok) ∙ after-first .half-up .ensures ∙ ap halfUp (back w32 (t .br) (br .0 .1)),
-      back w32 (after-second .half-up2 .result) (after-second .half-up2 .ok) ∙ after-second .half-up2 .ensures ∙ ap halfUp (back w32 (t .bg) (bg .0 .1)),
-      back w32 (after-third .half-up3 .result) (after-third .half-up3 .ok) ∙ after-third .half-up3 .ensures ∙ ap halfUp (back w32 (t .bb) (bb .0 .1)),
-      back w32 (after-fourth .half-up4 .result) (after-fourth .half-up4 .ok) ∙ after-fourth .half-up4 .ensures ∙ ap halfUp (back w32 (t .ba) (ba .0 .1)),
+      back w32 (after-first .addend .result) (after-first .addend .ok) ∙ after-first .addend .ensures ∙ ap addend (back w32 (t .br) (br .0 .1)),
+      back w32 (after-second .addend2 .result) (after-second .addend2 .ok) ∙ after-second .addend2 .ensures ∙ ap addend (back w32 (t .bg) (bg .0 .1)),
+      back w32 (after-third .addend3 .result) (after-third .addend3 .ok) ∙ after-third .addend3 .ensures ∙ ap addend (back w32 (t .bb) (bb .0 .1)),
+      back w32 (after-fourth .addend4 .result) (after-fourth .addend4 .ok) ∙ after-fourth .addend4 .ensures ∙ ap addend (back w32 (t .ba) (ba .0 .1)),
     ) at (after-lay .lay-wide .ensures)
 
-pub lay-biases-spec : {M : Type 1} → statement M
-lay-biases-spec =
+pub lay-addends-spec : {M : Type 1} → statement M
+lay-addends-spec =
     tie.close
     (tie.spec
     (λ c κs. search needs)

@@ -1,10 +1,10 @@
--- `transform::bytewise::at_least_none` meets its contract.
+-- `transform::bytewise::clamp_below` meets its contract.
 use mathlib.Core.Path.{ap, _∙_}
 use lib.IntN.{pos}
 use mir.Facts.{toZ-ofZ}
 use Rattle.transform.proofs.Bytes.{none-below, kept-between}
-use Rattle.transform.proofs.bytewise.at_least_none.Statement.{statement}
-use Rattle.transform.proofs.bytewise.at_least_none.Tie as tie
+use Rattle.transform.proofs.bytewise.clamp_below.Statement.{statement}
+use Rattle.transform.proofs.bytewise.clamp_below.Tie as tie
 
 returns : tie.Need-returns
 returns c = let entry = c .before in ap pos (none-below (entry .args .z) (rw (toZ-ofZ (entry .fits .z)) at (c .if1 .taken)))
@@ -15,5 +15,5 @@ returns-2 c =
     let same = toZ-ofZ (entry .fits .z) in
     same ∙ kept-between (entry .args .z) (rw same at (c .if1 .left)) (entry .pre) .0
 
-pub at-least-none-spec : {M : Type 1} → statement M
-at-least-none-spec = tie.close (tie.spec returns returns-2)
+pub clamp-below-spec : {M : Type 1} → statement M
+clamp-below-spec = tie.close (tie.spec returns returns-2)
