@@ -1,12 +1,10 @@
 -- `transform::bytewise::is_within` meets its contract.
-use mathlib.Core.Path.{_≡_, sym, _∙_}
+use mathlib.Core.Path.{_∙_}
 use mathlib.Core.Bool.{false≢true}
 use native.Mathlib.Omega.{arith}
 use borrow.Author.Needs.{needs}
-use lib.IntN.{negℤ, pos}
 use mir.Syntax.{w32}
-use mir.Val.{toZ, ofZ}
-use mir.Facts.{toZ-ofZ, toZ-pos}
+use mir.Facts.{toZ-ofZ}
 use Rattle.fixed.proofs.Means.{Num, need, keep, of-nat, lit, sub}
 use Rattle.fixed.proofs.Signed.{neg-is}
 use Rattle.transform.proofs.Bytes.{within-limit}

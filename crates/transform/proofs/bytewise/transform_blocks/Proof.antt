@@ -1,6 +1,6 @@
 -- `transform::bytewise::transform_blocks` meets its contract: the pixels before i are transformed, and the others are as they were.
-use mathlib.Core.Path.{_≡_, _∙_}
-use Prim.Native.Nat.{ℕ, _-_, _*_, _≤_}
+use mathlib.Core.Path.{_∙_}
+use Prim.Native.Nat.{_-_, _*_, _≤_}
 use native.Mathlib.Omega.{arith}
 use Rattle.lists.proofs.Laws.{part-length}
 use Rattle.raster.specs.Surface.{pixelIn}
