@@ -1,5 +1,6 @@
-// Marks of pixels in which something may begin, in two levels: one for each pixel of a window, and two numbers for each group of 32 pixels. The first 32 numbers
-// tell before which pixel the marks of a group end, the next 32 how far before the group's end they begin; both are 0 where there is none.
+// Marks of pixels in which something may begin, in two levels: one for each pixel of a window, and two numbers for each group of 32 pixels. The
+// first 32 numbers tell before which pixel the marks of a group end, the next 32 how far before the group's end they begin; both are 0 where
+// there is none.
 use rect::most;
 ghost use mathlib.Core.Path.{_≡_};
 ghost use mathlib.Core.Bool.{cond};
