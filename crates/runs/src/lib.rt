@@ -84,8 +84,26 @@ pub fn collect(row: &[u8], runs: &mut [u16]) -> usize
     let mut n = 0;
     let mut i = 0;
     while i < row.len() {
-        n = push(runs, n, i, i + 1, row[i]);
-        i += 1;
+        let e = alike(row, i);
+        n = push(runs, n, i, e, row[i]);
+        i = e;
     }
     n
+}
+
+// The first place behind i with another byte than the one there, or the end.
+fn alike(row: &[u8], i: usize) -> usize
+    requires { ⌜ i < length (now row) ⌝ }
+    ensures { λ e. ⌜ (i < e) × (e ≤ length (now (row .entry))) ⌝ }
+    ensures { λ e. ⌜ ((j : ℕ) → i ≤ j → j < e → getD (now (row .entry)) j 0 ≡ getD (now (row .entry)) i 0) ⌝ }
+{
+    let k = row[i];
+    let mut e = i + 1;
+    while e < row.len() {
+        if row[e] != k {
+            return e;
+        }
+        e += 1;
+    }
+    e
 }

@@ -20,18 +20,15 @@ abbrev μ-loop : tie.MeasureT-loop
 loop-holds : tie.Need-loop-holds Inv-loop μ-loop
 loop-holds c = (omega arith, refl, record { rises = λ j l. absurd (omega (arith, l)); last = refl }, refl)
 
--- one pixel more
-more : (row : List ℕ) (i k : ℕ) (s t : List ℕ) → getD row i 0 ≡ k → t ≡ tab i (λ j. getD row j 0) → s ≡ t ++ replicate (i + 1 - i) k
-    → s ≡ tab (i + 1) (λ j. getD row j 0)
-more row i k s t q a b =
-    b ∙ ap (λ (l : List ℕ). l ++ replicate (i + 1 - i) k) a ∙ tab-run (λ j. getD row j 0) i (i + 1) k (omega arith) (λ j l m. same j l m)
-  where
-    same : (j : ℕ) → i ≤ j → j < i + 1 → getD row j 0 ≡ k
-    same j l m = let e : j ≡ i = omega arith in ap (λ (x : ℕ). getD row x 0) e ∙ q
+-- one run more
+more : (row : List ℕ) (i e k : ℕ) (s t : List ℕ) → i < e → ((j : ℕ) → i ≤ j → j < e → getD row j 0 ≡ k) → t ≡ tab i (λ j. getD row j 0)
+    → s ≡ t ++ replicate (e - i) k → s ≡ tab e (λ j. getD row j 0)
+more row i e k s t g h a b = b ∙ ap (λ (l : List ℕ). l ++ replicate (e - i) k) a ∙ tab-run (λ j. getD row j 0) i e k (omega arith) h
 
 push-requires : tie.Need-push-requires Inv-loop μ-loop
 push-requires c κs =
-    let turn = c .before .before .before in
+    let after-alike = c .before .before in
+    let turn = after-alike .before .before in
     let entry = turn .before .before .before in (
       turn .loop .inv .2,
       (
@@ -44,14 +41,17 @@ push-requires c κs =
 
 loop-again : tie.Need-loop-again Inv-loop μ-loop
 loop-again c =
-    let after = c .before .before in
-    let turn = after .before .before .before .before in
-    let entry = turn .before .before .before in (
+    let after-push = c .before .before in
+    let after-alike = after-push .before .before .before in
+    let turn = after-alike .before .before in
+    let entry = turn .before .before .before in
+    let row = entry .args .row .now in
+    let i = turn .loop .i in (
       omega arith,
-      after .push .ensures .0 .1 ∙ turn .loop .inv .1,
-      after .push .ensures .0 .0,
-      more (entry .args .row .now) (turn .loop .i) (getD (entry .args .row .now) (turn .loop .i) 0) _ (expand (turn .loop .runs) (turn .loop .n)) refl
-          (turn .loop .inv .3) (after .push .ensures .1),
+      after-push .push .ensures .0 .1 ∙ turn .loop .inv .1,
+      after-push .push .ensures .0 .0,
+      more row i (after-alike .alike .result) (getD row i 0) _ (expand (turn .loop .runs) (turn .loop .n)) (after-alike .alike .ensures .0 .0)
+          (after-alike .alike .ensures .1) (turn .loop .inv .3) (after-push .push .ensures .1),
     )
 
 returns : tie.Need-returns Inv-loop μ-loop
@@ -70,10 +70,9 @@ collect-spec =
     Inv-loop
     μ-loop
     loop-holds
-    (λ c. search needs)
+    (λ c κs. search needs)
     (λ c. search needs)
     push-requires
-    (λ c. search needs)
     (λ c. search needs)
     loop-again
     (λ c. search needs)
