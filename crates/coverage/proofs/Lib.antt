@@ -18,3 +18,4 @@ pub mod Telescope
 pub mod Sides
 pub mod Outside
 pub mod Rectangles
+pub mod Borders

@@ -42,7 +42,7 @@ module _ (scissors : List ℕ) (n x y : ℕ) where
       by true = sym (and-true (inSpan (columns scissors n r y) x))
       by false = not-in-none x ∙ sym (and-false (inSpan (columns scissors n r y) x))
 
-four : {a b c d e f g h : Bool} → a ≡ e → b ≡ f → c ≡ g → d ≡ h → (a || b || c || d) ≡ (e || f || g || h)
+pub four : {a b c d e f g h : Bool} → a ≡ e → b ≡ f → c ≡ g → d ≡ h → (a || b || c || d) ≡ (e || f || g || h)
 four p q r s = rw (p, q, r, s)
 
 pub four-same : {a b c d e f g h : Span} (x : ℕ) → a ≡ e → b ≡ f → c ≡ g → d ≡ h
@@ -81,10 +81,7 @@ kept-is scissors n x y k t e = by t ∙ ap (λ (b : Bool). cond (true && not b) 
     by false = refl
 
 -- the four tests of a column, one after the other
-module _ (k : ℕ) (a b c d : Bool) where
-  pub kept-by : (t : Bool) → (a || b || c || d) ≡ t → cond t k 0 ≡ cond (a || b || c || d) k 0
-  kept-by t e = ap (λ (s : Bool). cond s k 0) (sym e)
-
+module _ (a b c d : Bool) where
   pub first-holds : a ≡ true → (a || b || c || d) ≡ true
   first-holds p = rw p
 

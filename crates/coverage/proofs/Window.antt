@@ -101,7 +101,7 @@ module _ (b m : ℕ) (l q r : List ℤ) (h : b + m ≤ length l) (e : length q �
   given-back z o = ap₂ (λ (n : ℕ) (t : List ℤ). laid b n t z) (width b m) now ∙ laid-again b m l q h e z ∙ sym o
 
 -- ---- window after window along a row
-tab-join : {A : Type 0} (i m : ℕ) (f : ℕ → A) → tab i f ++ tab m (λ j. f (i + j)) ≡ tab (i + m) f
+pub tab-join : {A : Type 0} (i m : ℕ) (f : ℕ → A) → tab i f ++ tab m (λ j. f (i + j)) ≡ tab (i + m) f
 tab-join i zero f = append-nil (tab i f) ∙ ap (λ (n : ℕ). tab n f) (sym (add-zero i))
 tab-join i (suc m) f =
     sym (append-assoc (tab i f) (tab m (λ j. f (i + j))) (f (i + m) ∷ []))

@@ -1,22 +1,18 @@
 -- `coverage::scissors::scissor_row` meets its contract. Assumes nothing.
-use mathlib.Core.Path.{_≡_, refl, ap, _∙_}
-use mathlib.Core.Bool.{Bool, true, _||_}
-use mathlib.Core.List.{List}
-use Prim.Native.Nat.{ℕ, _+_, _-_, _≤_}
+use mathlib.Core.Path.{_≡_, refl, sym, ap, subst, _∙_}
+use mathlib.Core.Bool.{Bool, _||_}
+use Prim.Native.Nat.{ℕ, _+_, _-_, _≤_, _<_}
 use native.Mathlib.Omega.{arith}
-use lib.ListN.{length, getD, length-set}
+use lib.ListN.{length}
 use Rattle.lists.specs.Lists.{tab, over}
-use Rattle.lists.proofs.Laws.{tab-turn, tab-read, tab-all}
-use Rattle.coverage.specs.Scissors.{inScissors, scissored}
+use Rattle.lists.proofs.Laws.{tab-all, tab-length, over-length}
+use Rattle.coverage.specs.Scissors.{inScissors}
 use Rattle.coverage.specs.Scanline.{inSpan}
-use Rattle.coverage.proofs.Rectangles.{spans-are, four-same, kept-is}
+use Rattle.coverage.proofs.Rectangles.{spans-are, four-same}
+use Rattle.coverage.proofs.Borders.{pixel, stretch-cut}
 use borrow.Author.Needs.{needs}
 use Rattle.coverage.proofs.scissors.scissor_row.Statement.{statement}
 use Rattle.coverage.proofs.scissors.scissor_row.Tie as tie
-
--- what a pixel is to have
-abbrev pixel : List ℕ → ℕ → ℕ → ℕ → List ℕ → ℕ → ℕ
-pixel scissors n x y d i = scissored true scissors n (x + i) y (getD d i 0)
 
 abbrev Inv-loop : tie.InvT-loop
 Inv-loop scissors n x y cover₀ a b c d i₀ cover i =
@@ -25,88 +21,71 @@ Inv-loop scissors n x y cover₀ a b c d i₀ cover i =
 abbrev μ-loop : tie.MeasureT-loop
 μ-loop scissors n x y cover₀ a b c d i₀ cover i = length cover₀ - i
 
--- the tests of a column by the four spans, and what they tell
-abbrev columns-held : tie.After-kept Inv-loop μ-loop → Bool
-columns-held c =
-    let after-span4 = c .before .before .before .before in
-    let after-span3 = after-span4 .before in
-    let after-span2 = after-span3 .before in
-    let after-span = after-span2 .before in
-    let x = after-span .before .before .before .args .x + c .before .before .before .loop .i in
-    inSpan (after-span .span .result) x || inSpan (after-span2 .span2 .result) x
-    || inSpan (after-span3 .span3 .result) x || inSpan (after-span4 .span4 .result) x
+-- the four spans tell of each column whether a rectangle holds it
+module _ (c : tie.After-span4 Inv-loop μ-loop) where
+  abbrev entry : tie.Start Inv-loop μ-loop
+  entry = c .before .before .before .before .before .before
 
-held : (c : tie.After-kept Inv-loop μ-loop)
-    → let entry = c .before .before .before .before .before .before .before .before .before .before in
-    columns-held c ≡ inScissors (entry .args .scissors .now) (entry .args .n) (entry .args .x + c .before .before .before .loop .i) (entry .args .y)
-held c =
-    let after-span4 = c .before .before .before .before in
-    let after-span3 = after-span4 .before in
-    let after-span2 = after-span3 .before in
-    let after-span = after-span2 .before in
-    let entry = after-span .before .before .before in
-    let a = entry .args in
-    let x = a .x + c .before .before .before .loop .i in
-    four-same x (after-span .span .ensures) (after-span2 .span2 .ensures)
-    (after-span3 .span3 .ensures) (after-span4 .span4 .ensures)
-    ∙ spans-are (a .scissors .now) (a .n) x (a .y) (entry .pre .0 .0)
+  abbrev columns-held : ℕ → Bool
+  columns-held x =
+      inSpan (c .before .before .before .span .result) x || inSpan (c .before .before .span2 .result) x
+      || inSpan (c .before .span3 .result) x || inSpan (c .span4 .result) x
 
-span-requires : tie.Need-span-requires Inv-loop μ-loop
-span-requires c κs = search needs
+  held : (x : ℕ) → columns-held x ≡ inScissors (entry .args .scissors .now) (entry .args .n) x (entry .args .y)
+  held x =
+      four-same x (c .before .before .before .span .ensures) (c .before .before .span2 .ensures) (c .before .span3 .ensures) (c .span4 .ensures)
+      ∙ spans-are (entry .args .scissors .now) (entry .args .n) x (entry .args .y) (entry .pre .0 .0)
 
-span-requires-2 : tie.Need-span-requires-2 Inv-loop μ-loop
-span-requires-2 c κs = search needs
+-- the stretch of a turn: where it ends, and that all of it is kept or none of it
+module _ (c : tie.After-nearest-border Inv-loop μ-loop) where
+  abbrev at-loop : tie.At-loop Inv-loop μ-loop
+  at-loop = c .before .before
 
-span-requires-3 : tie.Need-span-requires-3 Inv-loop μ-loop
-span-requires-3 c κs = search needs
+  abbrev x : ℕ
+  x = entry (at-loop .before) .args .x
 
-span-requires-4 : tie.Need-span-requires-4 Inv-loop μ-loop
-span-requires-4 c κs = search needs
+  abbrev e : ℕ
+  e = c .nearest-border .result - x
 
-loop-holds : tie.Need-loop-holds Inv-loop μ-loop
-loop-holds c = (search needs, refl, refl)
+  within : (at-loop .loop .i < e) × (e ≤ length (entry (at-loop .before) .args .cover .now))
+  within = (omega (arith, c .nearest-border .ensures .0), omega (arith, c .nearest-border .ensures .0, at-loop .loop .inv .1))
 
-add-kept : tie.Need-add-kept Inv-loop μ-loop
-add-kept c = search needs
+  alike : (keep : Bool) → keep ≡ columns-held (at-loop .before) (x + at-loop .loop .i) → (m : ℕ) → at-loop .loop .i ≤ m → m < e
+      → keep ≡ inScissors (entry (at-loop .before) .args .scissors .now) (entry (at-loop .before) .args .n) (x + m) (entry (at-loop .before) .args .y)
+  alike keep q m g l = q ∙ sym (c .nearest-border .ensures .1 (x + m) (omega (arith, g)) (omega (arith, l))) ∙ held (at-loop .before) (x + m)
 
-slice-read-kept : tie.Need-slice-read-kept Inv-loop μ-loop
-slice-read-kept c = search needs
-
-kept-requires : tie.Need-kept-requires Inv-loop μ-loop
-kept-requires c κs = search needs
-
-slice-write-cover : tie.Need-slice-write-cover Inv-loop μ-loop
-slice-write-cover c = search needs
-
-add-i : tie.Need-add-i Inv-loop μ-loop
-add-i c = search needs
+nearest-border-requires : tie.Need-nearest-border-requires Inv-loop μ-loop
+nearest-border-requires c κs = (omega arith, omega (arith, c .before .loop .inv, entry (c .before .before) .pre))
 
 loop-less : tie.Need-loop-less Inv-loop μ-loop
-loop-less c = search needs
+loop-less c = omega (arith, within (c .before .before .before .before .before))
 
 loop-again : tie.Need-loop-again Inv-loop μ-loop
 loop-again c =
-    let a = c .before .before .before .before .before .before .before .before .before .before .args in
-    let l = c .before .before .before .loop in
-    let f = pixel (a .scissors .now) (a .n) (a .x) (a .y) (a .cover .now) in
-    let x = a .x + l .i in (
-      search needs,
-      simp length-set (omega arith),
-      tab-turn f (l .cover) (a .cover .now) (l .i) (c .kept .result)
-          (c .kept .ensures
-          ∙ kept-is (a .scissors .now) (a .n) x (a .y) (getD (l .cover) (l .i) 0) (columns-held c) (held c)
-          ∙ ap (scissored true (a .scissors .now) (a .n) x (a .y)) (tab-read f (l .cover) (a .cover .now) (l .i) 0 (l .inv .2)))
-          (l .inv .2) (omega arith),
+    let after-cut = c .before .before in
+    let after-kept = after-cut .before .before in
+    let stretch = after-kept .before in
+    let turn = at-loop stretch in
+    let a = entry (turn .before) .args in
+    let laid =
+    stretch-cut (a .scissors .now) (a .n) (a .x) (a .y) (a .cover .now) (turn .loop .cover) (after-cut .cut .last .0) (turn .loop .i) (e stretch)
+    (after-kept .kept .result) (omega (arith, within stretch)) (within stretch .1) (turn .loop .inv .1) (turn .loop .inv .2)
+    (alike stretch (after-kept .kept .result) (after-kept .kept .ensures)) (after-cut .cut .ensures)
+    in (
+      within stretch .1,
+      ap length laid
+          ∙ over-length (tab (e stretch) (pixel (a .scissors .now) (a .n) (a .x) (a .y) (a .cover .now))) (a .cover .now)
+          (subst (λ (m : ℕ). m ≤ length (a .cover .now)) (sym (tab-length (e stretch) (pixel (a .scissors .now) (a .n) (a .x) (a .y) (a .cover .now))))
+          (within stretch .1)),
+      laid,
     )
-
-same-length : tie.Need-same-length Inv-loop μ-loop
-same-length c = search needs
 
 returns : tie.Need-returns Inv-loop μ-loop
 returns c =
-    let a = c .before .before .before .before .before .before .before .before .args in
-    tab-all (pixel (a .scissors .now) (a .n) (a .x) (a .y) (a .cover .now)) (c .before .loop .cover) (a .cover .now) (c .before .loop .i)
-    (length (a .cover .now)) (c .before .loop .inv .2) (omega arith) refl
+    let turn = c .before in
+    let a = entry (turn .before) .args in
+    tab-all (pixel (a .scissors .now) (a .n) (a .x) (a .y) (a .cover .now)) (turn .loop .cover) (a .cover .now) (turn .loop .i)
+    (length (a .cover .now)) (turn .loop .inv .2) (omega arith) refl
 
 pub scissor-row-spec : {M : Type 1} → statement M
 scissor-row-spec =
@@ -114,17 +93,22 @@ scissor-row-spec =
     (tie.spec
     Inv-loop
     μ-loop
-    span-requires
-    span-requires-2
-    span-requires-3
-    span-requires-4
-    loop-holds
-    add-kept
-    slice-read-kept
-    kept-requires
-    slice-write-cover
-    add-i
+    (λ c κs. search needs)
+    (λ c κs. search needs)
+    (λ c κs. search needs)
+    (λ c κs. search needs)
+    (λ c. (omega arith, refl, refl))
+    (λ c. search needs)
+    (λ c. search needs)
+    nearest-border-requires
+    (λ c. search needs)
+    (λ c. search needs)
+    (λ c κs. search needs)
+    (λ c. search needs)
+    (λ c. search needs)
+    (λ c. search needs)
+    (λ c κs. search needs)
     loop-less
     loop-again
-    same-length
+    (λ c. search needs)
     returns)
