@@ -7,18 +7,18 @@ use native.Mathlib.Nat.{not-suc-le-zero}
 use native.Mathlib.Omega.{arith}
 use lib.Dec.{T}
 use lib.ListN.{length, length-append}
-use lib.IntN.{ℤ, pos, _+ℤ_}
-use Rattle.fixed.specs.Floor.{floorDiv}
+use lib.IntN.{ℤ}
 use lib.Signed.{leZ, _≤ℤ_, ≤ℤ-refl}
 use Rattle.fixed.proofs.Tests.{is-true, ≤ℤ-trans, leZ-not}
 use Rattle.lists.proofs.Laws.{tab-length}
 use Rattle.rect.proofs.Laws.{either}
 use Rattle.path.specs.declared.Edge.{Edge}
-use Rattle.path.specs.Boxes.{outer, endOf, outerOf, within, boxOf}
+use Rattle.path.specs.Boxes.{outer, endOf, outerOf, boxOf}
 use Rattle.path.specs.Stored.{edgeAt, edgesOf, putEdge, putEdges}
 use Rattle.outline.specs.Alike.{Alike}
+use Rattle.outline.specs.Corners.{corners, pixelsOf}
 use Rattle.outline.proofs.Stores.{edge-put, puts-after}
-use Rattle.outline.proofs.Outermost.{boxFrom, some-box}
+use Rattle.outline.proofs.Outermost.{some-box}
 
 -- ---- edges that serve for others
 pub alike-same : {es fs : List Edge} → es ≡ fs → Alike es fs
@@ -63,9 +63,6 @@ ends-order axis [] h = absurd (not-suc-le-zero h)
 ends-order axis (e ∷ es) h = fold-order axis es (endOf false axis e) (endOf true axis e) (end-order axis e)
 
 -- ---- the edge from the least corner to the greatest
-abbrev pub corners : List Edge → Edge
-corners es = record { x0 = outerOf false false es; y0 = outerOf false true es; x1 = outerOf true false es; y1 = outerOf true true es }
-
 outer-ordered : (greater : Bool) (a b : ℤ) → a ≤ℤ b → outer greater a b ≡ cond greater b a
 unfolding outer
 outer-ordered greater a b h = rw (is-true (leZ a b) (h .le))
@@ -86,13 +83,10 @@ unfolding outerOf
 corner-append greater axis es gs h =
     ap (λ (m : ℤ). goOn greater axis m gs) (corner-ends greater axis es h) ∙ sym (outer-append greater axis es gs h)
 
-same-box : (w h : ℕ) (es fs : List Edge) → ((greater axis : Bool) → outerOf greater axis es ≡ outerOf greater axis fs) → boxFrom w h es ≡ boxFrom w h fs
-same-box w h es fs e i = record {
-  x0 = within w (floorDiv (e false false i) 256);
-  y0 = within h (floorDiv (e false true i) 256);
-  x1 = within w (floorDiv (e true false i) 256 +ℤ pos 1);
-  y1 = within h (floorDiv (e true true i) 256 +ℤ pos 1);
-}
+same-box : (w h : ℕ) (es fs : List Edge) → ((greater axis : Bool) → outerOf greater axis es ≡ outerOf greater axis fs)
+    → pixelsOf w h (corners es) ≡ pixelsOf w h (corners fs)
+same-box w h es fs e =
+    ap (pixelsOf w h) (λ i. record { x0 = e false false i; y0 = e false true i; x1 = e true false i; y1 = e true true i })
 
 merged : (es : List Edge) → 0 < length es → Alike (corners es ∷ []) es
 merged es n = record {

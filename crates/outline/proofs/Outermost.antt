@@ -2,16 +2,17 @@
 use mathlib.Core.Path.{_≡_, refl, sym, ap, _∙_}
 use mathlib.Core.Bool.{Bool, true, false, true≢false}
 use mathlib.Core.List.{List, [], _∷_, _++_, foldl-append}
-use Prim.Native.Nat.{ℕ, min, _+_, _<_}
+use Prim.Native.Nat.{ℕ, min, _+_, _^_, _<_}
 use native.Mathlib.Nat.{not-suc-le-zero}
 use native.Mathlib.Numerals.{add-one}
 use native.Mathlib.Omega.{arith}
 use lib.Dec.{T, lit<}
 use lib.ListN.{length}
-use lib.IntN.{ℤ, pos, negsuc, natAbs, _+ℤ_}
-use lib.Signed.{leZ, nonNeg}
+use lib.IntN.{ℤ, pos, negsuc, natAbs}
+use lib.Signed.{leZ, mag, nonNeg}
 use mir.Syntax.{w32}
-use mir.Val.{SFits}
+use mir.Val.{SFits, toZ, ofZ}
+use mir.Facts.{toZ-ofZ}
 use Rattle.lists.proofs.Laws.{tab-length}
 use Rattle.fixed.specs.Floor.{floorDiv}
 use Rattle.fixed.proofs.Within.{Within, of-fits}
@@ -19,10 +20,11 @@ use Rattle.fixed.proofs.Poly.{var, from-within}
 use Rattle.fixed.proofs.Poly as P
 use Rattle.fixed.proofs.Means.{Num, keep, param, shr, tight}
 use Rattle.fixed.proofs.Round.{from-floor}
-use Rattle.rect.specs.declared.Rect.{Rect}
+use Rattle.fixed.proofs.Signed.{back}
 use Rattle.path.specs.declared.Edge.{Edge}
 use Rattle.path.specs.Boxes.{outer, endOf, outerOf, within, boxOf}
 use Rattle.path.specs.Stored.{edgeAt, edgesOf}
+use Rattle.outline.specs.Corners.{orderedOf, grownBy, corners, pixelsOf}
 
 -- one edge more
 outer-more : (greater axis : Bool) (es : List Edge) (e : Edge) → 0 < length es
@@ -31,10 +33,29 @@ unfolding outerOf
 outer-more greater axis [] e h = absurd (not-suc-le-zero h)
 outer-more greater axis (d ∷ es) e h = foldl-append (λ n c. outer greater n (endOf greater axis c)) (endOf greater axis d) es (e ∷ [])
 
-pub outer-next : (greater axis : Bool) (l : List ℤ) (i : ℕ) → 0 < i
+outer-next : (greater axis : Bool) (l : List ℤ) (i : ℕ) → 0 < i
     → outerOf greater axis (edgesOf l (i + 1)) ≡ outer greater (outerOf greater axis (edgesOf l i)) (endOf greater axis (edgeAt l i))
 outer-next greater axis l i h =
     ap (λ (k : ℕ). outerOf greater axis (edgesOf l k)) (add-one i) ∙ outer-more greater axis (edgesOf l i) (edgeAt l i) (rw (tab-length i (edgeAt l)) h)
+
+-- the corners of the first edge, and with one edge more
+pub corners-first : (l : List ℤ) → orderedOf (edgeAt l 0) ≡ corners (edgesOf l 1)
+unfolding outerOf
+corners-first l = refl
+
+pub corners-next : (l : List ℤ) (i : ℕ) → 0 < i → grownBy (corners (edgesOf l i)) (edgeAt l i) ≡ corners (edgesOf l (i + 1))
+corners-next l i h =
+    sym (λ j. record {
+      x0 = outer-next false false l i h j;
+      y0 = outer-next false true l i h j;
+      x1 = outer-next true false l i h j;
+      y1 = outer-next true true l i h j;
+    })
+
+-- the outer of two numbers that locals hold
+pub outer-told : (greater : Bool) (a b r : ℤ) → SFits w32 a → SFits w32 b → mag r < 2 ^ 31
+    → r ≡ outer greater (toZ w32 (ofZ w32 a)) (toZ w32 (ofZ w32 b)) → toZ w32 (ofZ w32 r) ≡ outer greater a b
+outer-told greater a b r p q h e = back w32 r h ∙ rw (toZ-ofZ p, toZ-ofZ q) at e
 
 -- the column or row of a 32-bit coordinate, in a local
 pub pixel-size : (z : ℤ) → SFits w32 z → Within 8388608 (floorDiv z 256)
@@ -58,18 +79,10 @@ pub within-some : (n : ℕ) (z : ℤ) (m : ℕ) → leZ z (pos 0) ≡ false → 
 within-some n z m e h = rw e (sym h)
 
 -- the box where there are edges
-abbrev pub boxFrom : ℕ → ℕ → List Edge → Rect
-boxFrom width height es = record {
-  x0 = within width (floorDiv (outerOf false false es) 256);
-  y0 = within height (floorDiv (outerOf false true es) 256);
-  x1 = within width (floorDiv (outerOf true false es) 256 +ℤ pos 1);
-  y1 = within height (floorDiv (outerOf true true es) 256 +ℤ pos 1);
-}
-
-pub some-box : (width height : ℕ) (es : List Edge) → 0 < length es → boxOf width height es ≡ boxFrom width height es
+pub some-box : (width height : ℕ) (es : List Edge) → 0 < length es → boxOf width height es ≡ pixelsOf width height (corners es)
 unfolding boxOf
 some-box width height [] h = absurd (not-suc-le-zero h)
 some-box width height (e ∷ es) h = refl
 
-pub box-some : (width height : ℕ) (l : List ℤ) (n : ℕ) → 0 < n → boxOf width height (edgesOf l n) ≡ boxFrom width height (edgesOf l n)
+pub box-some : (width height : ℕ) (l : List ℤ) (n : ℕ) → 0 < n → boxOf width height (edgesOf l n) ≡ pixelsOf width height (corners (edgesOf l n))
 box-some width height l n h = some-box width height (edgesOf l n) (rw (tab-length n (edgeAt l)) h)

@@ -1,3 +1,4 @@
 -- The definitions that contracts cite. A reviewer of the paper need not read them.
 pub mod Asked
 pub mod Alike
+pub mod Corners

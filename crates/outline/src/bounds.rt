@@ -4,12 +4,12 @@ use path::edges::load;
 use rect::Rect;
 ghost use mathlib.Core.Path.{_≡_};
 ghost use Prim.Native.Nat.{_*_, _<_, _≤_};
-ghost use mathlib.Core.Bool.{true, false};
 ghost use lib.IntN.{pos, _+ℤ_};
 ghost use lib.ListN.{length};
 ghost use Rattle.fixed.specs.Floor.{floorDiv};
-ghost use Rattle.path.specs.Boxes.{outer, endOf, outerOf, within, boxOf};
+ghost use Rattle.path.specs.Boxes.{outer, within, boxOf};
 ghost use Rattle.path.specs.Stored.{edgesOf};
+ghost use Rattle.outline.specs.Corners.{orderedOf, grownBy, corners, pixelsOf};
 
 // The box of the first n edges on a surface of that size.
 pub fn bounds(edges: &[i32], n: usize, width: usize, height: usize) -> Rect
@@ -24,30 +24,37 @@ pub fn bounds(edges: &[i32], n: usize, width: usize, height: usize) -> Rect
             y1: 0,
         };
     }
+    let c = corners(edges, n);
+    pixels(c, width, height)
+}
+
+// The pixels from a least corner to a greatest, on a surface of that size.
+pub fn pixels(c: Edge, width: usize, height: usize) -> Rect
+    requires { ⌜ (width ≤ 1024) × (height ≤ 1024) ⌝ }
+    ensures { λ r. ⌜ r ≡ pixelsOf width height c ⌝ }
+{
     Rect {
-        x0: first_pixel(edges, n, false, width),
-        y0: first_pixel(edges, n, true, height),
-        x1: past_pixel(edges, n, false, width),
-        y1: past_pixel(edges, n, true, height),
+        x0: first_pixel(c.x0, width),
+        y0: first_pixel(c.y0, height),
+        x1: past_pixel(c.x1, width),
+        y1: past_pixel(c.y1, height),
     }
 }
 
-// The first column (false) or row (true) of the n edges, on a surface of that size.
-fn first_pixel(edges: &[i32], n: usize, axis: bool, size: usize) -> usize
-    requires { ⌜ ((0 < n) × (n * 4 ≤ length (now edges))) × (size ≤ 1024) ⌝ }
-    ensures { λ r. ⌜ r ≡ within size (floorDiv (outerOf false axis (edgesOf (now (edges .entry)) n)) 256) ⌝ }
+// The column or row of a least coordinate, on a surface of that size.
+fn first_pixel(z: i32, size: usize) -> usize
+    requires { ⌜ size ≤ 1024 ⌝ }
+    ensures { λ r. ⌜ r ≡ within size (floorDiv z 256) ⌝ }
 {
-    let least = outer_end(edges, n, false, axis);
-    within(size, least >> 8)
+    within(size, z >> 8)
 }
 
-// The one after the last.
-fn past_pixel(edges: &[i32], n: usize, axis: bool, size: usize) -> usize
-    requires { ⌜ ((0 < n) × (n * 4 ≤ length (now edges))) × (size ≤ 1024) ⌝ }
-    ensures { λ r. ⌜ r ≡ within size (floorDiv (outerOf true axis (edgesOf (now (edges .entry)) n)) 256 +ℤ pos 1) ⌝ }
+// The one after that of a greatest.
+fn past_pixel(z: i32, size: usize) -> usize
+    requires { ⌜ size ≤ 1024 ⌝ }
+    ensures { λ r. ⌜ r ≡ within size (floorDiv z 256 +ℤ pos 1) ⌝ }
 {
-    let greatest = outer_end(edges, n, true, axis);
-    within(size, (greatest >> 8) + 1)
+    within(size, (z >> 8) + 1)
 }
 
 // A column or row number, cut to 0..n.
@@ -73,33 +80,43 @@ fn outer_of(greater: bool, a: i32, b: i32) -> i32
     }
 }
 
-// An edge's outer end on an axis (false: x, true: y).
-fn end_of(greater: bool, axis: bool, e: Edge) -> i32
-    ensures { λ r. ⌜ r ≡ endOf greater axis e ⌝ }
+// The edge from the least corner of the first n edges to the greatest.
+pub fn corners(edges: &[i32], n: usize) -> Edge
+    requires { ⌜ (0 < n) × (n * 4 ≤ length (now edges)) ⌝ }
+    ensures { λ r. ⌜ r ≡ corners (edgesOf (now (edges .entry)) n) ⌝ }
 {
-    let x0 = e.x0;
-    let y0 = e.y0;
-    let x1 = e.x1;
-    let y1 = e.y1;
-    if axis {
-        outer_of(greater, y0, y1)
-    } else {
-        outer_of(greater, x0, x1)
+    let first = load(edges, 0);
+    let mut c = ordered(first);
+    let mut i = 1;
+    while i < n {
+        let e = load(edges, i);
+        c = grown(c, e);
+        i += 1;
+    }
+    c
+}
+
+// From the least corner of an edge to the greatest.
+fn ordered(e: Edge) -> Edge
+    ensures { λ r. ⌜ r ≡ orderedOf e ⌝ }
+{
+    Edge {
+        x0: outer_of(false, e.x0, e.x1),
+        y0: outer_of(false, e.y0, e.y1),
+        x1: outer_of(true, e.x0, e.x1),
+        y1: outer_of(true, e.y0, e.y1),
     }
 }
 
-// The outer end of all edges.
-pub fn outer_end(edges: &[i32], n: usize, greater: bool, axis: bool) -> i32
-    requires { ⌜ (0 < n) × (n * 4 ≤ length (now edges)) ⌝ }
-    ensures { λ r. ⌜ r ≡ outerOf greater axis (edgesOf (now (edges .entry)) n) ⌝ }
+// From the least corner to the greatest, with one edge more.
+pub fn grown(c: Edge, e: Edge) -> Edge
+    ensures { λ r. ⌜ r ≡ grownBy c e ⌝ }
 {
-    let e = load(edges, 0);
-    let mut m = end_of(greater, axis, e);
-    let mut i = 1;
-    while i < n {
-        let d = load(edges, i);
-        m = outer_of(greater, m, end_of(greater, axis, d));
-        i += 1;
+    let d = ordered(e);
+    Edge {
+        x0: outer_of(false, c.x0, d.x0),
+        y0: outer_of(false, c.y0, d.y0),
+        x1: outer_of(true, c.x1, d.x1),
+        y1: outer_of(true, c.y1, d.y1),
     }
-    m
 }

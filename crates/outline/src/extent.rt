@@ -1,6 +1,6 @@
 // The box of a path without a place for all its edges: what was met is kept as one edge from its least corner to its greatest.
 use crate::bounds::bounds;
-use crate::bounds::outer_end;
+use crate::bounds::corners;
 use crate::flatten::store_closing;
 use crate::flatten::store_segment;
 use path::Curve;
@@ -94,10 +94,11 @@ fn merge(ends: &mut [i32], n: usize) -> usize
     if n == 0 {
         return 0;
     }
-    let x0 = outer_end(ends, n, false, false);
-    let y0 = outer_end(ends, n, false, true);
-    let x1 = outer_end(ends, n, true, false);
-    let y1 = outer_end(ends, n, true, true);
+    let c = corners(ends, n);
+    let x0 = c.x0;
+    let y0 = c.y0;
+    let x1 = c.x1;
+    let y1 = c.y1;
     ends[0] = x0;
     ends[1] = y0;
     ends[2] = x1;

@@ -1,8 +1,6 @@
 -- `outline::bounds::first_pixel` meets its contract.
 use mathlib.Core.Path.{ap, _∙_}
-use lib.IntN.{ℤ}
-use borrow.Author.Needs.{needs, sfits-of}
-use Rattle.fixed.specs.Floor.{floorDiv}
+use borrow.Author.Needs.{needs}
 use Rattle.path.specs.Boxes.{within}
 use Rattle.outline.proofs.Outermost.{pixel}
 use Rattle.outline.proofs.bounds.first_pixel.Statement.{statement}
@@ -10,9 +8,8 @@ use Rattle.outline.proofs.bounds.first_pixel.Tie as tie
 
 returns : tie.Need-returns
 returns c =
-    let a = c .before .before .args in
-    let o = c .before .outer-end in
-    c .within .ensures ∙ ap (within (a .size)) (pixel (o .result) (sfits-of (o .ok)) .same ∙ ap (λ (z : ℤ). floorDiv z 256) (o .ensures))
+    let entry = c .before in
+    c .within .ensures ∙ ap (within (entry .args .size)) (pixel (entry .args .z) (entry .fits .z) .same)
 
 pub first-pixel-spec : {M : Type 1} → statement M
-first-pixel-spec = tie.close (tie.spec (λ c κs. search needs) (λ c κs. search needs) returns)
+first-pixel-spec = tie.close (tie.spec (λ c κs. search needs) returns)
