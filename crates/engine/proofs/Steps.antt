@@ -8,8 +8,8 @@ use native.Mathlib.Numerals.{add-one}
 use Rattle.color.specs.declared.Pixel.{Pixel}
 use Rattle.color.specs.Channels.{premultiplied, UnderAlpha}
 use Rattle.rect.specs.declared.Rect.{Rect}
-use Rattle.rect.specs.Rects.{Inside, On, meetOf, emptyOf}
-use Rattle.rect.proofs.Laws.{empty-out, not-empty}
+use Rattle.rect.specs.Rects.{Inside, On, Holds, meetOf, emptyOf}
+use Rattle.rect.proofs.Laws.{either, empty-out, not-empty, meet-in, meet-left, meet-right}
 use Rattle.raster.specs.declared.Target.{Target}
 use Rattle.raster.specs.Surface.{overlay, pixelOf}
 use Rattle.raster.specs.Rows.{Part, stepped}
@@ -62,6 +62,17 @@ draws-more : (edition : ℕ) (s : List ℕ) (mask : ℕ → ℕ → ℕ) (n x y 
 draws-more edition s mask n x y p = rw (add-one, foldl-append)
 
 -- ---- the pixels of the box are enough
+-- nothing of it is in a where nothing is of a rectangle that holds it
+pub hull-none : (a b r : Rect) → Holds r b → emptyOf (meetOf a r) ≡ true → emptyOf (meetOf a b) ≡ true
+hull-none a b r h e =
+    let m = meetOf a b in
+    either (emptyOf m) (λ f. f)
+    (λ f.
+    let n = not-empty m f in
+    let i : Inside m (m .x0) (m .y0) = record { left = omega arith; right = n .wide; below = omega arith; above = n .high } in
+    absurd (empty-out (meetOf a r) (m .x0) (m .y0) e
+    (meet-in a r (m .x0) (m .y0) (meet-left a b (m .x0) (m .y0) i) (h (m .x0) (m .y0) (meet-right a b (m .x0) (m .y0) i)))))
+
 meet-on : (w h : ℕ) (a b : Rect) → On w h a → emptyOf (meetOf a b) ≡ false → On w h (meetOf a b)
 meet-on w h a b o e =
     let n = not-empty (meetOf a b) e in

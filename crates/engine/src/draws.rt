@@ -1,15 +1,19 @@
 // The draws of a scene, one after the other, inside a rectangle of the surface. The scratch is zero before and after each draw.
 use crate::edges::clear_edges;
+use crate::edges::draw_hull;
 use crate::edges::lay_edges;
 use crate::rows::fill;
 use raster::Target;
 use rect::Rect;
 use scene::layout::DRAW_BYTES;
 ghost use mathlib.Core.Path.{_≡_};
-ghost use Prim.Native.Nat.{_*_};
+ghost use mathlib.Core.Bool.{true};
+ghost use Prim.Native.Nat.{_*_, _≤_};
 ghost use lib.ListN.{length};
+ghost use Rattle.rect.specs.Rects.{emptyOf, meetOf};
 ghost use Rattle.raster.specs.Surface.{overlay};
 ghost use Rattle.raster.specs.Rows.{Part, stepped};
+ghost use Rattle.path.specs.Boxes.{boxOf};
 ghost use Rattle.path.specs.Closed.{Closed};
 ghost use Rattle.path.specs.Stored.{edgesOf};
 ghost use Rattle.coverage.specs.Scanline.{Outlined};
@@ -17,7 +21,7 @@ ghost use Rattle.scene.specs.Layout.{drawBytes};
 ghost use Rattle.scene.specs.Header.{countOf, editionOf};
 ghost use Rattle.scene.specs.Fields.{usesMask};
 ghost use Rattle.scene.specs.Accepted.{AcceptedFields, AcceptedDraw, AcceptedScene};
-ghost use Rattle.engine.specs.Picture.{firstDraws, pixelAt, maskAt};
+ghost use Rattle.engine.specs.Picture.{drawEdges, firstDraws, pixelAt, maskAt};
 ghost use Rattle.engine.specs.Unclamped.{unclampedOf, unclampedStep, unclampedAll};
 ghost use Rattle.engine.specs.Rows.{Blank, Area, MaskFor, MaskForScene};
 
@@ -98,9 +102,28 @@ fn paint_draw(
         now (surface .exit) ≡ stepped target (unclampedStep edition (now (d .entry)) (maskAt (target .width) (now (mask .entry)))) (now (surface .entry))
         ⌝ }
 {
+    if misses(d, edition, target) {
+        return;
+    }
     let n = lay_edges(scratch, d, edition);
     paint_box(surface, scratch, mask, n, d, target);
     clear_edges(scratch, n);
+}
+
+// Whether the control points of a draw tell that its box has no pixel in the target. They are not gone through where the target is the whole surface.
+fn misses(d: &[u8], edition: u32, target: Target) -> bool
+    requires { ⌜ (length (now d) ≡ drawBytes) × AcceptedDraw edition (now d) ⌝ }
+    requires { ⌜ (target .width ≤ 1024) × (target .height ≤ 1024) ⌝ }
+    ensures { λ r. ⌜ (r ≡ true → emptyOf (meetOf (target .area) (boxOf (target .width) (target .height) (drawEdges edition (now (d .entry))))) ≡ true) ⌝ }
+{
+    let width = target.width;
+    let height = target.height;
+    let a = target.area;
+    if a.x0 == 0 && a.y0 == 0 && a.x1 == width && a.y1 == height {
+        return false;
+    }
+    let hull = draw_hull(d, edition, width, height);
+    rect::is_empty(rect::meet(a, hull))
 }
 
 // A draw whose n edges lie in the scratch, at every pixel of the target: only the pixels of its box are gone through.

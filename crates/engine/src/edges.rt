@@ -5,6 +5,7 @@ ghost use mathlib.Core.List.{_++_};
 ghost use Prim.Native.Nat.{_*_, _≤_};
 ghost use lib.IntN.{pos};
 ghost use lib.ListN.{length, replicate, drop};
+ghost use Rattle.rect.specs.Rects.{Holds};
 ghost use Rattle.path.specs.Boxes.{boxOf};
 ghost use Rattle.scene.specs.Layout.{drawBytes};
 ghost use Rattle.scene.specs.Accepted.{AcceptedDraw};
@@ -64,6 +65,22 @@ pub fn lone_bounds(d: &[u8], edition: u32, width: usize, height: usize) -> Rect
     ensures { λ r. ⌜ r ≡ boxOf width height (drawEdges edition (now (d .entry))) ⌝ }
 {
     outline::extent::path_bounds(
+        scene::fields::fixed_matrix(d),
+        scene::fields::segments(d),
+        scene::fields::segment_count(d),
+        scene::fields::coordinates(d, edition),
+        width,
+        height,
+    )
+}
+
+// A rectangle that holds the box of a draw, found without cutting curves.
+pub fn draw_hull(d: &[u8], edition: u32, width: usize, height: usize) -> Rect
+    requires { ⌜ (length (now d) ≡ drawBytes) × AcceptedDraw edition (now d) ⌝ }
+    requires { ⌜ (width ≤ 1024) × (height ≤ 1024) ⌝ }
+    ensures { λ r. ⌜ Holds r (boxOf width height (drawEdges edition (now (d .entry)))) ⌝ }
+{
+    outline::hull::path_hull(
         scene::fields::fixed_matrix(d),
         scene::fields::segments(d),
         scene::fields::segment_count(d),

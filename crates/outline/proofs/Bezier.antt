@@ -1,22 +1,24 @@
 -- Curves cut at k / 16, over the degree: the weights add up to 16 ^ degree, so a cut point is no larger than the control points; at 0 it is
 -- the first of them and at 16 the last.
 use mathlib.Core.Path.{_≡_, refl, sym, ap, subst, _∙_}
-use mathlib.Core.Bool.{Bool, _&&_}
+use mathlib.Core.Bool.{Bool, true, false, _&&_}
 use Prim.Native.Nat.{ℕ, _+_, _-_, _*_, _/_, _^_, _≤_, _<_}
-use native.Mathlib.Nat.{le-trans, le-refl, lt-of-mul-lt-mul-right, mul-le-mul, pow-le-pow-right}
+use native.Mathlib.Nat.{le-trans, le-refl, lt-of-mul-lt-mul-right, mul-le-mul, mul-le-mul-right, pow-le-pow-right}
 use native.Mathlib.Omega.{arith}
 use lib.Dec.{T, eqb, eqb→eq}
 use lib.IntN.{ℤ, pos, _+ℤ_, _*ℤ_, +ℤ-idl, +ℤ-idr}
+use lib.Signed.{_≤ℤ_}
 use borrow.Author.Tests.{eqb-true, eqb-false}
 use Rattle.rect.proofs.Laws.{either}
 use Rattle.fixed.specs.Floor.{floorDiv}
 use Rattle.fixed.proofs.Within.{Within, within-pos, within-add, within-mul}
-use Rattle.fixed.proofs.Poly.{up, dn, var, num, _⊕_, _⊗_, eq, within, from-within}
+use Rattle.fixed.proofs.Poly.{up, dn, var, num, _⊕_, _⊗_, eq, le, from-le, within, from-within}
 use Rattle.fixed.proofs.Round.{from-floor}
 use Rattle.fixed.proofs.Upto.{upto}
 use Rattle.fixed.proofs.Tests.{both-left, both-right}
 use Rattle.path.specs.Curves.{weight, cut}
 use Rattle.outline.specs.declared.Weights.{Weights}
+use Rattle.outline.specs.Around.{Beyond}
 use Rattle.outline.specs.Asked.{Full, weightsOf, quadWeights, cubicWeights, summed, blended}
 
 -- ---- a curve's degree
@@ -131,6 +133,59 @@ module _ {b : ℕ} {p q r s : ℤ} (hp : Within b p) (hq : Within b q) (hr : Wit
   pub cut-size : {degree : ℕ} → Curved degree → (k : ℕ) → k ≤ 16 → Within b (cut degree k p q r s)
   unfolding cut
   cut-size c k h = blended-size (weights-full c k h)
+
+-- ---- a cut point lies between the control points
+-- (z + m) / d rounded down, with m below d, is on the side of y that z is on of y d
+rounded-side : (greater : Bool) (d m : ℕ) (y z : ℤ) → m < d → Beyond greater (y *ℤ pos d) z → Beyond greater y (floorDiv (z +ℤ pos m) d)
+rounded-side true d m y z l h =
+    let f = from-floor (var z ⊕ num m) d (omega arith) in
+    let k = from-le (var z) (var y ⊗ num d) h in
+    let q = floorDiv (z +ℤ pos m) d in
+    let under : (up q + dn y) * d < (dn q + up y + 1) * d = omega arith in
+    le (var q) (var y) (omega (arith, lt-of-mul-lt-mul-right d under))
+rounded-side false d m y z l h =
+    let f = from-floor (var z ⊕ num m) d (omega arith) in
+    let k = from-le (var y ⊗ num d) (var z) h in
+    let q = floorDiv (z +ℤ pos m) d in
+    let over : (dn q + up y) * d < (up q + dn y + 1) * d = omega arith in
+    le (var y) (var q) (omega (arith, lt-of-mul-lt-mul-right d over))
+
+weighed : (a b : ℤ) (w : ℕ) → a ≤ℤ b → (up a + dn b) * w ≤ (up b + dn a) * w
+weighed a b w h = mul-le-mul-right w (from-le (var a) (var b) h)
+
+module _ (y p q r s : ℤ) where
+  summed-side : (greater : Bool) (w : Weights) (d : ℕ) → w .w0 + w .w1 + w .w2 + w .w3 ≡ d
+      → Beyond greater y p → Beyond greater y q → Beyond greater y r → Beyond greater y s → Beyond greater (y *ℤ pos d) (summed w p q r s)
+  summed-side true w d e hp hq hr hs =
+      le (var p ⊗ num (w .w0) ⊕ var q ⊗ num (w .w1) ⊕ var r ⊗ num (w .w2) ⊕ var s ⊗ num (w .w3)) (var y ⊗ num d)
+      (omega (
+        arith,
+        weighed p y (w .w0) hp,
+        weighed q y (w .w1) hq,
+        weighed r y (w .w2) hr,
+        weighed s y (w .w3) hs,
+        ap (λ (n : ℕ). up y * n) e,
+        ap (λ (n : ℕ). dn y * n) e,
+      ))
+  summed-side false w d e hp hq hr hs =
+      le (var y ⊗ num d) (var p ⊗ num (w .w0) ⊕ var q ⊗ num (w .w1) ⊕ var r ⊗ num (w .w2) ⊕ var s ⊗ num (w .w3))
+      (omega (
+        arith,
+        weighed y p (w .w0) hp,
+        weighed y q (w .w1) hq,
+        weighed y r (w .w2) hr,
+        weighed y s (w .w3) hs,
+        ap (λ (n : ℕ). up y * n) e,
+        ap (λ (n : ℕ). dn y * n) e,
+      ))
+
+  pub cut-side : (greater : Bool) {degree : ℕ} → Curved degree → (k : ℕ) → k ≤ 16
+      → Beyond greater y p → Beyond greater y q → Beyond greater y r → Beyond greater y s → Beyond greater y (cut degree k p q r s)
+  unfolding cut
+  cut-side greater {degree} c k h hp hq hr hs =
+      let l : 1 ≤ 16 ^ degree = pow-le-pow-right {n = 16} (omega arith) {i = 0} {j = degree} (omega arith) in
+      rounded-side greater (16 ^ degree) (16 ^ degree / 2) y (summed (weightsOf degree k) p q r s) (omega arith)
+      (summed-side greater (weightsOf degree k) (16 ^ degree) (weights-full c k h .total) hp hq hr hs)
 
 -- ---- the first and the last cut point: one control point has all the weight
 none : (z : ℤ) → z *ℤ pos 0 ≡ pos 0

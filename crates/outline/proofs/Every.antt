@@ -5,12 +5,13 @@ use Prim.Native.Nat.{ℕ, zero, suc, _<_}
 use native.Mathlib.Nat.{eq-or-lt-of-le, le-of-suc-le-suc, not-suc-le-zero}
 use native.Mathlib.Omega.{arith}
 use Rattle.lists.specs.Lists.{upto, tab}
-
-pub data Every {A : Type 0} (P : A → Type 0) : List A → Type 0 where
-  none : Every P []
-  more : {x : A} {xs : List A} → P x → Every P xs → Every P (x ∷ xs)
+pub use Rattle.outline.specs.Every.{Every, none, more}
 
 module _ {A : Type 0} {P : A → Type 0} where
+  pub every-map : {Q : A → Type 0} {xs : List A} → ((x : A) → P x → Q x) → Every P xs → Every Q xs
+  every-map f none = none
+  every-map f (more {x} p h) = more (f x p) (every-map f h)
+
   pub every-append : {xs ys : List A} → Every P xs → Every P ys → Every P (xs ++ ys)
   every-append none k = k
   every-append (more p h) k = more p (every-append h k)

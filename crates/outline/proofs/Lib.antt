@@ -9,6 +9,7 @@
 --     Bezier      cut points of a curve, over its degree
 --     Outermost   the outer end of edges, and their box
 --     Merged      one edge in place of many, the box the same
+--     Around      edges and curves in a box, and the pixels of the box
 pub mod Flattened
 pub mod Returns
 pub mod Counts
@@ -19,3 +20,4 @@ pub mod Walked
 mod Bezier
 mod Outermost
 mod Merged
+mod Around

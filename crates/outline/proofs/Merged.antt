@@ -1,24 +1,22 @@
 -- One edge from the least corner to the greatest in place of many: the box is the same, whatever edges follow.
-use mathlib.Core.Path.{_≡_, sym, ap, subst, _∙_}
+use mathlib.Core.Path.{_≡_, sym, ap, _∙_}
 use mathlib.Core.Bool.{Bool, true, false, cond}
 use mathlib.Core.List.{List, [], _∷_, _++_, foldl, foldl-append, append-assoc, append-nil}
 use Prim.Native.Nat.{ℕ, _+_, _*_, _≤_, _<_}
 use native.Mathlib.Nat.{not-suc-le-zero}
 use native.Mathlib.Omega.{arith}
-use lib.Dec.{T}
 use lib.ListN.{length, length-append}
 use lib.IntN.{ℤ}
-use lib.Signed.{leZ, _≤ℤ_, ≤ℤ-refl}
-use Rattle.fixed.proofs.Tests.{is-true, ≤ℤ-trans, leZ-not}
+use lib.Signed.{leZ, _≤ℤ_}
+use Rattle.fixed.proofs.Tests.{is-true, ≤ℤ-trans}
 use Rattle.lists.proofs.Laws.{tab-length}
-use Rattle.rect.proofs.Laws.{either}
 use Rattle.path.specs.declared.Edge.{Edge}
 use Rattle.path.specs.Boxes.{outer, endOf, outerOf, boxOf}
 use Rattle.path.specs.Stored.{edgeAt, edgesOf, putEdge, putEdges}
 use Rattle.outline.specs.Alike.{Alike}
 use Rattle.outline.specs.Corners.{corners, pixelsOf}
 use Rattle.outline.proofs.Stores.{edge-put, puts-after}
-use Rattle.outline.proofs.Outermost.{some-box}
+use Rattle.outline.proofs.Outermost.{outer-first, some-box}
 
 -- ---- edges that serve for others
 pub alike-same : {es fs : List Edge} → es ≡ fs → Alike es fs
@@ -36,17 +34,9 @@ pub alike-box : (es fs : List Edge) (w h : ℕ) → Alike es fs → boxOf w h es
 alike-box es fs w h a = sym (ap (boxOf w h) (append-nil es)) ∙ a .box [] w h ∙ ap (boxOf w h) (append-nil fs)
 
 -- ---- the least is at most the greatest
-outer-low : (a b : ℤ) → outer false a b ≤ℤ a
-unfolding outer
-outer-low a b = either (leZ a b) (λ e. rw e (≤ℤ-refl a)) (λ e. rw e (leZ-not a b e))
-
-outer-high : (a b : ℤ) → a ≤ℤ outer true a b
-unfolding outer
-outer-high a b = either (leZ a b) (λ e. rw e (record { le = subst T (sym e) tt })) (λ e. rw e (≤ℤ-refl a))
-
 end-order : (axis : Bool) (e : Edge) → endOf false axis e ≤ℤ endOf true axis e
-end-order true e = ≤ℤ-trans (outer-low (e .y0) (e .y1)) (outer-high (e .y0) (e .y1))
-end-order false e = ≤ℤ-trans (outer-low (e .x0) (e .x1)) (outer-high (e .x0) (e .x1))
+end-order true e = ≤ℤ-trans (outer-first false (e .y0) (e .y1)) (outer-first true (e .y0) (e .y1))
+end-order false e = ≤ℤ-trans (outer-first false (e .x0) (e .x1)) (outer-first true (e .x0) (e .x1))
 
 abbrev goOn : Bool → Bool → ℤ → List Edge → ℤ
 goOn greater axis m es = foldl (λ n d. outer greater n (endOf greater axis d)) m es
@@ -55,7 +45,7 @@ fold-order : (axis : Bool) (es : List Edge) (m n : ℤ) → m ≤ℤ n → goOn 
 fold-order axis [] m n h = h
 fold-order axis (e ∷ es) m n h =
     fold-order axis es (outer false m (endOf false axis e)) (outer true n (endOf true axis e))
-    (≤ℤ-trans (outer-low m (endOf false axis e)) (≤ℤ-trans h (outer-high n (endOf true axis e))))
+    (≤ℤ-trans (outer-first false m (endOf false axis e)) (≤ℤ-trans h (outer-first true n (endOf true axis e))))
 
 ends-order : (axis : Bool) (es : List Edge) → 0 < length es → outerOf false axis es ≤ℤ outerOf true axis es
 unfolding outerOf

@@ -1,5 +1,5 @@
 -- The outer end of a list of edges, and the box that it makes.
-use mathlib.Core.Path.{_≡_, refl, sym, ap, _∙_}
+use mathlib.Core.Path.{_≡_, refl, sym, ap, subst, _∙_}
 use mathlib.Core.Bool.{Bool, true, false, true≢false}
 use mathlib.Core.List.{List, [], _∷_, _++_, foldl-append}
 use Prim.Native.Nat.{ℕ, min, _+_, _^_, _<_}
@@ -9,7 +9,7 @@ use native.Mathlib.Omega.{arith}
 use lib.Dec.{T, lit<}
 use lib.ListN.{length}
 use lib.IntN.{ℤ, pos, negsuc, natAbs}
-use lib.Signed.{leZ, mag, nonNeg}
+use lib.Signed.{leZ, mag, nonNeg, ≤ℤ-refl, leZ-yes}
 use mir.Syntax.{w32}
 use mir.Val.{SFits, toZ, ofZ}
 use mir.Facts.{toZ-ofZ}
@@ -21,11 +21,39 @@ use Rattle.fixed.proofs.Poly as P
 use Rattle.fixed.proofs.Means.{Num, keep, param, shr, tight}
 use Rattle.fixed.proofs.Round.{from-floor}
 use Rattle.fixed.proofs.Signed.{back}
+use Rattle.fixed.proofs.Tests.{≤ℤ-trans, leZ-not}
+use Rattle.rect.proofs.Laws.{either}
 use Rattle.path.specs.declared.Edge.{Edge}
 use Rattle.path.specs.Boxes.{outer, endOf, outerOf, within, boxOf}
 use Rattle.path.specs.Stored.{edgeAt, edgesOf}
+use Rattle.outline.specs.Around.{Beyond}
 use Rattle.outline.specs.Corners.{orderedOf, grownBy, corners, pixelsOf}
 
+-- ---- the outer of two lies at both or further out, and no further than what does so too
+pub beyond-refl : (greater : Bool) (a : ℤ) → Beyond greater a a
+beyond-refl true a = ≤ℤ-refl a
+beyond-refl false a = ≤ℤ-refl a
+
+pub beyond-trans : (greater : Bool) (a b c : ℤ) → Beyond greater a b → Beyond greater b c → Beyond greater a c
+beyond-trans true a b c h k = ≤ℤ-trans k h
+beyond-trans false a b c h k = ≤ℤ-trans h k
+
+pub outer-first : (greater : Bool) (a b : ℤ) → Beyond greater (outer greater a b) a
+unfolding outer
+outer-first true a b = either (leZ a b) (λ e. rw e (leZ-yes (subst T (sym e) tt))) (λ e. rw e (≤ℤ-refl a))
+outer-first false a b = either (leZ a b) (λ e. rw e (≤ℤ-refl a)) (λ e. rw e (leZ-not a b e))
+
+pub outer-second : (greater : Bool) (a b : ℤ) → Beyond greater (outer greater a b) b
+unfolding outer
+outer-second true a b = either (leZ a b) (λ e. rw e (≤ℤ-refl b)) (λ e. rw e (leZ-not a b e))
+outer-second false a b = either (leZ a b) (λ e. rw e (leZ-yes (subst T (sym e) tt))) (λ e. rw e (≤ℤ-refl b))
+
+pub outer-within : (greater : Bool) (m a b : ℤ) → Beyond greater m a → Beyond greater m b → Beyond greater m (outer greater a b)
+unfolding outer
+outer-within true m a b h k = either (leZ a b) (λ e. rw e k) (λ e. rw e h)
+outer-within false m a b h k = either (leZ a b) (λ e. rw e h) (λ e. rw e k)
+
+-- ---- the outer end of a list
 -- one edge more
 outer-more : (greater axis : Bool) (es : List Edge) (e : Edge) → 0 < length es
     → outerOf greater axis (es ++ (e ∷ [])) ≡ outer greater (outerOf greater axis es) (endOf greater axis e)

@@ -2,3 +2,5 @@
 pub mod Asked
 pub mod Alike
 pub mod Corners
+pub mod Every
+pub mod Around

@@ -3,6 +3,7 @@ pub mod bounds;
 pub mod curve;
 pub mod extent;
 pub mod flatten;
+pub mod hull;
 pub mod store;
 
 // The weights of a curve's four points, over 16 to the power of its degree.

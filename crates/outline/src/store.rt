@@ -16,7 +16,7 @@ fn same(a: i32, b: i32) -> bool
     if a <= b { b <= a } else { false }
 }
 
-fn same_point(a: Point, b: Point) -> bool
+pub fn same_point(a: Point, b: Point) -> bool
     ensures { λ r. ⌜ r ≡ (equal (a .x) (b .x) && equal (a .y) (b .y)) ⌝ }
 {
     if same(a.x, b.x) {

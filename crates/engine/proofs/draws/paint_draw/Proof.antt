@@ -1,19 +1,40 @@
--- `draws::paint_draw` meets its contract: the edges are laid, used and cleared.
-use mathlib.Core.Path.{sym, ap, subst, _∙_}
+-- `draws::paint_draw` meets its contract: the edges are laid, used and cleared, if the draw's box may reach into the target.
+use mathlib.Core.Path.{refl, sym, ap, subst, _∙_}
 use mathlib.Core.List.{List, _++_}
 use Prim.Native.Nat.{_*_}
 use native.Mathlib.Omega.{arith}
 use lib.IntN.{ℤ, pos}
 use lib.ListN.{replicate, drop}
+use Rattle.rect.specs.Rects.{meetOf}
 use Rattle.raster.specs.Rows.{stepped}
 use Rattle.path.specs.declared.Edge.{Edge}
+use Rattle.path.specs.Boxes.{boxOf}
 use Rattle.path.specs.Closed.{Closed}
-use Rattle.engine.specs.Picture.{maskAt}
+use Rattle.engine.specs.Picture.{drawEdges, maskAt}
 use Rattle.engine.specs.Unclamped.{unclampedOf}
-use Rattle.engine.proofs.Steps.{draw-closed}
+use Rattle.engine.proofs.Steps.{draw-closed, box-none}
 use borrow.Author.Needs.{needs}
 use Rattle.engine.proofs.draws.paint_draw.Statement.{statement}
 use Rattle.engine.proofs.draws.paint_draw.Tie as tie
+
+misses-requires : tie.Need-misses-requires
+misses-requires c κs =
+    let p = c .before .before .before .pre in
+    let placed = p .1 .1 .0 .placed in
+    (p .0, (placed .wide, placed .high))
+
+returns : tie.Need-returns
+returns c =
+    let after-misses = c .before in
+    let entry = after-misses .before .before .before .before in
+    let a = entry .args in
+    let t = a .target in
+    let edges = drawEdges (a .edition) (a .d .now) in
+    let mask = maskAt (t .width) (a .mask .now) in (
+      refl,
+      box-none t edges (a .surface .now) (a .d .now) mask (draw-closed (a .edition) (a .d .now)) (meetOf (t .area) (boxOf (t .width) (t .height) edges))
+          (entry .pre .1 .1 .0) refl (after-misses .misses .ensures (c .if1 .taken)),
+    )
 
 lay-edges-requires : tie.Need-lay-edges-requires
 lay-edges-requires c κs = search needs
@@ -21,7 +42,7 @@ lay-edges-requires c κs = search needs
 paint-box-requires : tie.Need-paint-box-requires
 paint-box-requires c κs =
     let after-lay-edges = c .before .before .before in
-    let entry = after-lay-edges .before .before .before .before .before in
+    let entry = after-lay-edges .before .before .before .before .before .before .before in
     let a = entry .args in
     let p = entry .pre in
     let laid = after-lay-edges .lay-edges .ensures .0 in
@@ -40,11 +61,11 @@ same-length c = search needs
 same-length-2 : tie.Need-same-length-2
 same-length-2 c = search needs
 
-returns : tie.Need-returns
-returns c =
+returns-2 : tie.Need-returns-2
+returns-2 c =
     let after-paint-box = c .before .before .before .before .before .before in
     let after-lay-edges = after-paint-box .before .before .before .before in
-    let a = after-lay-edges .before .before .before .before .before .args in
+    let a = after-lay-edges .before .before .before .before .before .before .before .args in
     let l = after-lay-edges .lay-edges in
     let p = after-paint-box .paint-box in
     let mask = maskAt (a .target .width) (a .mask .now) in
@@ -56,9 +77,11 @@ pub paint-draw-spec : {M : Type 1} → statement M
 paint-draw-spec =
     tie.close
     (tie.spec
+    misses-requires
+    returns
     lay-edges-requires
     paint-box-requires
     clear-edges-requires
     same-length
     same-length-2
-    returns)
+    returns-2)
