@@ -4,7 +4,7 @@
 //!     cargo run --offline --release -p bench SECONDS file SCENE..
 //!
 //! Each part takes about SECONDS (2); all are timed, or the named one. A workload is a scene and its next frame: `panel`,
-//! `panel small`, `panel night`, `largest`. Full drawings and redraws take turns in one run: a frame is drawn, then redrawn to the other.
+//! `panel needle`, `panel small`, `panel night`, `largest`. Full drawings and redraws take turns in one run: a frame is drawn, then redrawn to the other.
 //! The buffers are not cleared between calls. A redraw's time includes the rules on both scenes, a full drawing's those on
 //! one. Then come the stages of the full drawing of the first frame. The other parts are `paints`, a full drawing in each
 //! kind of paint, `blending`, blended pixels alone, `masks`, a lamp under masks, `plain`, the plain engine beside the quick one,

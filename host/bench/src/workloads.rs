@@ -26,7 +26,7 @@ impl Workload {
 pub fn all() -> Vec<Workload> {
     let day = Readings::default();
     let night = day.at_night();
-    vec![panel_at("panel", 1.0, &day), small_panel(), panel_at("panel night", 1.0, &night), largest()]
+    vec![panel_at("panel", 1.0, &day), needle(), small_panel(), panel_at("panel night", 1.0, &night), largest()]
 }
 
 /// The panel at a quarter of its sides.
@@ -37,6 +37,13 @@ pub fn small_panel() -> Workload {
 /// The panel and its next frame: the speed needle and a door have moved.
 fn panel_at(name: &'static str, scale: f64, now: &Readings) -> Workload {
     Workload::new(name, [now, &now.next()].map(|readings| panel::panel(readings, scale, Light::Near)))
+}
+
+/// The panel and the same with its speed needle moved alone.
+fn needle() -> Workload {
+    let now = Readings::default();
+    let next = Readings { speed: now.speed / 2.0, ..now.clone() };
+    Workload::new("panel needle", [now, next].map(|readings| panel::panel(&readings, 1.0, Light::Near)))
 }
 
 /// 64 draws of 128 curves on 1,024 by 1,024 pixels. All but the last cover the surface; the last, an eighth of it
