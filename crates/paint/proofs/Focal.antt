@@ -59,6 +59,20 @@ is-above-zero {z = negsuc n} h = absurd (h .lt)
 pub focal-inside : (c : Circle) → focalAllowed c ≡ true → pos 0 <ℤ c .r → pos 0 <ℤ radialD c
 focal-inside c e h = record { lt = subst T (sym (rw (is-above-zero h) at e)) tt }
 
+-- D is at most r²
+inside-small : (r f g : ℤ) → pos 0 <ℤ inside r f g → natAbs r ≤ 16384 → natAbs (inside r f g) ≤ 268435456
+inside-small r f g h a =
+    let e = sym (is-positive h) ∙ ap₂ _-ℤ_ (square-is r) (ap₂ _+ℤ_ (square-is f) (square-is g)) in
+    omega (
+      arith,
+      square-mono a,
+      P.from-eq (P.num (natAbs (inside r f g))) (P.num (natAbs r * natAbs r) ⊖ (P.num (natAbs f * natAbs f) ⊕ P.num (natAbs g * natAbs g))) e,
+    )
+
+pub d-small : (c : Circle) → natAbs (c .r) ≤ 16384 → pos 0 <ℤ radialD c → natAbs (radialD c) ≤ 268435456
+unfolding radialD
+d-small c a h = inside-small (c .r) (c .fx -ℤ c .cx) (c .fy -ℤ c .cy) h a
+
 -- ---- A, Q and D of plain numbers
 module _ (r u v f g : ℤ) (h : pos 0 <ℤ inside r f g) where
   q-is : underRoot r u v f g ≡ pos (natAbs (along u v f g) * natAbs (along u v f g) + natAbs (inside r f g) * (natAbs u * natAbs u + natAbs v * natAbs v))
@@ -87,7 +101,7 @@ module _ (r u v f g : ℤ) (h : pos 0 <ℤ inside r f g) where
   q-small a b c = omega (arith, less, mul-le-mul (square-mono a) (add-le-add (square-mono b) (square-mono c)))
 
 -- A + q
-sum-not-negative : (a : ℤ) (q : ℕ) → natAbs a ≤ q → a +ℤ pos q ≡ pos (natAbs (a +ℤ pos q))
+pub sum-not-negative : (a : ℤ) (q : ℕ) → natAbs a ≤ q → a +ℤ pos q ≡ pos (natAbs (a +ℤ pos q))
 sum-not-negative a q h = of-pos (lifted a q h)
   where
     lifted : (a : ℤ) (q : ℕ) → natAbs a ≤ q → a +ℤ pos q ≡ pos (P.up a + q - P.dn a)

@@ -4,10 +4,9 @@
 // 2^32, and Q as it is computed below 2^63. Where the focal point is inside the circle, Q is A² + D(dx² + dy²), so not negative, and below 2^60.
 use crate::Circle;
 use crate::RadialPoints;
-use crate::gradient::RAMP_UNIT;
 ghost use mathlib.Core.Path.{_≡_};
 ghost use mathlib.Core.Bool.{true};
-ghost use Prim.Native.Nat.{_≤_, _<_};
+ghost use Prim.Native.Nat.{_/_, _≤_, _<_};
 ghost use lib.IntN.{pos, natAbs, _+ℤ_, _-ℤ_, _*ℤ_};
 ghost use lib.Signed.{_<ℤ_};
 ghost use Rattle.fixed.specs.Floats.{atMost, scaled};
@@ -173,10 +172,32 @@ pub fn root_at(q: i64, guess: u64, i: usize) -> u64
     root_near(q, guess)
 }
 
-// t of A, q and D.
-pub fn t_of(a: i64, q: u64, d: i64) -> i64
-    requires { ⌜ (natAbs a ≤ q) × (q ≤ 1073741824) × (pos 0 <ℤ d) ⌝ }
-    ensures { λ t. ⌜ t ≡ floorDiv (pos rampUnit *ℤ (a +ℤ pos q)) (natAbs d) ⌝ }
+// 2^47 / D, or 2^33 - 1 if that is less: what t is guessed by.
+pub fn reciprocal(d: i64) -> u64
+    requires { ⌜ (pos 0 <ℤ d) × (natAbs d ≤ 268435456) ⌝ }
+    ensures { λ r. ⌜ r < 8589934592 ⌝ }
 {
-    fixed::floor_div(RAMP_UNIT * (a + q as i64), d)
+    let r = 140737488355328 / (d as u64);
+    if r < 8589934592 { r } else { 8589934591 }
+}
+
+// t of A, q and D, which is not negative: the product with D's reciprocal is mostly t.
+pub fn t_of(a: i64, q: u64, d: i64, reciprocal: u64) -> u64
+    requires { ⌜ (natAbs a ≤ q) × (q ≤ 1073741824) × (pos 0 <ℤ d) × (natAbs d ≤ 268435456) × (reciprocal < 8589934592) ⌝ }
+    ensures { λ t. ⌜ (pos t ≡ floorDiv (pos rampUnit *ℤ (a +ℤ pos q)) (natAbs d)) × (t ≤ 140737488355328) ⌝ }
+{
+    let u = (a + q as i64) as u64;
+    quotient_near(65536 * u, d as u64, u * reciprocal / 2147483648)
+}
+
+// n / d, from a guess, which may be any number.
+fn quotient_near(n: u64, d: u64, guess: u64) -> u64
+    requires { ⌜ (0 < d) × (d ≤ 268435456) × (guess ≤ 8589934592) ⌝ }
+    ensures { λ q. ⌜ q ≡ n / d ⌝ }
+{
+    let rest = std::num::wrapping_sub_u64(n, guess * d);
+    if rest < d {
+        return guess;
+    }
+    n / d
 }

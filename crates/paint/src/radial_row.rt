@@ -1,18 +1,22 @@
 // The radial gradient's t along a row: A and Q go from pixel to pixel by sums, and each root is corrected from a guess, the next number
-// but one of a parabola through three roots before it. Two divisions a pixel: one for the root, one for t.
+// but one of a parabola through three roots before it. One division a pixel, for the root: t is a product with D's reciprocal.
 use crate::Circle;
 use crate::Place;
 use crate::RadialGradient;
+use crate::gradient::REFLECT;
+use crate::gradient::REPEAT;
 use crate::positions::position;
 use crate::radial;
+use crate::segments::BEHIND;
 ghost use mathlib.Core.Path.{_≡_};
-ghost use mathlib.Core.Bool.{true};
+ghost use mathlib.Core.Bool.{true, not, _&&_};
 ghost use Prim.Native.Nat.{_+_, _≤_};
+ghost use lib.Dec.{eqb};
 ghost use lib.IntN.{pos, natAbs, _+ℤ_, _-ℤ_, _*ℤ_};
 ghost use lib.Signed.{_<ℤ_};
 ghost use lib.ListN.{length};
 ghost use Rattle.lists.specs.Lists.{tab};
-ghost use Rattle.paint.specs.Gradient.{mapped};
+ghost use Rattle.paint.specs.Gradient.{spreadRepeat, spreadReflect, mapped};
 ghost use Rattle.paint.specs.Radial.{inside, radialT, focalAllowed};
 ghost use Rattle.paint.specs.Circles.{LimitedCircle, ModeratePlace, placeFrom, placeAt, nextPlace};
 ghost use Rattle.paint.specs.Segments.{positionOf};
@@ -25,6 +29,7 @@ pub fn radial_positions(g: RadialGradient, x: usize, y: usize, ks: &mut [u32])
 {
     let c = g.circle;
     let d = radial::circle_d(c);
+    let reciprocal = radial::reciprocal(d);
     let mut p = place_at(c, x, y);
     let mut last = radial::root(p.q);
     let mut before = last;
@@ -33,13 +38,35 @@ pub fn radial_positions(g: RadialGradient, x: usize, y: usize, ks: &mut [u32])
     let mut i = 0;
     while i < ks.len() {
         let q = radial::root_at(p.q, next_guess(before, third, fourth), i);
-        ks[i] = position(g.spread, radial::t_of(p.a, q, d));
+        ks[i] = position_of(g.spread, radial::t_of(p.a, q, d, reciprocal));
         p = next_place(p);
         fourth = third;
         third = before;
         before = last;
         last = q;
         i += 1;
+    }
+}
+
+// The position of a t that is not negative: where the gradient pads, nothing else is asked of t.
+fn position_of(spread: u32, t: u64) -> u32
+    requires { ⌜ t ≤ 140737488355328 ⌝ }
+    ensures { λ k. ⌜ k ≡ positionOf (mapped spread (pos t)) ⌝ }
+{
+    if pads(spread) {
+        return if t < 65536 { (t as u32) + 1 } else { BEHIND };
+    }
+    position(spread, t as i64)
+}
+
+// Whether a gradient pads: t is then mapped to itself.
+fn pads(spread: u32) -> bool
+    ensures { λ b. ⌜ b ≡ not (eqb spread spreadRepeat) && not (eqb spread spreadReflect) ⌝ }
+{
+    if spread == REPEAT {
+        false
+    } else {
+        spread != REFLECT
     }
 }
 

@@ -3,7 +3,8 @@ use mathlib.Core.Path.{_≡_, refl, ap, _∙_}
 use Prim.Native.Nat.{ℕ, _+_, _-_, _≤_, _<_}
 use native.Mathlib.Omega.{arith}
 use lib.ListN.{length, length-set}
-use lib.IntN.{ℤ, natAbs}
+use lib.IntN.{ℤ, pos, natAbs}
+use lib.Signed.{_<ℤ_}
 use mir.Syntax.{w64}
 use mir.Val.{toZ, ofZ}
 use Rattle.lists.specs.Lists.{tab, over}
@@ -17,7 +18,7 @@ use Rattle.paint.specs.Segments.{positionOf}
 use Rattle.paint.specs.declared.Circle.{Circle}
 use Rattle.paint.specs.declared.Place.{Place}
 use Rattle.paint.specs.declared.RadialGradient.{RadialGradient}
-use Rattle.paint.proofs.Focal.{Rooted, focal-inside, at-rooted, at-near, t-at}
+use Rattle.paint.proofs.Focal.{Rooted, focal-inside, d-small, at-rooted, at-near, t-at}
 use Rattle.paint.proofs.Differences.{next-place}
 use Rattle.paint.proofs.radial_row.radial_positions.Statement.{statement}
 use Rattle.paint.proofs.radial_row.radial_positions.Tie as tie
@@ -27,15 +28,15 @@ abbrev position : RadialGradient → ℕ → ℕ → ℕ → ℕ
 position g x y i = positionOf (mapped (g .spread) (radialT (g .circle) (x + i) y))
 
 abbrev Inv-loop : tie.InvT-loop
-Inv-loop g x y ks₀ d p₀ last₀ before₀ third₀ fourth₀ i₀ ks p last before third fourth i =
+Inv-loop g x y ks₀ d reciprocal p₀ last₀ before₀ third₀ fourth₀ i₀ ks p last before third fourth i =
     (i ≤ length ks₀) × (length ks ≡ length ks₀) × (p ≡ placeAt (g .circle) (x + i) y) × (ks ≡ over (tab i (position g x y)) ks₀)
 
 abbrev μ-loop : tie.MeasureT-loop
-μ-loop g x y ks₀ d p₀ last₀ before₀ third₀ fourth₀ i₀ ks p last before third fourth i = length ks₀ - i
+μ-loop g x y ks₀ d reciprocal p₀ last₀ before₀ third₀ fourth₀ i₀ ks p last before third fourth i = length ks₀ - i
 
 -- ---- the turn's pixel, by the state at the loop's head
 abbrev start : tie.At-loop Inv-loop μ-loop → tie.Start Inv-loop μ-loop
-start c = c .before .before .before .before .before .before .before
+start c = c .before .before .before .before .before .before .before .before
 
 abbrev circle : tie.At-loop Inv-loop μ-loop → Circle
 circle c = start c .args .g .circle
@@ -63,32 +64,47 @@ a-is c = clean w64 2305843009213693952 (c .loop .p .a) tt (near c .a) ∙ ap (λ
 q-is : (c : tie.At-loop Inv-loop μ-loop) → toZ w64 (ofZ w64 (c .loop .p .q)) ≡ place c .q
 q-is c = clean w64 2305843009213693952 (c .loop .p .q) tt (near c .q) ∙ ap (λ (p : Place). p .q) (c .loop .inv .2)
 
-d-is : (c : tie.At-loop Inv-loop μ-loop) → toZ w64 (ofZ w64 (c .before .before .before .before .circle-d .result)) ≡ radialD (circle c)
-d-is c = let d = c .before .before .before .before .circle-d in back w64 (d .result) (d .ok) ∙ d .ensures
+d-is : (c : tie.At-loop Inv-loop μ-loop) → toZ w64 (ofZ w64 (c .before .before .before .before .before .circle-d .result)) ≡ radialD (circle c)
+d-is c = let d = c .before .before .before .before .before .circle-d in back w64 (d .result) (d .ok) ∙ d .ensures
+
+-- D, of the circle at the start
+abbrev divides : tie.Start Inv-loop μ-loop → Type 0
+divides s = let d = radialD (s .args .g .circle) in (pos 0 <ℤ d) × (natAbs d ≤ 268435456)
+
+d-fits : (s : tie.Start Inv-loop μ-loop) → divides s
+d-fits s =
+    let c = s .args .g .circle in
+    let h = focal-inside c (s .pre .0 .1) (s .pre .0 .2) in
+    (h, d-small c (s .pre .0 .0 .r) h)
 
 -- ---- the same in the turn: its root, t and position
 root-is : (c : tie.After-root-at Inv-loop μ-loop) → c .root-at .result ≡ isqrt (natAbs (place (c .before .before .before .before) .q))
 root-is c = c .root-at .ensures ∙ ap (λ (z : ℤ). isqrt (natAbs z)) (q-is (c .before .before .before .before))
 
 t-is : (c : tie.After-t-of Inv-loop μ-loop)
-    → let l = c .before .before .before .before .before .before in toZ w64 (ofZ w64 (c .t-of .result)) ≡ radialT (circle l) (at l) (start l .args .y)
+    → let l = c .before .before .before .before .before .before in pos (c .t-of .result) ≡ radialT (circle l) (at l) (start l .args .y)
 t-is c =
     let l = c .before .before .before .before .before .before in
     let s = start l in
-    back w64 (c .t-of .result) (c .t-of .ok) ∙ c .t-of .ensures
+    c .t-of .ensures .0
     ∙ rw (a-is l, root-is (c .before .before), d-is l) (t-at (circle l) (s .pre .0 .0) (s .pre .0 .1) (s .pre .0 .2) (at l) (s .args .y))
 
-placed : (c : tie.After-position Inv-loop μ-loop)
+placed : (c : tie.After-position-of Inv-loop μ-loop)
     → let l = c .before .before .before .before .before .before .before in
-    let a = start l .args in c .position .result ≡ position (a .g) (a .x) (a .y) (l .loop .i)
+    let a = start l .args in c .position-of .result ≡ position (a .g) (a .x) (a .y) (l .loop .i)
 placed c =
     let l = c .before .before .before .before .before .before .before in
-    c .position .ensures ∙ ap (λ (z : ℤ). positionOf (mapped (start l .args .g .spread) z)) (t-is (c .before))
+    c .position-of .ensures ∙ ap (λ (z : ℤ). positionOf (mapped (start l .args .g .spread) z)) (t-is (c .before))
 
 -- ---- what the calls ask
+reciprocal-requires : tie.Need-reciprocal-requires Inv-loop μ-loop
+reciprocal-requires c κs =
+    let d = c .circle-d in
+    rw (back w64 (d .result) (d .ok) ∙ d .ensures) (d-fits (c .before .before .before))
+
 root-requires : tie.Need-root-requires Inv-loop μ-loop
 root-requires c κs =
-    let s = c .before .before .before .before .before in
+    let s = c .before .before .before .before .before .before in
     let a = s .args in
     let p = c .before .place-at in
     let h : a .x ≤ 1024 = omega (arith, s .pre .1 .0) in
@@ -104,7 +120,8 @@ t-of-requires : tie.Need-t-of-requires Inv-loop μ-loop
 t-of-requires c κs =
     let l = c .before .before .before .before .before in
     let r = rooted l in
-    rw (a-is l, root-is (c .before), d-is l) (r .above, r .root, focal-inside (circle l) (start l .pre .0 .1) (start l .pre .0 .2))
+    let d = d-fits (start l) in
+    rw (a-is l, root-is (c .before), d-is l) (r .above, r .root, d .0, d .1, l .before .before .before .before .reciprocal .ensures)
 
 -- ---- the loop
 -- the pixel is one of the block
@@ -116,7 +133,7 @@ inside c =
 
 loop-holds : tie.Need-loop-holds Inv-loop μ-loop
 loop-holds c =
-    let a = c .before .before .before .before .before .before .args in
+    let a = c .before .before .before .before .before .before .before .args in
     let e : a .x + 0 ≡ a .x = omega arith in
     (omega arith, refl, rw e (c .before .before .place-at .ensures), refl)
 
@@ -132,7 +149,7 @@ loop-again c =
       omega (arith, h .0),
       simp length-set (h .2),
       c .next-place .ensures ∙ rw (l .loop .inv .2, e) (next-place (circle l) (at l) (a .y)),
-      tab-turn (position (a .g) (a .x) (a .y)) (l .loop .ks) (a .ks .now) (l .loop .i) (after-position .position .result) (placed after-position)
+      tab-turn (position (a .g) (a .x) (a .y)) (l .loop .ks) (a .ks .now) (l .loop .i) (after-position .position-of .result) (placed after-position)
           (l .loop .inv .3)
           (h .0),
     )
@@ -152,13 +169,14 @@ radial-positions-spec =
     Inv-loop
     μ-loop
     (λ c κs. c .before .before .pre .0 .0)
-    (λ c κs. let s = c .before .before .before in (s .pre .0 .0, s .pre .0 .1, s .pre .0 .2, omega (arith, s .pre .1 .0), s .pre .1 .1))
+    reciprocal-requires
+    (λ c κs. let s = c .before .before .before .before in (s .pre .0 .0, s .pre .0 .1, s .pre .0 .2, omega (arith, s .pre .1 .0), s .pre .1 .1))
     root-requires
     loop-holds
     (λ c κs. tt)
     root-at-requires
     t-of-requires
-    (λ c κs. tt)
+    (λ c κs. c .t-of .ensures .1)
     (λ c. let h = inside (c .before .before .before .before .before .before) in record { fits = omega (arith, h .0, h .1) })
     (λ c. let h = inside (c .before .before .before .before .before .before) in omega (arith, h .0, h .2))
     (λ c κs. near (c .before .before .before .before .before .before .before))
