@@ -153,23 +153,23 @@ fn closer(n: u64, guess: u64) -> u64 {
     std::num::wrapping_add_u64(guess, n / guess) / 2
 }
 
-// The same from a guess, which may be any number.
+// The same from a guess, which may be any number: a step of Newton's never ends below the root, and from a near guess it ends there.
 pub fn root_near(q: i64, guess: u64) -> u64
     requires { ⌜ (q ≡ pos (natAbs q)) × (natAbs q < 1152921504606846976) ⌝ }
     ensures { λ r. ⌜ r ≡ Roots.isqrt (natAbs q) ⌝ }
 {
-    fixed::isqrt_near(q as u64, guess)
-}
-
-// The same for the ith pixel of a block: the guesses for the first four are poor, so that a step is taken before.
-pub fn root_at(q: i64, guess: u64, i: usize) -> u64
-    requires { ⌜ (q ≡ pos (natAbs q)) × (natAbs q < 1152921504606846976) ⌝ }
-    ensures { λ r. ⌜ r ≡ Roots.isqrt (natAbs q) ⌝ }
-{
-    if i < 4 {
-        return root_near(q, closer(q as u64, guess));
+    let n = q as u64;
+    if 0 < guess {
+        if guess < 1073741824 {
+            let near = (guess + n / guess) / 2;
+            if near < 1073741824 {
+                if near * near <= n {
+                    return near;
+                }
+            }
+        }
     }
-    root_near(q, guess)
+    fixed::isqrt_near(n, guess)
 }
 
 // 2^47 / D, or 2^33 - 1 if that is less: what t is guessed by.

@@ -10,7 +10,7 @@ use crate::radial;
 use crate::segments::BEHIND;
 ghost use mathlib.Core.Path.{_≡_};
 ghost use mathlib.Core.Bool.{true, not, _&&_};
-ghost use Prim.Native.Nat.{_+_, _≤_};
+ghost use Prim.Native.Nat.{_+_, _≤_, _<_};
 ghost use lib.Dec.{eqb};
 ghost use lib.IntN.{pos, natAbs, _+ℤ_, _-ℤ_, _*ℤ_};
 ghost use lib.Signed.{_<ℤ_};
@@ -20,6 +20,15 @@ ghost use Rattle.paint.specs.Gradient.{spreadRepeat, spreadReflect, mapp
 ghost use Rattle.paint.specs.Radial.{inside, radialT, focalAllowed};
 ghost use Rattle.paint.specs.Circles.{LimitedCircle, ModeratePlace, placeFrom, placeAt, nextPlace};
 ghost use Rattle.paint.specs.Segments.{positionOf};
+
+// The roots of the three pixels before a pixel, and 3c - 8b, where b is the third of them and c the root before it. They serve for guesses
+// alone, so that nothing is asked of them.
+struct Roots {
+    last: u64,
+    before: u64,
+    third: u64,
+    part: u64,
+}
 
 // The positions of the pixels from (x, y) on, of a radius above 0.
 pub fn radial_positions(g: RadialGradient, x: usize, y: usize, ks: &mut [u32])
@@ -31,19 +40,13 @@ pub fn radial_positions(g: RadialGradient, x: usize, y: usize, ks: &mut [u32])
     let d = radial::circle_d(c);
     let reciprocal = radial::reciprocal(d);
     let mut p = place_at(c, x, y);
-    let mut last = radial::root(p.q);
-    let mut before = last;
-    let mut third = last;
-    let mut fourth = last;
+    let mut roots = first_roots(p.q, p.dq);
     let mut i = 0;
     while i < ks.len() {
-        let q = radial::root_at(p.q, next_guess(before, third, fourth), i);
+        let q = radial::root_near(p.q, next_guess(roots));
         ks[i] = position_of(g.spread, radial::t_of(p.a, q, d, reciprocal));
         p = next_place(p);
-        fourth = third;
-        third = before;
-        before = last;
-        last = q;
+        roots = next_roots(roots, q);
         i += 1;
     }
 }
@@ -70,16 +73,63 @@ fn pads(spread: u32) -> bool
     }
 }
 
-// The next number but one of a parabola through a, b and c, of which a is the nearest: with the slope d and the bend s it is a + 2d + 3s.
-// Right or not, it is only a guess. The last root is not asked for, so that the divisions for two roots can be under way at a time.
-fn next_guess(a: u64, b: u64, c: u64) -> u64 {
-    let d = std::num::wrapping_sub_u64(a, b);
-    let s = std::num::wrapping_sub_u64(d, std::num::wrapping_sub_u64(b, c));
-    let f = std::num::wrapping_add_u64(d, s);
-    std::num::wrapping_add_u64(
-        std::num::wrapping_add_u64(a, s),
-        std::num::wrapping_add_u64(f, f),
-    )
+// The next number but one of a parabola through the roots a, b and c, of which a is the nearest: 6a - 8b + 3c. Right or not, it is only a
+// guess. The last root is not asked for, so that the divisions for two roots can be under way at a time.
+fn next_guess(r: Roots) -> u64 {
+    std::num::wrapping_add_u64(r.part, double(triple(r.before)))
+}
+
+fn next_roots(r: Roots, q: u64) -> Roots {
+    Roots {
+        last: q,
+        before: r.last,
+        third: r.before,
+        part: part_of(r.before, r.third),
+    }
+}
+
+// About the roots before a pixel of which Q is q, and grows by dq to the next pixel: on a line.
+fn first_roots(q: i64, dq: i64) -> Roots
+    requires { ⌜ (q ≡ pos (natAbs q)) × (natAbs q < 1152921504606846976) ⌝ }
+{
+    let root = radial::root(q);
+    roots_on_line(root, root_step(dq, root))
+}
+
+fn roots_on_line(root: u64, step: u64) -> Roots {
+    let last = std::num::wrapping_sub_u64(root, step);
+    let before = std::num::wrapping_sub_u64(last, step);
+    let third = std::num::wrapping_sub_u64(before, step);
+    Roots {
+        last,
+        before,
+        third,
+        part: part_of(third, std::num::wrapping_sub_u64(third, step)),
+    }
+}
+
+// About what the root grows by where Q grows by dq.
+fn root_step(dq: i64, root: u64) -> u64 {
+    if root == 0 {
+        return 0;
+    }
+    if dq < 0 {
+        return std::num::wrapping_sub_u64(0, ((-1 - dq) as u64) / root / 2);
+    }
+    (dq as u64) / root / 2
+}
+
+// 3c - 8b.
+fn part_of(b: u64, c: u64) -> u64 {
+    std::num::wrapping_sub_u64(triple(c), double(double(double(b))))
+}
+
+fn double(a: u64) -> u64 {
+    std::num::wrapping_add_u64(a, a)
+}
+
+fn triple(a: u64) -> u64 {
+    std::num::wrapping_add_u64(a, double(a))
 }
 
 // A and Q at the pixel (x, y).

@@ -28,15 +28,15 @@ abbrev position : RadialGradient → ℕ → ℕ → ℕ → ℕ
 position g x y i = positionOf (mapped (g .spread) (radialT (g .circle) (x + i) y))
 
 abbrev Inv-loop : tie.InvT-loop
-Inv-loop g x y ks₀ d reciprocal p₀ last₀ before₀ third₀ fourth₀ i₀ ks p last before third fourth i =
+Inv-loop g x y ks₀ d reciprocal p₀ roots₀ i₀ ks p roots i =
     (i ≤ length ks₀) × (length ks ≡ length ks₀) × (p ≡ placeAt (g .circle) (x + i) y) × (ks ≡ over (tab i (position g x y)) ks₀)
 
 abbrev μ-loop : tie.MeasureT-loop
-μ-loop g x y ks₀ d reciprocal p₀ last₀ before₀ third₀ fourth₀ i₀ ks p last before third fourth i = length ks₀ - i
+μ-loop g x y ks₀ d reciprocal p₀ roots₀ i₀ ks p roots i = length ks₀ - i
 
 -- ---- the turn's pixel, by the state at the loop's head
 abbrev start : tie.At-loop Inv-loop μ-loop → tie.Start Inv-loop μ-loop
-start c = c .before .before .before .before .before .before .before .before
+start c = c .before .before .before .before .before .before .before .before .before
 
 abbrev circle : tie.At-loop Inv-loop μ-loop → Circle
 circle c = start c .args .g .circle
@@ -64,8 +64,8 @@ a-is c = clean w64 2305843009213693952 (c .loop .p .a) tt (near c .a) ∙ ap (λ
 q-is : (c : tie.At-loop Inv-loop μ-loop) → toZ w64 (ofZ w64 (c .loop .p .q)) ≡ place c .q
 q-is c = clean w64 2305843009213693952 (c .loop .p .q) tt (near c .q) ∙ ap (λ (p : Place). p .q) (c .loop .inv .2)
 
-d-is : (c : tie.At-loop Inv-loop μ-loop) → toZ w64 (ofZ w64 (c .before .before .before .before .before .circle-d .result)) ≡ radialD (circle c)
-d-is c = let d = c .before .before .before .before .before .circle-d in back w64 (d .result) (d .ok) ∙ d .ensures
+d-is : (c : tie.At-loop Inv-loop μ-loop) → toZ w64 (ofZ w64 (c .before .before .before .before .before .before .circle-d .result)) ≡ radialD (circle c)
+d-is c = let d = c .before .before .before .before .before .before .circle-d in back w64 (d .result) (d .ok) ∙ d .ensures
 
 -- D, of the circle at the start
 abbrev divides : tie.Start Inv-loop μ-loop → Type 0
@@ -78,8 +78,8 @@ d-fits s =
     (h, d-small c (s .pre .0 .0 .r) h)
 
 -- ---- the same in the turn: its root, t and position
-root-is : (c : tie.After-root-at Inv-loop μ-loop) → c .root-at .result ≡ isqrt (natAbs (place (c .before .before .before .before) .q))
-root-is c = c .root-at .ensures ∙ ap (λ (z : ℤ). isqrt (natAbs z)) (q-is (c .before .before .before .before))
+root-is : (c : tie.After-root-near Inv-loop μ-loop) → c .root-near .result ≡ isqrt (natAbs (place (c .before .before .before .before) .q))
+root-is c = c .root-near .ensures ∙ ap (λ (z : ℤ). isqrt (natAbs z)) (q-is (c .before .before .before .before))
 
 t-is : (c : tie.After-t-of Inv-loop μ-loop)
     → let l = c .before .before .before .before .before .before in pos (c .t-of .result) ≡ radialT (circle l) (at l) (start l .args .y)
@@ -102,26 +102,26 @@ reciprocal-requires c κs =
     let d = c .circle-d in
     rw (back w64 (d .result) (d .ok) ∙ d .ensures) (d-fits (c .before .before .before))
 
-root-requires : tie.Need-root-requires Inv-loop μ-loop
-root-requires c κs =
-    let s = c .before .before .before .before .before .before in
+first-roots-requires : tie.Need-first-roots-requires Inv-loop μ-loop
+first-roots-requires c κs =
+    let s = c .before .before .before .before .before .before .before in
     let a = s .args in
-    let p = c .before .place-at in
+    let p = c .before .before .place-at in
     let h : a .x ≤ 1024 = omega (arith, s .pre .1 .0) in
     let n = at-near (a .g .circle) (s .pre .0 .0) (s .pre .0 .1) (s .pre .0 .2) (a .x) (a .y) h (s .pre .1 .1) in
     let r = at-rooted (a .g .circle) (s .pre .0 .0) (s .pre .0 .1) (s .pre .0 .2) (a .x) (a .y) h (s .pre .1 .1) in
     let e = clean w64 2305843009213693952 (p .result .q) tt (rw (p .ensures) (n .q)) ∙ ap (λ (p : Place). p .q) (p .ensures) in
     rw e (r .natural, r .small)
 
-root-at-requires : tie.Need-root-at-requires Inv-loop μ-loop
-root-at-requires c κs = let l = c .before .before .before in let r = rooted l in rw (q-is l) (r .natural, r .small)
+root-near-requires : tie.Need-root-near-requires Inv-loop μ-loop
+root-near-requires c κs = let l = c .before .before .before in let r = rooted l in rw (q-is l) (r .natural, r .small)
 
 t-of-requires : tie.Need-t-of-requires Inv-loop μ-loop
 t-of-requires c κs =
     let l = c .before .before .before .before .before in
     let r = rooted l in
     let d = d-fits (start l) in
-    rw (a-is l, root-is (c .before), d-is l) (r .above, r .root, d .0, d .1, l .before .before .before .before .reciprocal .ensures)
+    rw (a-is l, root-is (c .before), d-is l) (r .above, r .root, d .0, d .1, l .before .before .before .before .before .reciprocal .ensures)
 
 -- ---- the loop
 -- the pixel is one of the block
@@ -133,13 +133,13 @@ inside c =
 
 loop-holds : tie.Need-loop-holds Inv-loop μ-loop
 loop-holds c =
-    let a = c .before .before .before .before .before .before .before .args in
+    let a = c .before .before .before .before .before .before .before .before .args in
     let e : a .x + 0 ≡ a .x = omega arith in
-    (omega arith, refl, rw e (c .before .before .place-at .ensures), refl)
+    (omega arith, refl, rw e (c .before .before .before .place-at .ensures), refl)
 
 loop-again : tie.Need-loop-again Inv-loop μ-loop
 loop-again c =
-    let after-position = c .before in
+    let after-position = c .before .before in
     let in-loop = after-position .before .before .before .before .before .before in
     let l = in-loop .before in
     let s = start l in
@@ -148,7 +148,7 @@ loop-again c =
     let e : a .x + (l .loop .i + 1) ≡ at l + 1 = omega arith in (
       omega (arith, h .0),
       simp length-set (h .2),
-      c .next-place .ensures ∙ rw (l .loop .inv .2, e) (next-place (circle l) (at l) (a .y)),
+      c .before .next-place .ensures ∙ rw (l .loop .inv .2, e) (next-place (circle l) (at l) (a .y)),
       tab-turn (position (a .g) (a .x) (a .y)) (l .loop .ks) (a .ks .now) (l .loop .i) (after-position .position-of .result) (placed after-position)
           (l .loop .inv .3)
           (h .0),
@@ -171,17 +171,18 @@ radial-positions-spec =
     (λ c κs. c .before .before .pre .0 .0)
     reciprocal-requires
     (λ c κs. let s = c .before .before .before .before in (s .pre .0 .0, s .pre .0 .1, s .pre .0 .2, omega (arith, s .pre .1 .0), s .pre .1 .1))
-    root-requires
+    first-roots-requires
     loop-holds
     (λ c κs. tt)
-    root-at-requires
+    root-near-requires
     t-of-requires
     (λ c κs. c .t-of .ensures .1)
     (λ c. let h = inside (c .before .before .before .before .before .before) in record { fits = omega (arith, h .0, h .1) })
     (λ c. let h = inside (c .before .before .before .before .before .before) in omega (arith, h .0, h .2))
     (λ c κs. near (c .before .before .before .before .before .before .before))
-    (λ c. let h = inside (c .before .before .before .before .before .before .before) in record { fits = omega (arith, h .0, h .1) })
-    (λ c. let h = inside (c .before .before .before .before .before .before .before) in omega (arith, h .0))
+    (λ c κs. tt)
+    (λ c. let h = inside (c .before .before .before .before .before .before .before .before) in record { fits = omega (arith, h .0, h .1) })
+    (λ c. let h = inside (c .before .before .before .before .before .before .before .before) in omega (arith, h .0))
     loop-again
     (λ c. c .before .loop .inv .1)
     returns)
