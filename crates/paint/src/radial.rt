@@ -6,7 +6,7 @@ use crate::Circle;
 use crate::RadialPoints;
 ghost use mathlib.Core.Path.{_≡_};
 ghost use mathlib.Core.Bool.{true};
-ghost use Prim.Native.Nat.{_/_, _≤_, _<_};
+ghost use Prim.Native.Nat.{_+_, _/_, _≤_, _<_};
 ghost use lib.IntN.{pos, natAbs, _+ℤ_, _-ℤ_, _*ℤ_};
 ghost use lib.Signed.{_<ℤ_};
 ghost use Rattle.fixed.specs.Floats.{atMost, scaled};
@@ -103,46 +103,27 @@ pub fn under_root(r: i64, dx: i64, dy: i64, f: i64, g: i64) -> i64
     r * r * (dx * dx + dy * dy) - b * b
 }
 
-// q of a Q.
-pub fn root(q: i64) -> u64
+// About the root of a Q.
+pub fn root_guess(q: i64) -> u64
     requires { ⌜ (q ≡ pos (natAbs q)) × (natAbs q < 1152921504606846976) ⌝ }
-    ensures { λ r. ⌜ r ≡ Roots.isqrt (natAbs q) ⌝ }
 {
     let n = q as u64;
-    let near = closer(n, closer(n, root_guess(n)));
-    fixed::isqrt_near(n, closer(n, closer(n, near)))
+    closer(n, closer(n, guess_on_line(n)))
 }
 
-// A number between a third and three times the root of n, by how large n is.
-fn root_guess(n: u64) -> u64 {
-    if n < 64 {
-        return 3;
-    }
-    if n < 4096 {
-        return 23;
-    }
-    if n < 262144 {
-        return 181;
-    }
-    if n < 16777216 {
-        return 1448;
-    }
-    if n < 1073741824 {
-        return 11585;
-    }
-    if n < 68719476736 {
-        return 92682;
-    }
-    if n < 4398046511104 {
-        return 741455;
-    }
-    if n < 281474976710656 {
-        return 5931642;
-    }
-    if n < 18014398509481984 {
-        return 47453133;
-    }
-    379625062
+// The root of n = 4^k m, with m from 1 to 4, as 2^k (m / 3 + 11 / 16): at most a twentieth of it is missing or too much.
+fn guess_on_line(n: u64) -> u64 {
+    let upper = raised(n, raised(n, 0, 16), 8);
+    let k = raised(n, raised(n, raised(n, upper, 4), 2), 1);
+    std::num::wrapping_add_u64((n >> k) / 3, (11 << k) >> 4)
+}
+
+// k raised, if n is at least that power of 4.
+fn raised(n: u64, k: u64, by: u64) -> u64
+    requires { ⌜ k + by ≤ 31 ⌝ }
+    ensures { λ r. ⌜ r ≤ k + by ⌝ }
+{
+    if n >> (2 * (k + by)) == 0 { k } else { k + by }
 }
 
 // A step of Newton's towards the root of n, from a guess.
@@ -153,7 +134,7 @@ fn closer(n: u64, guess: u64) -> u64 {
     std::num::wrapping_add_u64(guess, n / guess) / 2
 }
 
-// The same from a guess, which may be any number: a step of Newton's never ends below the root, and from a near guess it ends there.
+// q of a Q, from a guess, which may be any number: a step of Newton's never ends below the root, and from a near guess it ends there.
 pub fn root_near(q: i64, guess: u64) -> u64
     requires { ⌜ (q ≡ pos (natAbs q)) × (natAbs q < 1152921504606846976) ⌝ }
     ensures { λ r. ⌜ r ≡ Roots.isqrt (natAbs q) ⌝ }

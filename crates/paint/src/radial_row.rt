@@ -92,7 +92,7 @@ fn next_roots(r: Roots, q: u64) -> Roots {
 fn first_roots(q: i64, dq: i64) -> Roots
     requires { ⌜ (q ≡ pos (natAbs q)) × (natAbs q < 1152921504606846976) ⌝ }
 {
-    let root = radial::root(q);
+    let root = radial::root_guess(q);
     roots_on_line(root, root_step(dq, root))
 }
 
