@@ -18,9 +18,9 @@ pub const RAMP_UNIT: i64 = 65536;
 const ONE_PIXEL: i64 = 16777216;
 
 // Spread modes, by their numbers in the scene file. Any other pads.
-pub const REPEAT: u32 = 0x1C01;
+const REPEAT: u32 = 0x1C01;
 
-pub const REFLECT: u32 = 0x1C02;
+const REFLECT: u32 = 0x1C02;
 
 // The points of a draw in 1/256 pixel.
 pub fn fixed_points(p: LinearPoints) -> FixedPoints

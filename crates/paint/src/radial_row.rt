@@ -3,20 +3,18 @@
 use crate::Circle;
 use crate::Place;
 use crate::RadialGradient;
-use crate::gradient::REFLECT;
-use crate::gradient::REPEAT;
+use crate::gradient;
 use crate::positions::position;
 use crate::radial;
 use crate::segments::BEHIND;
 ghost use mathlib.Core.Path.{_≡_};
-ghost use mathlib.Core.Bool.{true, not, _&&_};
+ghost use mathlib.Core.Bool.{true};
 ghost use Prim.Native.Nat.{_+_, _≤_, _<_};
-ghost use lib.Dec.{eqb};
 ghost use lib.IntN.{pos, natAbs, _+ℤ_, _-ℤ_, _*ℤ_};
 ghost use lib.Signed.{_<ℤ_};
 ghost use lib.ListN.{length};
 ghost use Rattle.lists.specs.Lists.{tab};
-ghost use Rattle.paint.specs.Gradient.{spreadRepeat, spreadReflect, mapped};
+ghost use Rattle.paint.specs.Gradient.{mapped};
 ghost use Rattle.paint.specs.Radial.{inside, radialT, focalAllowed};
 ghost use Rattle.paint.specs.Circles.{LimitedCircle, ModeratePlace, placeFrom, placeAt, nextPlace};
 ghost use Rattle.paint.specs.Segments.{positionOf};
@@ -56,21 +54,10 @@ fn position_of(spread: u32, t: u64) -> u32
     requires { ⌜ t ≤ 140737488355328 ⌝ }
     ensures { λ k. ⌜ k ≡ positionOf (mapped spread (pos t)) ⌝ }
 {
-    if pads(spread) {
+    if gradient::pads(spread) {
         return if t < 65536 { (t as u32) + 1 } else { BEHIND };
     }
     position(spread, t as i64)
-}
-
-// Whether a gradient pads: t is then mapped to itself.
-fn pads(spread: u32) -> bool
-    ensures { λ b. ⌜ b ≡ not (eqb spread spreadRepeat) && not (eqb spread spreadReflect) ⌝ }
-{
-    if spread == REPEAT {
-        false
-    } else {
-        spread != REFLECT
-    }
 }
 
 // The next number but one of a parabola through the roots a, b and c, of which a is the nearest: 6a - 8b + 3c. Right or not, it is only a

@@ -1,27 +1,15 @@
 -- `radial_row::position_of` meets its contract: a gradient that pads maps t to itself.
-use mathlib.Core.Path.{_≡_, refl, sym, ap, _∙_, subst}
-use mathlib.Core.Bool.{Bool, true, false, not, cond, _&&_}
+use mathlib.Core.Path.{_≡_, sym, ap, _∙_}
 use Prim.Native.Nat.{ℕ, _+_, _≤_, _<_}
 use native.Mathlib.Omega.{arith}
 use borrow.Author.Needs.{needs}
 use borrow.Author.Tests.{lt-ltb, le-ltb}
-use lib.Dec.{T, eqb}
-use lib.IntN.{ℤ, pos}
+use lib.IntN.{pos}
 use mir.Syntax.{w64}
 use Rattle.fixed.proofs.Means.{of-nat}
-use Rattle.paint.specs.Gradient.{spreadRepeat, spreadReflect, mapped}
 use Rattle.paint.specs.Segments.{positionOf}
 use Rattle.paint.proofs.radial_row.position_of.Statement.{statement}
 use Rattle.paint.proofs.radial_row.position_of.Tie as tie
-
-kept : (s : ℕ) (t : ℤ) → not (eqb s spreadRepeat) && not (eqb s spreadReflect) ≡ true → mapped s t ≡ t
-unfolding mapped
-kept s t e = by _ _ (eqb s spreadRepeat) (eqb s spreadReflect) e
-  where
-    by : (x y : ℤ) (a b : Bool) → not a && not b ≡ true → cond a x (cond b y t) ≡ t
-    by x y true b e = absurd (subst T (sym e) tt)
-    by x y false true e = absurd (subst T (sym e) tt)
-    by x y false false e = refl
 
 on-ramp : (t : ℕ) → t < 65536 → t + 1 ≡ positionOf (pos t)
 unfolding positionOf
@@ -35,13 +23,13 @@ returns : tie.Need-returns
 returns c =
     let s = c .before .before .before in
     on-ramp (s .args .t) (c .if2 .taken)
-    ∙ ap positionOf (sym (kept (s .args .spread) (pos (s .args .t)) (sym (c .before .before .pads .ensures) ∙ c .before .if1 .taken)))
+    ∙ ap positionOf (sym (c .before .before .pads .ensures (c .before .if1 .taken) .same (pos (s .args .t))))
 
 returns-2 : tie.Need-returns-2
 returns-2 c =
     let s = c .before .before .before in
     behind (s .args .t) (c .if2 .left)
-    ∙ ap positionOf (sym (kept (s .args .spread) (pos (s .args .t)) (sym (c .before .before .pads .ensures) ∙ c .before .if1 .taken)))
+    ∙ ap positionOf (sym (c .before .before .pads .ensures (c .before .if1 .taken) .same (pos (s .args .t))))
 
 returns-3 : tie.Need-returns-3
 returns-3 c =
