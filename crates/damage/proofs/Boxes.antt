@@ -46,9 +46,9 @@ box-answer w h s d edition i r l f e o =
     (o ∙ ap₂ (λ (n : ℕ) (z : List ℕ). boxOf w h (drawEdges n z)) f e ∙ sym (box-there w h s i l), (rw o (on .0), rw o (on .1)))
 
 -- what `is_changed` answers
-pub changed-answer : (old new d e : List ℕ) (i : ℕ) (b : Bool) → i < countOf old → i < countOf new → editionOf old ≡ editionOf new
-    → d ≡ drawOf old i → e ≡ drawOf new i → b ≡ sameDraw d e → not b ≡ changedAt old new i
-changed-answer old new d e i b k l m p q o = ap not (o ∙ ap₂ sameDraw p q) ∙ sym (changed-bytes old new i k l m)
+pub changed-answer : (old new : List ℕ) (i : ℕ) (b : Bool) → i < countOf old → i < countOf new → editionOf old ≡ editionOf new
+    → b ≡ sameDraw (drawOf old i) (drawOf new i) → not b ≡ changedAt old new i
+changed-answer old new i b k l m o = ap not o ∙ sym (changed-bytes old new i k l m)
 
 -- what `same_bytes` answers
 module _ (p q : Pixel) where

@@ -49,11 +49,7 @@ pub fn is_changed(old: &[u8], new: &[u8], i: usize) -> bool
     if scene::header::edition(old) != scene::header::edition(new) {
         return true;
     }
-    let mut d = [0u8; DRAW_BYTES];
-    let mut e = [0u8; DRAW_BYTES];
-    scene::blocks::read_draw(old, i, &mut d);
-    scene::blocks::read_draw(new, i, &mut e);
-    !scene::blocks::same_draw(&d, &e)
+    !scene::blocks::same_draw(old, new, i)
 }
 
 // The rectangle a with both boxes of draw i, if it is changed.

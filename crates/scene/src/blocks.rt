@@ -12,9 +12,9 @@ ghost use mathlib.Core.Bool.{_&&_};
 ghost use Prim.Native.Nat.{_+_, _*_, _<_, _≤_};
 ghost use lib.ListN.{length, take, drop};
 ghost use lib.Dec.{eqb};
-ghost use Rattle.scene.specs.Layout.{blockBytes, payloadBytes, checkModulus, drawBytes};
+ghost use Rattle.scene.specs.Layout.{blockBytes, payloadBytes, checkModulus, drawBlocks, drawBytes};
 ghost use Rattle.scene.specs.Strips.{columnOf};
-ghost use Rattle.scene.specs.Blocks.{checksumOf, blockRight, blockOf, drawOf, sameDraw};
+ghost use Rattle.scene.specs.Blocks.{checksumOf, blockRight, blockOf, drawOf, sameTo, sameDraw};
 
 // The words of a strip; a payload has seven strips side by side, and two words behind them.
 const STRIP_WORDS: u32 = 36;
@@ -105,16 +105,32 @@ pub fn copy(s: &[u8], at: usize, out: &mut [u8])
     }
 }
 
-// Whether the bytes of two draws are the same, by a loop that looks at every byte, and so at many at a time.
-pub fn same_draw(a: &[u8], b: &[u8]) -> bool
-    requires { ⌜ (length (now a) ≡ drawBytes) × (length (now b) ≡ drawBytes) ⌝ }
-    ensures { λ r. ⌜ r ≡ sameDraw (now (a .entry)) (now (b .entry)) ⌝ }
+// Whether draw i has the same bytes in two files, block by block, where they stand.
+pub fn same_draw(s: &[u8], t: &[u8], i: usize) -> bool
+    requires { ⌜ (blockBytes * blockOf (i + 1) ≤ length (now s)) × (blockBytes * blockOf (i + 1) ≤ length (now t)) ⌝ }
+    ensures { λ r. ⌜ r ≡ sameDraw (drawOf (now (s .entry)) i) (drawOf (now (t .entry)) i) ⌝ }
 {
     let mut same = true;
-    let mut i = 0;
-    while i < DRAW_BYTES {
-        same = still_same(same, a[i], b[i]);
-        i += 1;
+    let mut j = 0;
+    while j < DRAW_BLOCKS {
+        same = same_block(same, s, t, i, j);
+        j += 1;
+    }
+    same
+}
+
+// Whether all before payload j of draw i was the same, and the payload is, by a loop that looks at every byte, and so at many at a time.
+fn same_block(before: bool, s: &[u8], t: &[u8], i: usize, j: usize) -> bool
+    requires { ⌜ (blockBytes * blockOf (i + 1) ≤ length (now s)) × (blockBytes * blockOf (i + 1) ≤ length (now t)) × (j < drawBlocks) ⌝ }
+    requires { ⌜ before ≡ sameTo (drawOf (now s) i) (drawOf (now t) i) (payloadBytes * j) ⌝ }
+    ensures { λ r. ⌜ r ≡ sameTo (drawOf (now (s .entry)) i) (drawOf (now (t .entry)) i) (payloadBytes * (j + 1)) ⌝ }
+{
+    let at = BLOCK_BYTES * (1 + DRAW_BLOCKS * i + j);
+    let mut same = before;
+    let mut k = 0;
+    while k < PAYLOAD_BYTES {
+        same = still_same(same, s[at + k], t[at + k]);
+        k += 1;
     }
     same
 }

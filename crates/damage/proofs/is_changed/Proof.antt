@@ -1,3 +1,4 @@
+-- `damage::is_changed` meets its contract.
 use lib.Dec.{ltb}
 use native.Mathlib.Omega.{arith}
 use mathlib.Core.Path.{sym, ap, _∙_}
@@ -8,7 +9,6 @@ use Rattle.damage.proofs.is_changed.Statement.{statement}
 use Rattle.damage.proofs.is_changed.Tie as tie
 use Rattle.damage.proofs.is_changed.Reads as reads
 use Rattle.damage.proofs.is_changed.Lts as lts
-use Rattle.scene.proofs.blocks.read_draw.Reads as read-draw-reads
 use Rattle.scene.proofs.blocks.same_draw.Reads as same-draw-reads
 use Rattle.scene.proofs.header.count.Reads as count-reads
 
@@ -49,32 +49,12 @@ returns-3 c =
     (omega (arith, after-count2 .count2 .ensures .0, branch2 .if2 .left))
     (λ e. c .if3 .taken (after-edition .edition .ensures ∙ e ∙ sym (after-edition2 .edition2 .ensures))))
 
-slice-aggregate-read-draw : tie.Need-slice-aggregate-read-draw
-slice-aggregate-read-draw c = search needs
-
-read-draw-requires : tie.Need-read-draw-requires
-read-draw-requires c κs = search needs
-
-slice-aggregate-read-draw-2 : tie.Need-slice-aggregate-read-draw-2
-slice-aggregate-read-draw-2 c = search needs
-
-read-draw-requires-2 : tie.Need-read-draw-requires-2
-read-draw-requires-2 c κs = search needs
-
-slice-aggregate-same-draw : tie.Need-slice-aggregate-same-draw
-slice-aggregate-same-draw c = search needs
-
-slice-aggregate-same-draw-2 : tie.Need-slice-aggregate-same-draw-2
-slice-aggregate-same-draw-2 c = search needs
-
 same-draw-requires : tie.Need-same-draw-requires
 same-draw-requires c κs = search needs
 
 returns-4 : tie.Need-returns-4
 returns-4 c =
-    let after-read-draw2 = c .before .before .before .before in
-    let after-read-draw = after-read-draw2 .before .before .before in
-    let branch3 = after-read-draw .before .before in
+    let branch3 = c .before in
     let after-edition2 = branch3 .before in
     let after-edition = after-edition2 .before in
     let branch2 = after-edition .before in
@@ -82,10 +62,9 @@ returns-4 c =
     let after-count2 = branch .before in
     let after-count = after-count2 .before in
     let a = after-count .before .before .before .args in
-    changed-answer (a .old .now) (a .new .now) _ _ (a .i) (c .same-draw .result) (omega (arith, after-count .count .ensures .0, branch .if1 .left))
+    changed-answer (a .old .now) (a .new .now) (a .i) (c .same-draw .result) (omega (arith, after-count .count .ensures .0, branch .if1 .left))
     (omega (arith, after-count2 .count2 .ensures .0, branch2 .if2 .left))
-    (sym (after-edition .edition .ensures) ∙ branch3 .if3 .left ∙ after-edition2 .edition2 .ensures)
-    (after-read-draw .read-draw .ensures) (after-read-draw2 .read-draw2 .ensures) (c .same-draw .ensures)
+    (sym (after-edition .edition .ensures) ∙ branch3 .if3 .left ∙ after-edition2 .edition2 .ensures) (c .same-draw .ensures)
 
 pub is-changed-spec : {M : Type 1} → statement M
 is-changed-spec =
@@ -98,11 +77,5 @@ is-changed-spec =
     edition-requires
     edition-requires-2
     returns-3
-    slice-aggregate-read-draw
-    read-draw-requires
-    slice-aggregate-read-draw-2
-    read-draw-requires-2
-    slice-aggregate-same-draw
-    slice-aggregate-same-draw-2
     same-draw-requires
     returns-4)

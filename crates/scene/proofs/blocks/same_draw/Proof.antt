@@ -1,38 +1,27 @@
 -- `scene::blocks::same_draw` meets its contract.
-use mathlib.Core.Path.{_≡_, ap, sym, _∙_}
-use Prim.Native.Nat.{_-_, _≤_}
-use mathlib.Core.Bool.{Bool, _&&_}
+use mathlib.Core.Path.{_≡_, refl}
+use Prim.Native.Nat.{_-_, _*_, _≤_}
 use native.Mathlib.Omega.{arith}
-use lib.Dec.{eqb}
-use lib.ListN.{getD}
-use Rattle.scene.specs.Layout.{drawBytes}
-use Rattle.scene.specs.Blocks.{sameTo, sameDraw}
-use Rattle.scene.proofs.Same.{same-more}
+use Rattle.scene.specs.Layout.{payloadBytes, drawBlocks, drawBytes}
+use Rattle.scene.specs.Blocks.{drawOf, sameTo, sameDraw}
 use borrow.Author.Needs.{needs}
 use Rattle.scene.proofs.blocks.same_draw.Statement.{statement}
 use Rattle.scene.proofs.blocks.same_draw.Tie as tie
 
 abbrev Inv-loop : tie.InvT-loop
-Inv-loop a b same₀ i₀ same i = (i ≤ drawBytes) × (same ≡ sameTo a b i)
+Inv-loop s t i same₀ j₀ same j = (j ≤ drawBlocks) × (same ≡ sameTo (drawOf s i) (drawOf t i) (payloadBytes * j))
 
 abbrev μ-loop : tie.MeasureT-loop
-μ-loop a b same₀ i₀ same i = drawBytes - i
+μ-loop s t i same₀ j₀ same j = drawBlocks - j
 
 loop-again : tie.Need-loop-again Inv-loop μ-loop
-loop-again c =
-    let l = c .before .before .before .before .loop in
-    let a = c .before .before .before .before .before .before .before .args in (
-      search needs,
-      c .still-same .ensures
-          ∙ ap (λ (t : Bool). t && eqb (getD (a .a .now) (l .i) 0) (getD (a .b .now) (l .i) 0)) (l .inv .1)
-          ∙ sym (same-more (a .a .now) (a .b .now) (l .i)),
-    )
+loop-again c = (search needs, c .same-block .ensures)
 
 returns : tie.Need-returns Inv-loop μ-loop
 unfolding sameDraw
 returns c =
     let l = c .before .loop in
-    let e : l .i ≡ drawBytes = omega arith in
+    let e : payloadBytes * l .j ≡ drawBytes = omega arith in
     rw e at (l .inv .1)
 
 pub same-draw-spec : {M : Type 1} → statement M
@@ -41,9 +30,7 @@ same-draw-spec =
     (tie.spec
     Inv-loop
     μ-loop
-    (λ c. search needs)
-    (λ c. search needs)
-    (λ c. search needs)
+    (λ c. (omega arith, refl))
     (λ c κs. search needs)
     (λ c. search needs)
     (λ c. search needs)
