@@ -16,6 +16,7 @@
 -- Ramps:
 --     Mix         a channel between two stops
 --     Lines       a channel between two stops without a division
+--     Pairs       the same of two stops at both ends, two channels as one number
 --     Lookup      the search for the stops around t
 --     Serving     segments have the ramp's colours
 --     Placing     the colour at a position is the colour at t
@@ -38,6 +39,7 @@ pub mod Focal
 pub mod Differences
 pub mod Mix
 pub mod Lines
+pub mod Pairs
 pub mod Reals
 pub mod Lookup
 pub mod Serving

@@ -70,18 +70,6 @@ mixed-by-line from to k ci cj h l m p q =
     (by-reciprocal (ci * (to - k) + cj * (k - from) + (to - k + (k - from)) / 2) (to - k + (k - from)) (omega arith) (omega arith)
     (below ci cj (to - k) (k - from) p q (omega arith))))
 
--- two stops at 0 and 65,536: the division is a shift
-pub mixed-by-shift : (ci cj t : ℕ) → t ≤ 65536
-    → floorDiv (pos ci *ℤ pos 65536 +ℤ pos 32768 +ℤ (pos cj -ℤ pos ci) *ℤ pos t) 65536 ≡ pos (mixByte 0 65536 t ci cj)
-mixed-by-shift ci cj t h =
-    let u = 65536 - t in
-    let e : u + t ≡ 65536 = omega arith in
-    let f : ci * 65536 ≡ ci * u + ci * t = omega (arith, ap (λ (y : ℕ). ci * y) e) in
-    let z : t - 0 ≡ t = omega arith in
-    rw z
-    (ap (λ (y : ℤ). floorDiv y 65536)
-    (P.eq (P.num ci ⊗ P.num 65536 ⊕ P.num 32768 ⊕ (P.num cj ⊖ P.num ci) ⊗ P.num t) (P.num (ci * u + cj * t + 32768)) (omega (arith, f))))
-
 -- ---- the sizes of the line's numbers
 pub reciprocal-small : (d : ℕ) → reciprocalOf d ≤ 1099511627777
 unfolding reciprocalOf

@@ -10,7 +10,7 @@ use lib.Signed.{ltZ, _<ℤ_}
 use Rattle.color.specs.declared.Pixel.{Pixel}
 use Rattle.color.specs.Channels.{premultiplied}
 use Rattle.paint.specs.Gradient.{rampUnit, squaredLength}
-use Rattle.paint.specs.Ramps.{mixPixel, between, rampAt}
+use Rattle.paint.specs.Ramps.{mixByte, mixPixel, between, rampAt}
 use Rattle.paint.specs.Buffers.{unpacked, stopAt, stopsFrom, stopsIn}
 use Rattle.paint.specs.declared.AnyGradient.{AnyGradient}
 use Rattle.paint.specs.declared.AnyGradient.the-variants.{Linear, Radial}
@@ -36,9 +36,9 @@ tAt (suc n) = pos n
 unfoldable pub colorAtPosition : Bool → List Stop → ℕ → Pixel
 colorAtPosition premultiply ramp k = cond premultiply (rampAt ramp (tAt k)) (premultiplied (rampAt ramp (tAt k)))
 
--- positions of a row's pixels
+-- positions of a block's pixels
 pub record Positions (ks : List ℕ) : Type 0 where
-  pub few : length ks ≤ 1024
+  pub few : length ks ≤ 128
   pub below : (i : ℕ) → i < length ks → getD ks i 0 ≤ 65537
 
 -- ---- the pixels of a block, each as one number in place of its position
@@ -59,6 +59,14 @@ pub record Covering (low n : ℕ) (ws : List ℕ) : Type 0 where
 -- the colour at a position between two stops at 0 and 65,536: t cut to 0..65,535 gives the same
 abbrev pub twoStops : Pixel → Pixel → ℕ → Pixel
 twoStops c d k = mixPixel 0 rampUnit (min (k - 1) 65535) c d
+
+-- t's of a block's pixels, each cut to 0..65,535
+pub record OnRamp (ts : List ℕ) : Type 0 where
+  pub below : (i : ℕ) → i < length ts → getD ts i 0 < 65536
+
+-- two channels at t as one number
+unfoldable pub mixPair : ℕ → ℕ → ℕ → ℕ → ℕ → ℕ
+mixPair ci cj di dj t = mixByte 0 rampUnit t ci cj + mixByte 0 rampUnit t di dj * 256
 
 -- ---- a channel between two stops that lie d apart, as a line in parts of 2^40
 abbrev pub parts : ℕ

@@ -52,7 +52,7 @@ fn linear_block(g: LinearGradient, ramp: &[u32], x: usize, y: usize, ks: &mut [u
 
 fn radial_block(g: RadialGradient, ramp: &[u32], x: usize, y: usize, ks: &mut [u32], row: &mut [u8])
     requires { ⌜ LimitedCircle (g .circle) × (focalAllowed (g .circle) ≡ true) × HeldRamp (now ramp) (g .count) × (pos 0 <ℤ g .circle .r) ⌝ }
-    requires { ⌜ (x + length (now ks) ≤ 1024) × (y ≤ 1024) × (length (now row) ≡ length (now ks) * 4) ⌝ }
+    requires { ⌜ (x + length (now ks) ≤ 1024) × (y ≤ 1024) × (length (now row) ≡ length (now ks) * 4) × (length (now ks) ≤ 128) ⌝ }
     ensures { λ _. ⌜ now (row .exit) ≡ run (length (now (ks .entry))) (λ i. radialAt g (stopsIn (now (ramp .entry)) (g .count)) (x + i) y) ⌝ }
 {
     radial_positions(g, x, y, ks);

@@ -5,13 +5,14 @@ use crate::segments::greatest;
 use color::Pixel;
 ghost use mathlib.Core.Path.{_≡_};
 ghost use mathlib.Core.Bool.{cond};
-ghost use Prim.Native.Nat.{_-_, _*_, _≤_, min};
+ghost use Prim.Native.Nat.{_+_, _-_, _*_, _≤_, _<_, min};
 ghost use lib.ListN.{length, getD};
+ghost use Rattle.lists.specs.Lists.{tab};
 ghost use Rattle.color.specs.Channels.{premultiplied};
 ghost use Rattle.raster.specs.Surface.{run};
-ghost use Rattle.paint.specs.Ramps.{mixByte};
+ghost use Rattle.paint.specs.Ramps.{mixByte, mixPixel};
 ghost use Rattle.paint.specs.Buffers.{unpacked};
-ghost use Rattle.paint.specs.Segments.{Words, Covering, twoStops};
+ghost use Rattle.paint.specs.Segments.{Words, Covering, OnRamp, twoStops, mixPair};
 
 // A pixel as one number.
 pub fn word(c: Pixel) -> u32
@@ -22,25 +23,44 @@ pub fn word(c: Pixel) -> u32
 
 // The colours between two stops at 0 and 65,536 in place of positions.
 pub fn mix_words(c: Pixel, d: Pixel, ks: &mut [u32])
-    requires { ⌜ length (now ks) ≤ 1024 ⌝ }
+    requires { ⌜ length (now ks) ≤ 128 ⌝ }
     ensures { λ _. ⌜ Words (λ i. twoStops c d (getD (now (ks .entry)) i 0)) (length (now (ks .entry))) (now (ks .exit)) ⌝ }
+{
+    let mut left = [0u16; 128];
+    let mut right = [0u16; 128];
+    mix_in(c, d, &mut left, &mut right, ks);
+}
+
+// The same with room for the pairs of a block.
+fn mix_in(c: Pixel, d: Pixel, left: &mut [u16], right: &mut [u16], ks: &mut [u32])
+    requires { ⌜ (length (now left) ≡ 128) × (length (now right) ≡ 128) × (length (now ks) ≤ 128) ⌝ }
+    ensures { λ _. ⌜ Words (λ i. twoStops c d (getD (now (ks .entry)) i 0)) (length (now (ks .entry))) (now (ks .exit)) ⌝ }
+{
+    let n = ks.len();
+    mix_planes(c, d, &mut left[0..n], &mut right[0..n], ks);
+}
+
+// The same with as much room as there are pixels.
+fn mix_planes(c: Pixel, d: Pixel, left: &mut [u16], right: &mut [u16], ks: &mut [u32])
+    requires { ⌜ (length (now left) ≡ length (now ks)) × (length (now right) ≡ length (now ks)) × (length (now ks) ≤ 128) ⌝ }
+    ensures { λ _. ⌜ Words (λ i. twoStops c d (getD (now (ks .entry)) i 0)) (length (now (ks .entry))) (now (ks .exit)) ⌝ }
+{
+    take_ts(ks, left, right);
+    mix_ts(c, d, left, right, ks);
+}
+
+// t at each position, for both pairs.
+fn take_ts(ks: &[u32], left: &mut [u16], right: &mut [u16])
+    requires { ⌜ (length (now left) ≡ length (now ks)) × (length (now right) ≡ length (now ks)) × (length (now ks) ≤ 128) ⌝ }
+    ensures { λ _. ⌜ now (left .exit) ≡ tab (length (now (ks .entry))) (λ i. min (getD (now (ks .entry)) i 0 - 1) 65535) ⌝ }
+    ensures { λ _. ⌜ now (right .exit) ≡ now (left .exit) ⌝ }
 {
     let mut i = 0;
     while i < ks.len() {
-        ks[i] = word(mixed_pixel(c, d, ks[i]));
+        let t = on_ramp(ks[i]);
+        left[i] = t;
+        right[i] = t;
         i += 1;
-    }
-}
-
-fn mixed_pixel(c: Pixel, d: Pixel, k: u32) -> Pixel
-    ensures { λ p. ⌜ p ≡ twoStops c d k ⌝ }
-{
-    let t = on_ramp(k);
-    Pixel {
-        r: mixed(c.r, d.r, t),
-        g: mixed(c.g, d.g, t),
-        b: mixed(c.b, d.b, t),
-        a: mixed(c.a, d.a, t),
     }
 }
 
@@ -57,10 +77,82 @@ fn least(a: u32, b: u32) -> u32
     if a < b { a } else { b }
 }
 
-fn mixed(ci: u8, cj: u8, t: u16) -> u8
+// The colours at t, which both left and right hold: R and G are made in the one, B and A in the other. Numbers of 16 bits are multiplied eight at a time.
+fn mix_ts(c: Pixel, d: Pixel, left: &mut [u16], right: &mut [u16], ws: &mut [u32])
+    requires { ⌜ OnRamp (now left) × (now right ≡ now left) × (length (now left) ≡ length (now ws)) × (length (now ws) ≤ 128) ⌝ }
+    ensures { λ _. ⌜ Words (λ i. mixPixel 0 65536 (getD (now (left .entry)) i 0) c d) (length (now (ws .entry))) (now (ws .exit)) ⌝ }
+{
+    mix_pairs(c.r, d.r, c.g, d.g, left);
+    mix_pairs(c.b, d.b, c.a, d.a, right);
+    join(left, right, ws);
+}
+
+// Two channels in place of t.
+fn mix_pairs(ci: u8, cj: u8, di: u8, dj: u8, ts: &mut [u16])
+    requires { ⌜ length (now ts) ≤ 128 ⌝ }
+    ensures { λ _. ⌜ now (ts .exit) ≡ tab (length (now (ts .entry))) (λ i. mixPair ci cj di dj (getD (now (ts .entry)) i 0)) ⌝ }
+{
+    let mut i = 0;
+    while i < ts.len() {
+        ts[i] = mixed_pair(ci, cj, di, dj, ts[i]);
+        i += 1;
+    }
+}
+
+fn mixed_pair(ci: u8, cj: u8, di: u8, dj: u8, t: u16) -> u16
+    ensures { λ r. ⌜ r ≡ mixPair ci cj di dj t ⌝ }
+{
+    mixed(ci, cj, t) + mixed(di, dj, t) * 256
+}
+
+fn mixed(ci: u8, cj: u8, t: u16) -> u16
+    ensures { λ r. ⌜ (r ≡ mixByte 0 65536 t ci cj) × (r < 256) ⌝ }
+{
+    if ci <= cj {
+        return risen(ci, cj, t);
+    }
+    fallen(ci, cj, t)
+}
+
+// A product's high 16 bits, and what the low ones are rounded to.
+fn risen(ci: u8, cj: u8, t: u16) -> u16
+    requires { ⌜ ci ≤ cj ⌝ }
     ensures { λ r. ⌜ r ≡ mixByte 0 65536 t ci cj ⌝ }
 {
-    (((ci as i32) * 65536 + 32768 + ((cj as i32) - (ci as i32)) * (t as i32)) >> 16) as u8
+    let p = ((cj - ci) as u32) * (t as u32);
+    (ci as u16) + ((p / 65536) as u16) + ((p % 65536) as u16) / 32768
+}
+
+fn fallen(ci: u8, cj: u8, t: u16) -> u16
+    requires { ⌜ cj ≤ ci ⌝ }
+    ensures { λ r. ⌜ r ≡ mixByte 0 65536 t ci cj ⌝ }
+{
+    let p = ((ci - cj) as u32) * (t as u32);
+    (ci as u16) - ((p / 65536) as u16) - one_less((p % 65536) as u16) / 32768
+}
+
+fn one_less(a: u16) -> u16
+    ensures { λ r. ⌜ r ≡ a - 1 ⌝ }
+{
+    if 1 < a { a - 1 } else { 0 }
+}
+
+// Two planes of pairs as one of words.
+fn join(left: &[u16], right: &[u16], ws: &mut [u32])
+    requires { ⌜ (length (now left) ≡ length (now ws)) × (length (now right) ≡ length (now ws)) × (length (now ws) ≤ 128) ⌝ }
+    ensures { λ _. ⌜ now (ws .exit) ≡ tab (length (now (ws .entry))) (λ i. getD (now (left .entry)) i 0 + getD (now (right .entry)) i 0 * 65536) ⌝ }
+{
+    let mut i = 0;
+    while i < ws.len() {
+        ws[i] = joined(left[i], right[i]);
+        i += 1;
+    }
+}
+
+fn joined(low: u16, high: u16) -> u32
+    ensures { λ r. ⌜ r ≡ low + high * 65536 ⌝ }
+{
+    (low as u32) + (high as u32) * 65536
 }
 
 // Premultiplied, if the stops were not.

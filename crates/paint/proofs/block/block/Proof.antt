@@ -19,7 +19,7 @@ radial-block-requires c κs =
     let entry = c .before .before .before .before .before .before .before .before in
     let e = c .before .before .before .g2 .given .1 in
     let h = subst (λ (g : AnyGradient). HeldGradient g (entry .args .ramp .now)) e (entry .pre .0 .0) in
-    ((h .0, h .1, h .2, subst Sloped e (entry .pre .0 .1)), (entry .pre .1 .0, entry .pre .1 .1, entry .pre .1 .2))
+    ((h .0, h .1, h .2, subst Sloped e (entry .pre .0 .1)), entry .pre .1)
 
 returns : tie.Need-returns
 returns c = rw (c .before .before .before .before .before .before .before .before .g .given .1) (c .before .before .before .before .linear-block .ensures)
