@@ -153,13 +153,15 @@ module _ (p : FixedPoints) (apart : natAbs (squaredLength p) ≡ 0 → ⊥) wher
       (sym (shifted (p .x1 -ℤ p .x0) (p .x0) ((p .y1 -ℤ p .y0) *ℤ (centre y -ℤ p .y0)) x j))
       ∙ whole-is-t p apart (x + j) y
 
-  pub line-positions : (spread x y n : ℕ) → Pads spread → n ≤ 128 → natAbs (squaredLength p) < 137438953472
-      → tab n (λ i. positionOf (floorDiv (inParts (quotientAt p x y) (squaredLength p) +ℤ inParts (rowStep p) (squaredLength p) *ℤ pos i) lineParts))
-      ≡ tab n (λ i. positionOf (mapped spread (linearT p (x + i) y)))
-  line-positions spread x y n pads few small =
-      upto-same n _ _
-      (λ i l.
+  pub line-same : (spread x y i : ℕ) → Pads spread → i < 128 → natAbs (squaredLength p) < 137438953472
+      → floorDiv (inParts (quotientAt p x y) (squaredLength p) +ℤ inParts (rowStep p) (squaredLength p) *ℤ pos i) lineParts
+      ≡ mapped spread (linearT p (x + i) y)
+  line-same spread x y i pads few small =
       let few' : i + 1 ≤ 128 = omega arith in
       let small' : natAbs (squaredLength p) ≤ 137438953471 = omega arith in
       let near : (i + 1) * natAbs (squaredLength p) < lineParts = omega (arith, mul-le-mul few' small') in
-      ap (λ (t : ℤ). positionOf t ∷ []) (line-is-t x y i near ∙ sym (pads .same (linearT p (x + i) y))))
+      line-is-t x y i near ∙ sym (pads .same (linearT p (x + i) y))
+
+-- positions of equal t's
+pub positions-same : (n : ℕ) (f g : ℕ → ℤ) → ((i : ℕ) → i < n → f i ≡ g i) → tab n (λ i. positionOf (f i)) ≡ tab n (λ i. positionOf (g i))
+positions-same n f g h = upto-same n _ _ (λ i l. ap (λ (t : ℤ). positionOf t ∷ []) (h i l))

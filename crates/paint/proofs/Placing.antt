@@ -2,10 +2,10 @@
 use mathlib.Core.Path.{_≡_, refl, ap, _∙_}
 use mathlib.Core.Bool.{Bool, true, false, cond}
 use mathlib.Core.List.{List, [], _∷_}
-use Prim.Native.Nat.{ℕ, _≤_, _<_}
+use Prim.Native.Nat.{ℕ, _+_, _-_, _≤_, _<_, min}
 use native.Mathlib.Numerals.{add-one}
 use native.Mathlib.Omega.{arith}
-use borrow.Author.Tests.{le-ltb, ltb-true}
+use borrow.Author.Tests.{le-ltb, ltb-true, ltb-false}
 use lib.Dec.{ltb}
 use lib.IntN.{ℤ, pos, negsuc, _+ℤ_}
 use lib.ListN.{length, getD}
@@ -52,10 +52,32 @@ cut-next (pos n) = by (ltb n rampUnit) refl
     by true e = rw (e, le-ltb n 0 (omega arith))
     by false e = rw (e, le-ltb n 0 (omega arith))
 
+-- t cut to 0..65,535 is one less than its position, cut likewise
+pub cut-same : (t : ℤ) → let v = cond (ltZ t (pos 65535)) t (pos 65535) in cond (ltZ v (pos 0)) (pos 0) v ≡ pos (min (positionOf t - 1) 65535)
+unfolding positionOf
+cut-same (negsuc n) = refl
+cut-same (pos n) = by (ltb n 65535) refl (ltb n rampUnit) refl
+  where
+    by : (a : Bool) → ltb n 65535 ≡ a → (b : Bool) → ltb n rampUnit ≡ b
+        → let v = cond (ltb n 65535) (pos n) (pos 65535) in cond (ltZ v (pos 0)) (pos 0) v ≡ pos (min (positionOf (pos n) - 1) 65535)
+    by true e true f =
+        let m : n ≡ min (n + 1 - 1) 65535 = omega (arith, ltb-true n 65535 e) in
+        rw (e, le-ltb n 0 (omega arith), f) (ap pos m)
+    by true e false f = absurd (omega (arith, ltb-true n 65535 e, ltb-false n rampUnit f))
+    by false e true f =
+        let m : 65535 ≡ min (n + 1 - 1) 65535 = omega (arith, ltb-false n 65535 e, ltb-true n rampUnit f) in
+        rw (e, le-ltb n 0 (omega arith), f) (ap pos m)
+    by false e false f = rw (e, le-ltb n 0 (omega arith), f)
+
 at-position : (spread : ℕ) (premultiply : Bool) (ramp : List Stop) (t : ℤ)
     → colorAtPosition premultiply ramp (positionOf (mapped spread t)) ≡ gradientColor spread premultiply ramp t
 unfolding gradientColor colorAtPosition
 at-position spread premultiply ramp t = ap (λ (p : Pixel). cond premultiply p (premultiplied p)) (same-color ramp (mapped spread t))
+
+pub painted : (spread : ℕ) (premultiply : Bool) (ramp : List Stop) (t : ℤ) (p : Pixel) → p ≡ rampAt ramp (tAt (positionOf (mapped spread t)))
+    → cond premultiply p (premultiplied p) ≡ gradientColor spread premultiply ramp t
+unfolding gradientColor
+painted spread premultiply ramp t p e = ap (λ (p : Pixel). cond premultiply p (premultiplied p)) (e ∙ same-color ramp (mapped spread t))
 
 -- ---- the pixels of a row, whose t are f's
 module _ (n spread : ℕ) (f : ℕ → ℤ) (ks : List ℕ) (e : ks ≡ tab n (λ i. positionOf (mapped spread (f i)))) where

@@ -133,6 +133,12 @@ pub record Lined (spread : ℕ) (q step : Quotient) (d : ℤ) : Type 0 where
   pub growth : natAbs (step .whole) < 1024
   pub length : natAbs d < 137438953472
 
+-- t of the 128 pixels from (x, y) on, as the spread mode maps it, lies on the line, whose numbers fit 64 bits
+pub record Follows (g : LinearGradient) (x y : ℕ) (first step : ℤ) : Type 0 where
+  pub small : natAbs first ≤ 2305843009213693952
+  pub slow : natAbs step ≤ 18014398509481984
+  pub same : (i : ℕ) → i < 128 → floorDiv (first +ℤ step *ℤ pos i) lineParts ≡ mapped (g .spread) (linearT (g .points) (x + i) y)
+
 -- ---- a linear gradient as it is drawn
 abbrev pub linearAt : LinearGradient → List Stop → ℕ → ℕ → Pixel
 linearAt g ramp x y = gradientColor (g .spread) (g .premultiply) ramp (linearT (g .points) x y)

@@ -2,13 +2,16 @@
 use crate::AnyGradient;
 use crate::LinearGradient;
 use crate::RadialGradient;
+use crate::RowLine;
 use crate::Segment;
 use crate::positions::linear_positions;
+use crate::positions::row_line;
 use crate::radial_row::radial_positions;
 use crate::ramp::stop_color;
 use crate::segments::color_in;
 use crate::segments::find;
 use crate::words::finish_words;
+use crate::words::line_words;
 use crate::words::mix_words;
 use crate::words::put_words;
 use crate::words::word;
@@ -22,7 +25,7 @@ ghost use Rattle.raster.specs.Surface.{run};
 ghost use Rattle.paint.specs.Gradient.{squaredLength};
 ghost use Rattle.paint.specs.Radial.{focalAllowed};
 ghost use Rattle.paint.specs.Ramps.{rampAt};
-ghost use Rattle.paint.specs.Buffers.{LimitedPoints, HeldRamp, stopsIn, linearAt};
+ghost use Rattle.paint.specs.Buffers.{LimitedPoints, HeldRamp, Follows, stopsIn, linearAt};
 ghost use Rattle.paint.specs.Circles.{LimitedCircle, HeldGradient, gradientAt, radialAt};
 ghost use Rattle.paint.specs.Segments.{Positions, Serves, Sloped, Words, colorAtPosition, tAt};
 
@@ -46,8 +49,40 @@ fn linear_block(g: LinearGradient, ramp: &[u32], x: usize, y: usize, ks: &mut [u
     requires { ⌜ (x + length (now ks) ≤ 1024) × (y ≤ 1024) × (length (now row) ≡ length (now ks) * 4) × (length (now ks) ≤ 128) ⌝ }
     ensures { λ _. ⌜ now (row .exit) ≡ run (length (now (ks .entry))) (λ i. linearAt g (stopsIn (now (ramp .entry)) (g .count)) (x + i) y) ⌝ }
 {
+    if has_ends_only(ramp, g.count) {
+        let l = row_line(g, x, y, ks.len());
+        if l.serves {
+            line_block(g, l, ramp, x, y, ks, row);
+            return;
+        }
+    }
     linear_positions(g, x, y, ks);
     color_row(g.premultiply, ramp, g.count, ks, row);
+}
+
+// The same of two stops that lie at both ends, where t is a line.
+fn line_block(
+    g: LinearGradient,
+    l: RowLine,
+    ramp: &[u32],
+    x: usize,
+    y: usize,
+    ks: &mut [u32],
+    row: &mut [u8],
+)
+    requires { ⌜ HeldRamp (now ramp) 2 × (getD (now ramp) 2 0 ≡ 65536) × Follows g x y (l .first) (l .step) ⌝ }
+    requires { ⌜ (length (now row) ≡ length (now ks) * 4) × (length (now ks) ≤ 128) ⌝ }
+    ensures { λ _. ⌜ now (row .exit) ≡ run (length (now (ks .entry))) (λ i. linearAt g (stopsIn (now (ramp .entry)) 2) (x + i) y) ⌝ }
+{
+    line_words(
+        stop_color(ramp, 0),
+        stop_color(ramp, 1),
+        l.first,
+        l.step,
+        ks,
+    );
+    finish_words(g.premultiply, ks);
+    put_words(ks, row);
 }
 
 fn radial_block(g: RadialGradient, ramp: &[u32], x: usize, y: usize, ks: &mut [u32], row: &mut [u8])
@@ -79,13 +114,22 @@ fn color_words(ramp: &[u32], count: usize, ks: &mut [u32])
         Words (λ i. rampAt (stopsIn (now (ramp .entry)) count) (tAt (getD (now (ks .entry)) i 0))) (length (now (ks .entry))) (now (ks .exit))
         ⌝ }
 {
-    if count == 2 {
-        if ramp[2] == END {
-            two_words(ramp, ks);
-            return;
-        }
+    if has_ends_only(ramp, count) {
+        two_words(ramp, ks);
+        return;
     }
     segment_words(ramp, count, ks);
+}
+
+// Whether there are two stops, which lie at both ends.
+fn has_ends_only(ramp: &[u32], count: usize) -> bool
+    requires { ⌜ count * 2 ≤ length (now ramp) ⌝ }
+    ensures { λ r. ⌜ (r ≡ true → (count ≡ 2) × (getD (now (ramp .entry)) 2 0 ≡ 65536)) ⌝ }
+{
+    if count == 2 {
+        return ramp[2] == END;
+    }
+    false
 }
 
 // The same of two stops that lie at both ends.

@@ -105,6 +105,13 @@ pub struct Line {
     pub step: i64,
 }
 
+// t along a row as a line, if it serves: what t is at the first pixel, and what it grows by from one to the next, in parts of 2^44.
+pub struct RowLine {
+    pub serves: bool,
+    pub first: i64,
+    pub step: i64,
+}
+
 // A part of a ramp, from one position to before another, between two colours, with a line for each channel. It serves the positions from low on.
 pub struct Segment {
     pub low: u32,

@@ -1,18 +1,19 @@
 // Where on the ramp the pixels of a row lie. A position is 0 before the ramp, t + 1 on it and 65,537 behind it, so that each is a small number.
 use crate::LinearGradient;
 use crate::Quotient;
+use crate::RowLine;
 use crate::gradient;
 use crate::gradient::RAMP_UNIT;
 use crate::segments::BEHIND;
 ghost use mathlib.Core.Path.{_≡_};
-ghost use mathlib.Core.Bool.{true};
-ghost use Prim.Native.Nat.{_+_, _*_, _/_, _≤_, _<_};
+ghost use mathlib.Core.Bool.{true, false};
+ghost use Prim.Native.Nat.{_+_, _-_, _*_, _/_, _≤_, _<_, min};
 ghost use lib.IntN.{pos, natAbs, _+ℤ_, _*ℤ_};
 ghost use lib.ListN.{length};
 ghost use Rattle.fixed.specs.Floor.{floorDiv};
 ghost use Rattle.lists.specs.Lists.{tab};
 ghost use Rattle.paint.specs.Gradient.{squaredLength, linearT, mapped};
-ghost use Rattle.paint.specs.Buffers.{LimitedPoints, Proper, Lined, quotientAt, rowStep, lineParts, inParts};
+ghost use Rattle.paint.specs.Buffers.{LimitedPoints, Proper, Lined, Follows, quotientAt, rowStep, lineParts, inParts};
 ghost use Rattle.paint.specs.Segments.{positionOf};
 
 // The position of t.
@@ -44,8 +45,10 @@ const STEP_LIMIT: i64 = 1024;
 // For fewer pixels the divisions that begin a line cost more than it saves.
 const LINE_LEAST: usize = 16;
 
-// t where a ramp ends, in 32 bits.
+// t where a ramp ends, and the last one on it, in 32 bits.
 const RAMP_END: i32 = 65536;
+
+const RAMP_LAST: i32 = 65535;
 
 // The positions of the pixels from (x, y) on, of two points that do not coincide: t goes from pixel to pixel without a division.
 pub fn linear_positions(g: LinearGradient, x: usize, y: usize, ks: &mut [u32])
@@ -53,24 +56,55 @@ pub fn linear_positions(g: LinearGradient, x: usize, y: usize, ks: &mut [u32])
     requires { ⌜ (x + length (now ks) ≤ 1024) × (y ≤ 1024) × (length (now ks) ≤ 128) ⌝ }
     ensures { λ _. ⌜ now (ks .exit) ≡ tab (length (now (ks .entry))) (λ i. positionOf (mapped (g .spread) (linearT (g .points) (x + i) y))) ⌝ }
 {
+    let l = row_line(g, x, y, ks.len());
+    if l.serves {
+        along_line(l.first, l.step, ks);
+        return;
+    }
     let p = g.points;
     let d = gradient::squared_length(p);
     let step = gradient::row_step(p);
     let q = gradient::quotient_at(p, x, y);
-    if has_line(g.spread, ks.len(), q, step, d) {
-        along_line(in_parts(q, d), in_parts(step, d), ks);
-        return;
-    }
     along_quotients(g, x, y, q, step, d, ks);
 }
 
-// Whether a line serves for n pixels.
-fn has_line(spread: u32, n: usize, q: Quotient, step: Quotient, d: i64) -> bool
-    ensures { λ r. ⌜ (r ≡ true → Lined spread q step d) ⌝ }
+// t of the n pixels from (x, y) on as a line, if there is one.
+pub fn row_line(g: LinearGradient, x: usize, y: usize, n: usize) -> RowLine
+    requires { ⌜ LimitedPoints (g .points) × (natAbs (squaredLength (g .points)) ≡ 0 → ⊥) ⌝ }
+    requires { ⌜ (x ≤ 1024) × (y ≤ 1024) ⌝ }
+    ensures { λ l. ⌜ (l .serves ≡ true → Follows g x y (l .first) (l .step)) ⌝ }
 {
     if n < LINE_LEAST {
-        return false;
+        return no_line();
     }
+    let p = g.points;
+    let d = gradient::squared_length(p);
+    let step = gradient::row_step(p);
+    let q = gradient::quotient_at(p, x, y);
+    if has_line(g.spread, q, step, d) {
+        return RowLine {
+            serves: true,
+            first: in_parts(q, d),
+            step: in_parts(step, d),
+        };
+    }
+    no_line()
+}
+
+fn no_line() -> RowLine
+    ensures { λ l. ⌜ l .serves ≡ false ⌝ }
+{
+    RowLine {
+        serves: false,
+        first: 0,
+        step: 0,
+    }
+}
+
+// Whether a line serves.
+fn has_line(spread: u32, q: Quotient, step: Quotient, d: i64) -> bool
+    ensures { λ r. ⌜ (r ≡ true → Lined spread q step d) ⌝ }
+{
     if !gradient::pads(spread) {
         return false;
     }
@@ -138,6 +172,42 @@ fn padded(t: i32) -> u32
     let v = if t < RAMP_END { t } else { RAMP_END };
     let w = if v < 0 { -1 } else { v };
     (w + 1) as u32
+}
+
+// t of pixels whose t is a line in parts, cut to 0..65,535: twice, for two pairs of channels.
+pub fn line_ts(first: i64, step: i64, left: &mut [u16], right: &mut [u16])
+    requires { ⌜ (natAbs first ≤ 2305843009213693952) × (natAbs step ≤ 18014398509481984) ⌝ }
+    requires { ⌜ (length (now right) ≡ length (now left)) × (length (now left) ≤ 128) ⌝ }
+    ensures { λ _. ⌜
+        now (left .exit) ≡ tab (length (now (left .entry))) (λ i. min (positionOf (floorDiv (first +ℤ step *ℤ pos i) lineParts) - 1) 65535)
+        ⌝ }
+    ensures { λ _. ⌜ now (right .exit) ≡ now (left .exit) ⌝ }
+{
+    let mut t = first;
+    let mut i = 0;
+    while i < left.len() {
+        let u = cut_in_parts(t);
+        left[i] = u;
+        right[i] = u;
+        t += step;
+        i += 1;
+    }
+}
+
+// t in parts, cut.
+fn cut_in_parts(t: i64) -> u16
+    requires { ⌜ natAbs t ≤ 4611686018427387904 ⌝ }
+    ensures { λ k. ⌜ k ≡ min (positionOf (floorDiv t lineParts) - 1) 65535 ⌝ }
+{
+    cut(((t >> 32) as i32) >> 12)
+}
+
+fn cut(t: i32) -> u16
+    ensures { λ k. ⌜ k ≡ min (positionOf t - 1) 65535 ⌝ }
+{
+    let v = if t < RAMP_LAST { t } else { RAMP_LAST };
+    let w = if v < 0 { 0 } else { v };
+    w as u16
 }
 
 // The positions of the pixels from (x, y) on, of any gradient. t at the first of them is given, and so is what it grows by; x and y are for the contract.

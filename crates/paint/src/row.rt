@@ -5,6 +5,7 @@ use crate::RadialGradient;
 use crate::block::block;
 use crate::gradient;
 use crate::shade::gradient_color;
+use crate::words::BLOCK;
 use color::Color;
 use color::Pixel;
 ghost use mathlib.Core.Path.{_≡_};
@@ -24,9 +25,6 @@ pub fn solid_pixel(c: Color) -> Pixel
 {
     c.to_bytes().premultiplied()
 }
-
-// How many pixels are made at a time.
-const BLOCK: usize = 128;
 
 // The pixels (x, y) to (x + n - 1, y) of a gradient.
 pub fn gradient_row(g: AnyGradient, ramp: &[u32], x: usize, y: usize, n: usize, row: &mut [u8])

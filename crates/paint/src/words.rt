@@ -1,4 +1,5 @@
 // The pixels of a block as numbers of 32 bits, R lowest: each loop here is one of plain numbers, which the compiler does several at a time.
+use crate::positions::line_ts;
 use crate::ramp::pack;
 use crate::ramp::unpack;
 use crate::segments::greatest;
@@ -6,13 +7,18 @@ use color::Pixel;
 ghost use mathlib.Core.Path.{_≡_};
 ghost use mathlib.Core.Bool.{cond};
 ghost use Prim.Native.Nat.{_+_, _-_, _*_, _≤_, _<_, min};
+ghost use lib.IntN.{pos, natAbs, _+ℤ_, _*ℤ_};
 ghost use lib.ListN.{length, getD};
+ghost use Rattle.fixed.specs.Floor.{floorDiv};
 ghost use Rattle.lists.specs.Lists.{tab};
 ghost use Rattle.color.specs.Channels.{premultiplied};
 ghost use Rattle.raster.specs.Surface.{run};
 ghost use Rattle.paint.specs.Ramps.{mixByte, mixPixel};
-ghost use Rattle.paint.specs.Buffers.{unpacked};
-ghost use Rattle.paint.specs.Segments.{Words, Covering, OnRamp, twoStops, mixPair};
+ghost use Rattle.paint.specs.Buffers.{unpacked, lineParts};
+ghost use Rattle.paint.specs.Segments.{Words, Covering, OnRamp, positionOf, twoStops, mixPair};
+
+// How many pixels are made at a time.
+pub const BLOCK: usize = 128;
 
 // A pixel as one number.
 pub fn word(c: Pixel) -> u32
@@ -26,8 +32,8 @@ pub fn mix_words(c: Pixel, d: Pixel, ks: &mut [u32])
     requires { ⌜ length (now ks) ≤ 128 ⌝ }
     ensures { λ _. ⌜ Words (λ i. twoStops c d (getD (now (ks .entry)) i 0)) (length (now (ks .entry))) (now (ks .exit)) ⌝ }
 {
-    let mut left = [0u16; 128];
-    let mut right = [0u16; 128];
+    let mut left = [0u16; BLOCK];
+    let mut right = [0u16; BLOCK];
     mix_in(c, d, &mut left, &mut right, ks);
 }
 
@@ -47,6 +53,58 @@ fn mix_planes(c: Pixel, d: Pixel, left: &mut [u16], right: &mut [u16], ks: &mut 
 {
     take_ts(ks, left, right);
     mix_ts(c, d, left, right, ks);
+}
+
+// The colours between two stops at 0 and 65,536 of pixels whose t is a line.
+pub fn line_words(c: Pixel, d: Pixel, first: i64, step: i64, ws: &mut [u32])
+    requires { ⌜ (natAbs first ≤ 2305843009213693952) × (natAbs step ≤ 18014398509481984) × (length (now ws) ≤ 128) ⌝ }
+    ensures { λ _. ⌜
+        Words (λ i. twoStops c d (positionOf (floorDiv (first +ℤ step *ℤ pos i) lineParts))) (length (now (ws .entry))) (now (ws .exit))
+        ⌝ }
+{
+    let mut left = [0u16; BLOCK];
+    let mut right = [0u16; BLOCK];
+    line_in(c, d, first, step, &mut left, &mut right, ws);
+}
+
+// The same with room for the pairs of a block.
+fn line_in(
+    c: Pixel,
+    d: Pixel,
+    first: i64,
+    step: i64,
+    left: &mut [u16],
+    right: &mut [u16],
+    ws: &mut [u32],
+)
+    requires { ⌜ (natAbs first ≤ 2305843009213693952) × (natAbs step ≤ 18014398509481984) ⌝ }
+    requires { ⌜ (length (now left) ≡ 128) × (length (now right) ≡ 128) × (length (now ws) ≤ 128) ⌝ }
+    ensures { λ _. ⌜
+        Words (λ i. twoStops c d (positionOf (floorDiv (first +ℤ step *ℤ pos i) lineParts))) (length (now (ws .entry))) (now (ws .exit))
+        ⌝ }
+{
+    let n = ws.len();
+    line_planes(c, d, first, step, &mut left[0..n], &mut right[0..n], ws);
+}
+
+// The same with as much room as there are pixels.
+fn line_planes(
+    c: Pixel,
+    d: Pixel,
+    first: i64,
+    step: i64,
+    left: &mut [u16],
+    right: &mut [u16],
+    ws: &mut [u32],
+)
+    requires { ⌜ (natAbs first ≤ 2305843009213693952) × (natAbs step ≤ 18014398509481984) ⌝ }
+    requires { ⌜ (length (now left) ≡ length (now ws)) × (length (now right) ≡ length (now ws)) × (length (now ws) ≤ 128) ⌝ }
+    ensures { λ _. ⌜
+        Words (λ i. twoStops c d (positionOf (floorDiv (first +ℤ step *ℤ pos i) lineParts))) (length (now (ws .entry))) (now (ws .exit))
+        ⌝ }
+{
+    line_ts(first, step, left, right);
+    mix_ts(c, d, left, right, ws);
 }
 
 // t at each position, for both pairs.

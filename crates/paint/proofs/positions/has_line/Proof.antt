@@ -13,16 +13,16 @@ passed : (b : Bool) → not b ≡ false → b ≡ true
 passed true e = refl
 passed false e = absurd (subst T e tt)
 
-returns-5 : tie.Need-returns-5
-returns-5 c e =
+returns-4 : tie.Need-returns-4
+returns-4 c e =
     let after-step = c .before .before in
     let after-first = after-step .before .before .before in
     let after-pads = after-first .before .before .before in
-    let entry = after-pads .before .before in
-    let first = after-first .is-below .ensures (passed _ (after-step .before .before .if3 .left)) in
-    let step = after-step .is-below2 .ensures (passed _ (c .before .if4 .left)) in
+    let entry = after-pads .before in
+    let first = after-first .is-below .ensures (passed _ (after-step .before .before .if2 .left)) in
+    let step = after-step .is-below2 .ensures (passed _ (c .before .if3 .left)) in
     record {
-      pads = after-pads .pads .ensures (passed _ (after-first .before .before .if2 .left));
+      pads = after-pads .pads .ensures (passed _ (after-first .before .before .if1 .left));
       whole = rw (back w64 (entry .args .q .whole) (after-first .before .struct-told .given .0 .1)) at first;
       growth = rw (back w64 (entry .args .step .whole) (after-step .before .struct-told2 .given .0 .1)) at step;
       length = rw (toZ-ofZ (entry .fits .d)) at (c .is-below3 .ensures e);
@@ -32,7 +32,6 @@ pub has-line-spec : {M : Type 1} → statement M
 has-line-spec =
     tie.close
     (tie.spec
-    (λ c e. absurd (subst T (sym e) tt))
     (λ c κs. tt)
     (λ c e. absurd (subst T (sym e) tt))
     (λ c κs. lit≤ tt)
@@ -40,4 +39,4 @@ has-line-spec =
     (λ c κs. lit≤ tt)
     (λ c e. absurd (subst T (sym e) tt))
     (λ c κs. lit≤ tt)
-    returns-5)
+    returns-4)

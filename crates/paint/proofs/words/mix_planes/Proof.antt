@@ -1,6 +1,6 @@
 -- `words::mix_planes` meets its contract.
 use mathlib.Core.Path.{refl, _∙_}
-use Prim.Native.Nat.{ℕ, _-_}
+use Prim.Native.Nat.{_-_}
 use lib.ListN.{length, getD}
 use Rattle.paint.proofs.Pairs.{cut-on-ramp, cut-words}
 use borrow.Author.Needs.{needs}
@@ -16,10 +16,11 @@ mix-ts-requires c κs =
 
 returns : tie.Need-returns
 returns c =
-    let call = c .before .before .before .before .before .before .before .before .before .before .before .before .before .before .take-ts in
-    let a = c .before .before .before .before .before .before .before .before .before .before .before .before .before .before .before .before .before .before .before .before .before .args in
+    let after-mix = c .before .before .before .before .before .before in
+    let after-ts = after-mix .before .before .before .before .before .before .before .before in
+    let a = after-ts .before .before .before .before .before .before .before .args in
     let ks = a .ks .now in
-    cut-words (length ks) (λ i. getD ks i 0 - 1) _ (call .ensures .0) (a .c) (a .d) (length ks) _ refl (c .before .before .before .before .before .before .mix-ts .ensures)
+    cut-words (length ks) (λ i. getD ks i 0 - 1) _ (after-ts .take-ts .ensures .0) (a .c) (a .d) (length ks) _ refl (after-mix .mix-ts .ensures)
 
 pub mix-planes-spec : {M : Type 1} → statement M
 mix-planes-spec =

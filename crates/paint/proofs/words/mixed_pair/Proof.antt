@@ -3,7 +3,6 @@ use mathlib.Core.Path.{ap₂}
 use Prim.Native.Nat.{ℕ, _+_, _*_}
 use native.Mathlib.Omega.{arith}
 use Rattle.paint.specs.Segments.{mixPair}
-use borrow.Author.Needs.{needs}
 use Rattle.paint.proofs.words.mixed_pair.Statement.{statement}
 use Rattle.paint.proofs.words.mixed_pair.Tie as tie
 

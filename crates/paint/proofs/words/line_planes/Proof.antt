@@ -1,0 +1,65 @@
+-- `words::line_planes` meets its contract.
+use mathlib.Core.Path.{_≡_, sym, ap₂, _∙_}
+use Prim.Native.Nat.{ℕ, _-_, min}
+use native.Mathlib.Omega.{arith}
+use lib.IntN.{ℤ, pos, _+ℤ_, _*ℤ_}
+use lib.ListN.{length}
+use mir.Facts.{toZ-ofZ}
+use Rattle.lists.specs.Lists.{tab}
+use Rattle.fixed.specs.Floor.{floorDiv}
+use Rattle.paint.specs.Buffers.{lineParts}
+use Rattle.paint.specs.Segments.{positionOf}
+use Rattle.paint.proofs.Pairs.{cut-on-ramp, cut-words}
+use borrow.Author.Needs.{needs}
+use Rattle.paint.proofs.words.line_planes.Statement.{statement}
+use Rattle.paint.proofs.words.line_planes.Tie as tie
+
+-- t at the ith pixel
+abbrev t : tie.Start → ℕ → ℕ
+t c i = positionOf (floorDiv (c .args .first +ℤ c .args .step *ℤ pos i) lineParts) - 1
+
+line-ts-requires : tie.Need-line-ts-requires
+line-ts-requires c κs =
+    let entry = c .before .before .before .before .before in
+    rw (toZ-ofZ (entry .fits .first), toZ-ofZ (entry .fits .step)) (
+      entry .pre .0,
+      (entry .pre .1 .1 ∙ sym (entry .pre .1 .0), omega (arith, entry .pre .1 .0, entry .pre .1 .2)),
+    )
+
+-- what it wrote
+written : (c : tie.After-line-ts)
+    → let entry = c .before .before .before .before .before .before in
+    c .line-ts .last .1 .1 .0 ≡ tab (length (entry .args .left .now)) (λ i. min (t entry i) 65535)
+written c =
+    let entry = c .before .before .before .before .before .before in
+    c .line-ts .ensures .0
+    ∙ ap₂ (λ (first step : ℤ). tab (length (entry .args .left .now)) (λ i. min (positionOf (floorDiv (first +ℤ step *ℤ pos i) lineParts) - 1) 65535))
+    (toZ-ofZ (entry .fits .first)) (toZ-ofZ (entry .fits .step))
+
+mix-ts-requires : tie.Need-mix-ts-requires
+mix-ts-requires c κs =
+    let after-ts = c .before .before .before .before .before .before .before in
+    let call = after-ts .line-ts in
+    let entry = after-ts .before .before .before .before .before .before in
+    let on = cut-on-ramp (length (entry .args .left .now)) (t entry) _ (written after-ts) in
+    (on, call .ensures .1, call .kept .1 .1 .0 ∙ entry .pre .1 .0, entry .pre .1 .2)
+
+returns : tie.Need-returns
+returns c =
+    let after-ts = c .before .before .before .before .before .before .before .before .before .before .before .before .before .before in
+    let entry = after-ts .before .before .before .before .before .before in
+    let a = entry .args in
+    let mixed = c .before .before .before .before .before .before .mix-ts .ensures in
+    let words = cut-words (length (a .left .now)) (t entry) _ (written after-ts) (a .c) (a .d) (length (a .ws .now)) _ (sym (entry .pre .1 .0)) mixed in
+    record { long = words .long ∙ entry .pre .1 .0; color = λ i h. words .color i (omega (arith, h, entry .pre .1 .0)) }
+
+pub line-planes-spec : {M : Type 1} → statement M
+line-planes-spec =
+    tie.close
+    (tie.spec
+    line-ts-requires
+    mix-ts-requires
+    (λ c. search needs)
+    (λ c. search needs)
+    (λ c. search needs)
+    returns)
