@@ -62,7 +62,8 @@ draw-byte s i j k h l g =
 -- one byte more of two draws
 pub draw-more : (s t : List ℕ) (i j k : ℕ) → blockBytes * blockOf (i + 1) ≤ length s → blockBytes * blockOf (i + 1) ≤ length t → j < drawBlocks
     → k < payloadBytes
-    → (sameTo (drawOf s i) (drawOf t i) (payloadBytes * j + k) && eqb (getD s (blockBytes * (blockOf i + j) + k) 0) (getD t (blockBytes * (blockOf i + j) + k) 0))
+    → (sameTo (drawOf s i) (drawOf t i) (payloadBytes * j + k)
+    && eqb (getD s (blockBytes * (blockOf i + j) + k) 0) (getD t (blockBytes * (blockOf i + j) + k) 0))
     ≡ sameTo (drawOf s i) (drawOf t i) (payloadBytes * j + (k + 1))
 draw-more s t i j k h g l m =
     let e : payloadBytes * j + k + 1 ≡ payloadBytes * j + (k + 1) = omega arith in

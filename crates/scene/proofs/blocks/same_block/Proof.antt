@@ -34,7 +34,8 @@ loop-again c =
       search needs,
       c .still-same .ensures
           ∙ ap (λ (b : Bool). b && eqb (getD (a .s .now) at 0) (getD (a .t .now) at 0)) (l .inv .1)
-          ∙ draw-more (a .s .now) (a .t .now) (a .i) (a .j) (l .k) (entry .pre .0 .0) (entry .pre .0 .1) (entry .pre .0 .2) (c .before .before .before .loop-test .taken),
+          ∙ draw-more (a .s .now) (a .t .now) (a .i) (a .j) (l .k) (entry .pre .0 .0) (entry .pre .0 .1) (entry .pre .0 .2)
+          (c .before .before .before .loop-test .taken),
     )
 
 returns : tie.Need-returns Inv-loop μ-loop
