@@ -1,4 +1,4 @@
-// From what begins at each column to runs of pixels that are covered alike. Only marked groups of pixels and marked pixels are looked at.
+// From what begins at each column to runs of pixels that are covered alike. Of a group only the pixels from its first mark to its last are looked at.
 use crate::Cell;
 use crate::samples::take_cell;
 use rect::least;

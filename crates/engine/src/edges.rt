@@ -1,4 +1,4 @@
-// A draw's edges in the scratch, which is zero before and after.
+// A draw's edges in the scratch, which is zero before and after, and rectangles that hold its box.
 use rect::Rect;
 ghost use mathlib.Core.Path.{_≡_};
 ghost use mathlib.Core.List.{_++_};

@@ -1,4 +1,4 @@
-// The paint of a block of pixels, by their positions on the ramp.
+// The paint of a block of pixels, by their positions on the ramp, or straight from t where it is a line.
 use crate::AnyGradient;
 use crate::LinearGradient;
 use crate::RadialGradient;
@@ -132,7 +132,7 @@ fn has_ends_only(ramp: &[u32], count: usize) -> bool
     false
 }
 
-// The same of two stops that lie at both ends.
+// The ramp's colours in place of positions, of two stops that lie at both ends.
 fn two_words(ramp: &[u32], ks: &mut [u32])
     requires { ⌜ HeldRamp (now ramp) 2 × (getD (now ramp) 2 0 ≡ 65536) × Positions (now ks) ⌝ }
     ensures { λ _. ⌜

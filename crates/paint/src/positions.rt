@@ -1,4 +1,5 @@
-// Where on the ramp the pixels of a row lie. A position is 0 before the ramp, t + 1 on it and 65,537 behind it, so that each is a small number.
+// Where on the ramp the pixels of a row lie, and t along a row, as a line where it is one. A position is 0 before the ramp, t + 1 on it and 65,537
+// behind it, so that each is a small number.
 use crate::LinearGradient;
 use crate::Quotient;
 use crate::RowLine;
@@ -42,7 +43,7 @@ const FIRST_LIMIT: i64 = 131072;
 
 const STEP_LIMIT: i64 = 1024;
 
-// For fewer pixels the divisions that begin a line cost more than it saves.
+// For fewer pixels the divisions that begin a line leave little to save.
 const LINE_LEAST: usize = 16;
 
 // t where a ramp ends, and the last one on it, in 32 bits.

@@ -111,7 +111,7 @@ pub fn root_guess(q: i64) -> u64
     closer(n, closer(n, guess_on_line(n)))
 }
 
-// The root of n = 4^k m, with m from 1 to 4, as 2^k (m / 3 + 11 / 16): at most a twentieth of it is missing or too much.
+// The root of n = 4^k m, with m from 1 to 4, as 2^k (m / 3 + 11 / 16): of a large one at most a twentieth is missing or too much.
 fn guess_on_line(n: u64) -> u64 {
     let upper = raised(n, raised(n, 0, 16), 8);
     let k = raised(n, raised(n, raised(n, upper, 4), 2), 1);
@@ -171,7 +171,7 @@ pub fn t_of(a: i64, q: u64, d: i64, reciprocal: u64) -> u64
     quotient_near(65536 * u, d as u64, u * reciprocal / 2147483648)
 }
 
-// n / d, from a guess, which may be any number.
+// n / d, from a guess of at most 2^33, right or not.
 fn quotient_near(n: u64, d: u64, guess: u64) -> u64
     requires { ⌜ (0 < d) × (d ≤ 268435456) × (guess ≤ 8589934592) ⌝ }
     ensures { λ q. ⌜ q ≡ n / d ⌝ }

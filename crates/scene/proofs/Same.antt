@@ -1,4 +1,4 @@
--- Lists whose first n bytes are the same.
+-- Lists whose first n bytes are the same, and the bytes of a draw where they stand in its file.
 use mathlib.Core.Path.{_≡_, refl, sym, ap, ap₂, _∙_}
 use mathlib.Core.List.{List, _++_}
 use mathlib.Core.Bool.{Bool, true, false, _&&_}

@@ -4,7 +4,6 @@ use crate::Column;
 use crate::layout::BLOCK_BYTES;
 use crate::layout::CHECK_MODULUS;
 use crate::layout::DRAW_BLOCKS;
-use crate::layout::DRAW_BYTES;
 use crate::layout::PAYLOAD_BYTES;
 use fixed::u16_at;
 ghost use mathlib.Core.Path.{_≡_};

@@ -24,7 +24,7 @@ const BLOCK_BYTES: usize = 64;
 // The size that a scale may have, so that it fits 16 bits.
 const SCALE_LIMIT: u16 = 32767;
 
-// The size that a bias may have, which is 1.
+// The largest size of a bias: 1, in 1/256.
 const BIAS_LIMIT: u16 = 256;
 
 // Whether a row's n pixels all have the alpha 255: then the bits that all of them have are a number as large as the alpha 255 makes one.

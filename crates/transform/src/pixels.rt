@@ -50,7 +50,7 @@ fn keeps_opaque(t: FixedTransform) -> bool
     false
 }
 
-// The same with the table lent. A pixel that is equal to the one before it, as it often is in a gradient, takes its colour.
+// The pixels of a row with the table lent. A pixel that is equal to the one before it, as it often is in a gradient, takes its colour.
 fn transform_pixels(t: FixedTransform, table: &[u32], row: &mut [u8], n: usize)
     requires { ⌜ (now table ≡ reciprocals) × (length (now row) ≡ n * 4) ⌝ }
     ensures { λ _. ⌜ now (row .exit) ≡ run n (λ i. transformed t (pixelIn (now (row .entry)) i)) ⌝ }

@@ -1,3 +1,4 @@
+-- `engine::edges::draw_hull` meets its contract.
 use Rattle.engine.specs.Picture.{drawEdges}
 use Rattle.engine.proofs.Scratch.{flatten-asked}
 use borrow.Author.Needs.{needs}
