@@ -1,12 +1,12 @@
 -- Marks in two levels: one more mark, none, and pixels without one.
-use mathlib.Core.Path.{_≡_, refl, sym, ap, subst, _∙_}
+use mathlib.Core.Path.{_≡_, refl, ap, subst, _∙_}
 use mathlib.Core.List.{List}
-use mathlib.Core.Bool.{Bool, true, false, cond}
+use mathlib.Core.Bool.{Bool, true, false}
 use Prim.Native.Nat.{ℕ, _+_, _-_, _*_, _/_, _%_, _≤_, _<_, min, max}
 use native.Mathlib.Omega.{arith}
 use native.Mathlib.Decide.{ℕ-discrete}
-use lib.Dec.{eqb, ltb}
-use borrow.Author.Tests.{eqb-false, ltb-true, ltb-false}
+use lib.Dec.{ltb}
+use borrow.Author.Tests.{ltb-true, ltb-false}
 use lib.ListN.{length, getD, set, length-set}
 use lib.Seq.{getD-set-same, getD-set-other}
 use Rattle.lists.specs.Lists.{tab}
@@ -60,7 +60,7 @@ module _ (groups : List ℕ) (p : ℕ) (h : p < 1024) (long : length groups ≡ 
   unfolding touched
   begin-touched = raised-reached (raised groups (p / 32) (p + 1)) (32 + p / 32) (32 - p % 32) there
 
-touched-grouped : (marks groups : List ℕ) (p : ℕ) → p < length marks → Grouped marks groups → Grouped (set marks p 1) (touched groups p)
+pub touched-grouped : (marks groups : List ℕ) (p : ℕ) → p < length marks → Grouped marks groups → Grouped (set marks p 1) (touched groups p)
 touched-grouped marks groups p h g = record {
   wide = omega (arith, wide, g .wide);
   long = touched-long groups p low (g .long);
@@ -86,29 +86,6 @@ touched-grouped marks groups p h g = record {
     before i e q =
         let r : getD (touched groups p) (32 + p / 32) 0 + p % 32 < 32 = subst (λ (j : ℕ). getD (touched groups p) (32 + j / 32) 0 + j % 32 < 32) e q in
         absurd (omega (arith, r, begin-touched groups p low (g .long)))
-
--- a mark over a mark
-again-grouped : (marks groups : List ℕ) (p : ℕ) → p < length marks → (getD marks p 0 ≡ 0 → ⊥) → Grouped marks groups → Grouped (set marks p 1) groups
-again-grouped marks groups p h m g = record {
-  wide = omega (arith, wide, g .wide);
-  long = g .long;
-  ended = λ i l q. by i (g .ended i (omega (arith, wide)) q);
-  begun = λ i l q. by i (g .begun i (omega (arith, wide)) q);
-}
-  where
-    wide : length (set marks p 1) ≡ length marks
-    wide = length-set marks p 1
-
-    by : (i : ℕ) → getD marks i 0 ≡ 0 → getD (set marks p 1) i 0 ≡ 0
-    by i q = getD-set-other marks p i 1 0 (λ e. m (ap (λ (j : ℕ). getD marks j 0) (sym e) ∙ q)) ∙ q
-
-pub marked-grouped : (marks groups : List ℕ) (p mark : ℕ) → p < length marks → mark ≡ getD marks p 0 → Grouped marks groups
-    → Grouped (set marks p 1) (cond (eqb mark 0) (touched groups p) groups)
-marked-grouped marks groups p mark h o g = by (eqb mark 0) refl
-  where
-    by : (t : Bool) → eqb mark 0 ≡ t → Grouped (set marks p 1) (cond t (touched groups p) groups)
-    by true q = touched-grouped marks groups p h g
-    by false q = again-grouped marks groups p h (λ e. eqb-false mark 0 q (o ∙ e)) g
 
 -- no pixel is marked: the groups may be anything
 pub none-grouped : {groups : List ℕ} (marks : List ℕ) (n : ℕ) → marks ≡ tab n (λ j. 0) → length marks ≡ n → n ≤ 1024 → length groups ≡ 64 → Grouped marks groups

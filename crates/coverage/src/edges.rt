@@ -61,9 +61,8 @@ fn put(
     if cover.len() <= p {
         return;
     }
-    let mark = cover[p];
     cover[p] = 1;
-    touch(groups, p, mark);
+    touch(groups, p);
     let i = base + (at * 4 + r);
     let v = scratch[i] + by;
     scratch[i] = v;

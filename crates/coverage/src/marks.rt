@@ -3,20 +3,15 @@
 // there is none.
 use rect::most;
 ghost use mathlib.Core.Path.{_≡_};
-ghost use mathlib.Core.Bool.{cond};
 ghost use Prim.Native.Nat.{_<_, _≤_};
-ghost use lib.Dec.{eqb};
 ghost use lib.ListN.{length};
 ghost use Rattle.coverage.specs.Marks.{raised, touched};
 
-// Notes for its group that pixel p is marked, if it was not.
-pub fn touch(groups: &mut [u16], p: usize, mark: u8)
+// Notes for its group that pixel p is marked.
+pub fn touch(groups: &mut [u16], p: usize)
     requires { ⌜ (p < 1024) × (length (now groups) ≡ 64) ⌝ }
-    ensures { λ _. ⌜ now (groups .exit) ≡ cond (eqb mark 0) (touched (now (groups .entry)) p) (now (groups .entry)) ⌝ }
+    ensures { λ _. ⌜ now (groups .exit) ≡ touched (now (groups .entry)) p ⌝ }
 {
-    if mark != 0 {
-        return;
-    }
     raise(groups, p / 32, p + 1);
     raise(groups, 32 + p / 32, 32 - p % 32);
 }

@@ -13,7 +13,7 @@ use Rattle.fixed.proofs.Means.{Num, need, keep, add}
 use Rattle.coverage.specs.Scanline.{bumped}
 use Rattle.coverage.specs.Marks.{Grouped}
 use Rattle.coverage.proofs.Begin.{sized}
-use Rattle.coverage.proofs.Groups.{marked-grouped}
+use Rattle.coverage.proofs.Groups.{touched-grouped}
 use borrow.Author.Needs.{needs}
 use Rattle.coverage.proofs.edges.put.Statement.{statement}
 use Rattle.coverage.proofs.edges.put.Tie as tie
@@ -34,14 +34,11 @@ returns c =
       (sym (set-out (a .cover .now) (a .at / 4) 1 (omega arith)), entry .pre .1 .0),
     )
 
-slice-read-mark : tie.Need-slice-read-mark
-slice-read-mark c = search needs
-
 slice-write-cover : tie.Need-slice-write-cover
 slice-write-cover c = search needs
 
 touch-requires : tie.Need-touch-requires
-touch-requires c κs = let entry = c .before .before .before .before .before in (omega (arith, entry .pre .1 .0 .wide), entry .pre .1 .0 .long)
+touch-requires c κs = let entry = c .before .before .before .before in (omega (arith, entry .pre .1 .0 .wide), entry .pre .1 .0 .long)
 
 mul-i : tie.Need-mul-i
 mul-i c = search needs
@@ -59,7 +56,7 @@ slice-copy-out-v : tie.Need-slice-copy-out-v
 slice-copy-out-v c = search needs
 
 add-v : tie.Need-add-v
-add-v c = need (sum (c .before .before .before .before .before .before)) tt
+add-v c = need (sum (c .before .before .before .before .before)) tt
 
 mul-v-2 : tie.Need-mul-v-2
 mul-v-2 c = search needs
@@ -78,7 +75,7 @@ same-length-3 c = search needs
 
 returns-2 : tie.Need-returns-2
 returns-2 c =
-    let e = c .before .before .before .before .before .before in
+    let e = c .before .before .before .before .before in
     let entry = e .before .before .before in
     let a = entry .args in (
       ap (set (a .scratch .now) (a .base + (a .at * 4 + a .r))) (keep w32 (sum e) tt .same)
@@ -87,7 +84,7 @@ returns-2 c =
       (
         refl,
         subst (λ (t : List ℕ). Grouped (set (a .cover .now) (a .at / 4) 1) t) (sym (c .before .before .before .touch .ensures))
-            (marked-grouped (a .cover .now) (a .groups .now) (a .at / 4) (getD (a .cover .now) (a .at / 4) 0) (omega arith) refl (entry .pre .1 .0)),
+            (touched-grouped (a .cover .now) (a .groups .now) (a .at / 4) (omega arith) (entry .pre .1 .0)),
       ),
     )
 
@@ -96,7 +93,6 @@ put-spec =
     tie.close
     (tie.spec
     returns
-    slice-read-mark
     slice-write-cover
     touch-requires
     mul-i

@@ -1,15 +1,11 @@
 -- `coverage::marks::touch` meets its contract. Assumes nothing.
-use mathlib.Core.Path.{refl, ap, _∙_}
+use mathlib.Core.Path.{ap, _∙_}
 use mathlib.Core.List.{List}
 use Prim.Native.Nat.{ℕ, _+_, _-_, _/_, _%_}
-use borrow.Author.Tests.{eq-eqb, ne-eqb}
 use Rattle.coverage.specs.Marks.{raised, touched}
 use borrow.Author.Needs.{needs}
 use Rattle.coverage.proofs.marks.touch.Statement.{statement}
 use Rattle.coverage.proofs.marks.touch.Tie as tie
-
-returns : tie.Need-returns
-returns c = let entry = c .before .before in rw (ne-eqb (entry .args .mark) 0 (c .if1 .taken)) refl
 
 add-raise : tie.Need-add-raise
 add-raise c = search needs
@@ -29,24 +25,22 @@ raise-requires-2 c κs = search needs
 same-length : tie.Need-same-length
 same-length c = search needs
 
-returns-2 : tie.Need-returns-2
+returns : tie.Need-returns
 unfolding touched
-returns-2 c =
-    let entry = c .before .before .before .before .before .before .before .before .before .before in
+returns c =
+    let entry = c .before .before .before .before .before .before .before .before .before in
     let p = entry .args .p in
     let one = c .before .before .before .before .before .before .raise in
-    rw (eq-eqb (entry .args .mark) 0 (c .before .before .before .before .before .before .before .before .if1 .left))
-    (c .before .before .raise2 .ensures ∙ ap (λ (s : List ℕ). raised s (32 + p / 32) (32 - p % 32)) (one .ensures))
+    c .before .before .raise2 .ensures ∙ ap (λ (s : List ℕ). raised s (32 + p / 32) (32 - p % 32)) (one .ensures)
 
 pub touch-spec : {M : Type 1} → statement M
 touch-spec =
     tie.close
     (tie.spec
-    returns
     add-raise
     raise-requires
     add-raise-2
     sub-raise
     raise-requires-2
     same-length
-    returns-2)
+    returns)
