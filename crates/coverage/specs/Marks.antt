@@ -1,15 +1,15 @@
--- Marks in two levels: a number for each pixel of a window, two for 32 of them. A reviewer of the paper need not read it.
+-- Marks in two levels: a number for each pixel of a window, two for 64 of them. A reviewer of the paper need not read it.
 use mathlib.Core.Path.{_≡_}
 use mathlib.Core.List.{List}
 use Prim.Native.Nat.{ℕ, _+_, _-_, _/_, _%_, _≤_, _<_, max}
 use lib.ListN.{length, getD, set}
 
--- of 64 numbers the first 32 tell where the marks of each group end, the next 32 how far before the group's end they begin
+-- of 32 numbers the first 16 tell where the marks of each group end, the next 16 how far before the group's end they begin
 pub record Grouped (marks groups : List ℕ) : Type 0 where
   pub wide : length marks ≤ 1024
-  pub long : length groups ≡ 64
-  pub ended : (i : ℕ) → i < length marks → getD groups (i / 32) 0 ≤ i → getD marks i 0 ≡ 0
-  pub begun : (i : ℕ) → i < length marks → getD groups (32 + i / 32) 0 + i % 32 < 32 → getD marks i 0 ≡ 0
+  pub long : length groups ≡ 32
+  pub ended : (i : ℕ) → i < length marks → getD groups (i / 64) 0 ≤ i → getD marks i 0 ≡ 0
+  pub begun : (i : ℕ) → i < length marks → getD groups (16 + i / 64) 0 + i % 64 < 64 → getD marks i 0 ≡ 0
 
 -- the number at a place is n, if it was less
 unfoldable pub raised : List ℕ → ℕ → ℕ → List ℕ
@@ -17,7 +17,7 @@ raised s i n = set s i (max (getD s i 0) n)
 
 -- the groups with a mark of pixel p
 unfoldable pub touched : List ℕ → ℕ → List ℕ
-touched groups p = raised (raised groups (p / 32) (p + 1)) (32 + p / 32) (32 - p % 32)
+touched groups p = raised (raised groups (p / 64) (p + 1)) (16 + p / 64) (64 - p % 64)
 
 -- from p to before e no pixel is marked
 pub record Blank (marks : List ℕ) (p e : ℕ) : Type 0 where

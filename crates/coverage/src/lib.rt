@@ -13,8 +13,8 @@ pub use crate::band::filter_edges;
 pub use crate::cover::coverage_runs;
 pub use crate::scissors::scissor_row;
 
-// The numbers that groups of marks take: two for each of 32 groups.
-const GROUP_NUMBERS: usize = 64;
+// The numbers that groups of marks take: two for each of 16 groups.
+const GROUP_NUMBERS: usize = 32;
 
 // A row of pixels from (x, y) on, how many edges its path has, and the path's fill rule.
 pub struct Line {

@@ -1,5 +1,5 @@
-// Marks of pixels in which something may begin, in two levels: one for each pixel of a window, and two numbers for each group of 32 pixels. The
-// first 32 numbers tell before which pixel the marks of a group end, the next 32 how far before the group's end they begin; both are 0 where
+// Marks of pixels in which something may begin, in two levels: one for each pixel of a window, and two numbers for each group of 64 pixels. The
+// first 16 numbers tell before which pixel the marks of a group end, the next 16 how far before the group's end they begin; both are 0 where
 // there is none.
 use rect::most;
 ghost use mathlib.Core.Path.{_≡_};
@@ -9,11 +9,11 @@ ghost use Rattle.coverage.specs.Marks.{raised, touched};
 
 // Notes for its group that pixel p is marked.
 pub fn touch(groups: &mut [u16], p: usize)
-    requires { ⌜ (p < 1024) × (length (now groups) ≡ 64) ⌝ }
+    requires { ⌜ (p < 1024) × (length (now groups) ≡ 32) ⌝ }
     ensures { λ _. ⌜ now (groups .exit) ≡ touched (now (groups .entry)) p ⌝ }
 {
-    raise(groups, p / 32, p + 1);
-    raise(groups, 32 + p / 32, 32 - p % 32);
+    raise(groups, p / 64, p + 1);
+    raise(groups, 16 + p / 64, 64 - p % 64);
 }
 
 // The number at a place becomes n, if it was less.

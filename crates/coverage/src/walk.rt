@@ -57,23 +57,23 @@ fn next_mark(marks: &[u8], groups: &[u16], p: usize) -> usize
     if marks.len() <= p {
         return p;
     }
-    let last = least(groups[p / 32] as usize, marks.len());
+    let last = least(groups[p / 64] as usize, marks.len());
     if p < last {
         return scan(marks, p, last);
     }
-    group_from(marks, groups, p / 32 + 1)
+    group_from(marks, groups, p / 64 + 1)
 }
 
 // The first marked pixel of the groups from number g on, or the window's end.
 fn group_from(marks: &[u8], groups: &[u16], g: usize) -> usize
-    requires { ⌜ (g ≤ 32) × Grouped (now marks) (now groups) ⌝ }
-    ensures { λ r. ⌜ Blank (now (marks .entry)) (min (g * 32) (length (now (marks .entry)))) r ⌝ }
+    requires { ⌜ (g ≤ 16) × Grouped (now marks) (now groups) ⌝ }
+    ensures { λ r. ⌜ Blank (now (marks .entry)) (min (g * 64) (length (now (marks .entry)))) r ⌝ }
 {
     let mut h = g;
-    while h * 32 < marks.len() {
-        let back = least(groups[32 + h] as usize, 32);
+    while h * 64 < marks.len() {
+        let back = least(groups[16 + h] as usize, 64);
         if back != 0 {
-            return least(h * 32 + (32 - back), marks.len());
+            return least(h * 64 + (64 - back), marks.len());
         }
         h += 1;
     }

@@ -10,30 +10,30 @@ use Rattle.coverage.proofs.walk.group_from.Statement.{statement}
 use Rattle.coverage.proofs.walk.group_from.Tie as tie
 
 abbrev Inv-loop : tie.InvT-loop
-Inv-loop marks groups g h₀ h = (h ≤ 32) × Blank marks (min (g * 32) (length marks)) (min (h * 32) (length marks))
+Inv-loop marks groups g h₀ h = (h ≤ 16) × Blank marks (min (g * 64) (length marks)) (min (h * 64) (length marks))
 
 abbrev μ-loop : tie.MeasureT-loop
-μ-loop marks groups g h₀ h = 32 - h
+μ-loop marks groups g h₀ h = 16 - h
 
 -- blank up to where the marks of group h begin
 begin : (c : tie.After-least Inv-loop μ-loop)
     → let a = c .before .before .before .before .before .before .args in
     let m = a .marks .now in
-    Blank m (min (a .g * 32) (length m)) (min (c .before .before .before .loop .h * 32 + (32 - c .least .result)) (length m))
+    Blank m (min (a .g * 64) (length m)) (min (c .before .before .before .loop .h * 64 + (64 - c .least .result)) (length m))
 begin c =
     let entry = c .before .before .before .before .before .before in
     let a = entry .args in
     let m = a .marks .now in
     let l = c .before .before .before .loop in
-    blank-more m (min (a .g * 32) (length m)) (min (l .h * 32) (length m)) (min (l .h * 32 + (32 - c .least .result)) (length m)) (l .inv .1)
-    (subst (λ (b : ℕ). Blank m (min (l .h * 32) (length m)) (min (l .h * 32 + (32 - b)) (length m))) (sym (c .least .ensures))
+    blank-more m (min (a .g * 64) (length m)) (min (l .h * 64) (length m)) (min (l .h * 64 + (64 - c .least .result)) (length m)) (l .inv .1)
+    (subst (λ (b : ℕ). Blank m (min (l .h * 64) (length m)) (min (l .h * 64 + (64 - b)) (length m))) (sym (c .least .ensures))
     (blank-begin m (a .groups .now) (l .h) (entry .pre .1)))
 
 loop-holds : tie.Need-loop-holds Inv-loop μ-loop
 loop-holds c =
     let entry = c .before .before in
     let m = entry .args .marks .now in
-    (entry .pre .0, blank-none m (min (entry .args .g * 32) (length m)) (omega arith))
+    (entry .pre .0, blank-none m (min (entry .args .g * 64) (length m)) (omega arith))
 
 mul-loop : tie.Need-mul-loop Inv-loop μ-loop
 mul-loop c = search needs
@@ -49,7 +49,7 @@ shared-slice-read-least c =
     let entry = c .before .before .before .before .before in omega (arith, entry .pre .1 .long, entry .pre .1 .wide, c .before .loop-test .taken)
 
 cast-least : tie.Need-cast-least Inv-loop μ-loop
-cast-least c = omega (arith, c .shared-slice-known3 .given (32 + c .before .before .loop .h))
+cast-least c = omega (arith, c .shared-slice-known3 .given (16 + c .before .before .loop .h))
 
 least-requires : tie.Need-least-requires Inv-loop μ-loop
 least-requires c κs = search needs
@@ -70,7 +70,7 @@ returns : tie.Need-returns Inv-loop μ-loop
 returns c =
     let a = c .before .before .before .before .before .before .before .before .args in
     let m = a .marks .now in
-    subst (λ (r : ℕ). Blank m (min (a .g * 32) (length m)) r) (sym (c .least2 .ensures)) (begin (c .before .before))
+    subst (λ (r : ℕ). Blank m (min (a .g * 64) (length m)) r) (sym (c .least2 .ensures)) (begin (c .before .before))
 
 add-h : tie.Need-add-h Inv-loop μ-loop
 add-h c = search needs
@@ -85,9 +85,9 @@ loop-again c =
     let a = entry .args in
     let m = a .marks .now in
     let l = c .before .before .before .before .loop in
-    let next : l .h * 32 + (32 - c .before .least .result) ≡ (l .h + 1) * 32 = omega (arith, c .if1 .left) in (
+    let next : l .h * 64 + (64 - c .before .least .result) ≡ (l .h + 1) * 64 = omega (arith, c .if1 .left) in (
       omega (arith, entry .pre .1 .wide, c .before .before .before .loop-test .taken),
-      subst (λ (e : ℕ). Blank m (min (a .g * 32) (length m)) (min e (length m))) next (begin (c .before)),
+      subst (λ (e : ℕ). Blank m (min (a .g * 64) (length m)) (min e (length m))) next (begin (c .before)),
     )
 
 returns-2 : tie.Need-returns-2 Inv-loop μ-loop
@@ -95,8 +95,8 @@ returns-2 c =
     let a = c .before .before .before .before .args in
     let m = a .marks .now in
     let l = c .before .loop in
-    let all : min (l .h * 32) (length m) ≡ length m = omega (arith, c .loop-test .left) in
-    subst (λ (e : ℕ). Blank m (min (a .g * 32) (length m)) e) all (l .inv .1)
+    let all : min (l .h * 64) (length m) ≡ length m = omega (arith, c .loop-test .left) in
+    subst (λ (e : ℕ). Blank m (min (a .g * 64) (length m)) e) all (l .inv .1)
 
 pub group-from-spec : {M : Type 1} → statement M
 group-from-spec =

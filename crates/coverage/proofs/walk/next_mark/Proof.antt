@@ -18,7 +18,7 @@ shared-slice-read-least c =
     let entry = c .before .before .before .before in omega (arith, entry .pre .1 .long, entry .pre .1 .wide, c .before .if1 .left)
 
 cast-least : tie.Need-cast-least
-cast-least c = omega (arith, c .shared-slice-known3 .given (c .before .before .before .before .args .p / 32))
+cast-least c = omega (arith, c .shared-slice-known3 .given (c .before .before .before .before .args .p / 64))
 
 least-requires : tie.Need-least-requires
 least-requires c κs = search needs
@@ -41,7 +41,7 @@ returns-3 c =
     let entry = c .before .before .before .before .before .before .before in
     let a = entry .args in
     let m = a .marks .now in
-    blank-more m (a .p) (min ((a .p / 32 + 1) * 32) (length m)) (c .group-from .result)
+    blank-more m (a .p) (min ((a .p / 64 + 1) * 64) (length m)) (c .group-from .result)
     (blank-past m (a .groups .now) (a .p) (omega (arith, c .before .before .before .before .if1 .left)) (entry .pre .1)
     (omega (arith, c .before .before .least .ensures, c .before .if2 .left))) (c .group-from .ensures)
 

@@ -50,7 +50,7 @@ first-run c =
     let a = entry .args in
     let m = after-group-from .group-from in
     let p = c .push in
-    let e : min (0 * 32) (length (a .marks .now)) ≡ 0 = omega arith in
+    let e : min (0 * 64) (length (a .marks .now)) ≡ 0 = omega arith in
     walked-blank (a .nonzero) (a .sums .now) (a .marks .now) (a .from) 0 (a .n) noCell (a .sums .now) (a .runs .now)
     (walked-first (a .nonzero) (a .sums .now) (a .marks .now) (a .from) (a .runs .now) (a .n) (entry .pre .1 .1 .0)) (entry .pre .0 .0) (entry .pre .0 .1)
     (m .result) (p .result) (a .from + m .result - a .from) (p .last .0) (subst (λ (q : ℕ). Blank (a .marks .now) q (m .result)) e (m .ensures))
