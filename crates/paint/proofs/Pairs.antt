@@ -1,5 +1,5 @@
 -- Two stops at both ends of a ramp: a channel by a product of 16 bits, and two pairs of channels as a pixel's number.
-use mathlib.Core.Path.{_≡_, ap, ap₂, _∙_}
+use mathlib.Core.Path.{_≡_, refl, sym, ap, ap₂, _∙_}
 use mathlib.Core.List.{List}
 use Prim.Native.Nat.{ℕ, _+_, _-_, _*_, _/_, _%_, _≤_, _<_, min}
 use native.Mathlib.Nat.{mul-le-mul, le-refl}
@@ -11,7 +11,7 @@ use Rattle.color.specs.declared.Pixel.{Pixel}
 use Rattle.paint.specs.Ramps.{mixByte, mixPixel}
 use Rattle.paint.specs.Buffers.{packed, unpacked}
 use Rattle.paint.specs.Segments.{Words, OnRamp, mixPair}
-use Rattle.paint.proofs.Mix.{mix-below}
+use Rattle.paint.proofs.Mix.{mix-below, mix-same}
 use Rattle.paint.proofs.Built.{packed-back}
 
 -- ---- a channel: x is how far the two stops' lie apart
@@ -46,6 +46,11 @@ part-small x t l = mul-le-mul {n₁ = x} {m₁ = t} {n₂ = x} {m₂ = 65535} (l
 
 pub mixed-byte : (t ci cj : ℕ) → t < 65536 → ci < 256 → cj < 256 → mixByte 0 65536 t ci cj < 256
 mixed-byte t ci cj l h k = omega (arith, mix-below 0 65536 t ci cj (omega arith) l 255 (omega arith) (omega arith))
+
+-- a channel and an alpha that both stops have
+pub one-alpha : (t ci cj a : ℕ) → t < 65536 → mixByte 0 65536 t ci cj + a * 256 ≡ mixPair ci cj a a t
+unfolding mixPair
+one-alpha t ci cj a l = ap (λ (x : ℕ). mixByte 0 65536 t ci cj + x * 256) (sym (mix-same 0 65536 t a a (omega arith) l refl))
 
 -- ---- a pixel
 abbrev pub Bytes : Pixel → Type 0

@@ -141,7 +141,7 @@ fn mix_ts(c: Pixel, d: Pixel, left: &mut [u16], right: &mut [u16], ws: &mut [u32
     ensures { λ _. ⌜ Words (λ i. mixPixel 0 65536 (getD (now (left .entry)) i 0) c d) (length (now (ws .entry))) (now (ws .exit)) ⌝ }
 {
     mix_pairs(c.r, d.r, c.g, d.g, left);
-    mix_pairs(c.b, d.b, c.a, d.a, right);
+    mix_with_alpha(c.b, d.b, c.a, d.a, right);
     join(left, right, ws);
 }
 
@@ -157,10 +157,40 @@ fn mix_pairs(ci: u8, cj: u8, di: u8, dj: u8, ts: &mut [u16])
     }
 }
 
+// A channel and alpha in place of t. An alpha that both stops have needs no mixing.
+fn mix_with_alpha(ci: u8, cj: u8, ai: u8, aj: u8, ts: &mut [u16])
+    requires { ⌜ length (now ts) ≤ 128 ⌝ }
+    ensures { λ _. ⌜ now (ts .exit) ≡ tab (length (now (ts .entry))) (λ i. mixPair ci cj ai aj (getD (now (ts .entry)) i 0)) ⌝ }
+{
+    if ai == aj {
+        mix_under_alpha(ci, cj, ai, ts);
+        return;
+    }
+    mix_pairs(ci, cj, ai, aj, ts);
+}
+
+// The same of two stops with one alpha.
+fn mix_under_alpha(ci: u8, cj: u8, a: u8, ts: &mut [u16])
+    requires { ⌜ length (now ts) ≤ 128 ⌝ }
+    ensures { λ _. ⌜ now (ts .exit) ≡ tab (length (now (ts .entry))) (λ i. mixPair ci cj a a (getD (now (ts .entry)) i 0)) ⌝ }
+{
+    let mut i = 0;
+    while i < ts.len() {
+        ts[i] = mixed_under_alpha(ci, cj, a, ts[i]);
+        i += 1;
+    }
+}
+
 fn mixed_pair(ci: u8, cj: u8, di: u8, dj: u8, t: u16) -> u16
     ensures { λ r. ⌜ r ≡ mixPair ci cj di dj t ⌝ }
 {
     mixed(ci, cj, t) + mixed(di, dj, t) * 256
+}
+
+fn mixed_under_alpha(ci: u8, cj: u8, a: u8, t: u16) -> u16
+    ensures { λ r. ⌜ r ≡ mixPair ci cj a a t ⌝ }
+{
+    mixed(ci, cj, t) + (a as u16) * 256
 }
 
 fn mixed(ci: u8, cj: u8, t: u16) -> u16

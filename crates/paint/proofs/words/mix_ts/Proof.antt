@@ -24,7 +24,7 @@ join-requires : tie.Need-join-requires
 join-requires c κs =
     let entry = c .before .before .before .before .before .before .before .before .before .before .before .before .before .before in
     let left = c .before .before .before .before .before .before .before .before .before .mix-pairs .kept .1 .1 .1 .1 .0 in
-    let right = c .before .before .before .before .before .mix-pairs2 .kept .1 .1 .1 .1 .0 in
+    let right = c .before .before .before .before .before .mix-with-alpha .kept .1 .1 .1 .1 .0 in
     (left ∙ entry .pre .2, right ∙ right-long entry, entry .pre .3)
 
 returns : tie.Need-returns
@@ -32,7 +32,7 @@ returns c =
     let entry = c .before .before .before .before .before .before .before .before .before .before .before .before .before .before .before .before .before in
     let a = entry .args in
     let left = c .before .before .before .before .before .before .before .before .before .before .before .before .mix-pairs in
-    let right = c .before .before .before .before .before .before .before .before .mix-pairs2 in
+    let right = c .before .before .before .before .before .before .before .before .mix-with-alpha in
     let second =
     subst
     (λ (ts : List ℕ). right .last .1 .1 .1 .1 .0 ≡ tab (length ts) (λ i. mixPair (a .c .b) (a .d .b) (a .c .a) (a .d .a) (getD ts i 0)))
