@@ -45,22 +45,19 @@ covering-turn low r n ws o h k = record {
       ⊎-elim (λ (q : i ≡ n). rw q k) (λ (m : i < n). omega (arith, o .above i m, h)) (eq-or-lt-of-le (omega arith));
 }
 
-whole : (x a : ℕ) → 255 ≤ a → a < 256 → x ≡ premultiply x a
-whole x a h l =
-    let e : a ≡ 255 = omega arith in
-    rw e (omega arith)
+whole : (x a : ℕ) → a ≡ 255 → x ≡ premultiply x a
+whole x a e = rw e (omega arith)
+
+-- under the alpha 255 a colour is the same premultiplied
+pub opaque-same : (p : Pixel) → p .a ≡ 255 → p ≡ premultiplied p
+opaque-same p e j = record { r = whole (p .r) (p .a) e j; g = whole (p .g) (p .a) e j; b = whole (p .b) (p .a) e j; a = p .a }
 
 alpha-byte : (w : ℕ) → unpacked w .a < 256
 unfolding unpacked
 alpha-byte w = omega arith
 
--- under the alpha 255 a colour is the same premultiplied
 pub opaque-words : (low n : ℕ) (ws : List ℕ) → Covering low n ws → low ≡ 255 → length ws ≡ n → Words (λ i. premultiplied (unpacked (getD ws i 0))) n ws
 opaque-words low n ws o e l = record {
   long = l;
-  color = λ i h.
-      let p = unpacked (getD ws i 0) in
-      let a : 255 ≤ p .a = omega (arith, o .above i h, e) in
-      let b = alpha-byte (getD ws i 0) in
-      λ j. record { r = whole (p .r) (p .a) a b j; g = whole (p .g) (p .a) a b j; b = whole (p .b) (p .a) a b j; a = p .a };
+  color = λ i h. opaque-same (unpacked (getD ws i 0)) (omega (arith, o .above i h, e, alpha-byte (getD ws i 0)));
 }

@@ -1,18 +1,21 @@
--- Two stops at both ends of a ramp: a channel by a product of 16 bits, and two pairs of channels as a pixel's number.
+-- Two stops at both ends of a ramp: a channel by a product of 16 bits, and two pairs of channels as a pixel's number, premultiplied before they are joined.
 use mathlib.Core.Path.{_≡_, refl, sym, ap, ap₂, _∙_}
-use mathlib.Core.List.{List}
+use mathlib.Core.List.{List, [], _∷_}
 use Prim.Native.Nat.{ℕ, _+_, _-_, _*_, _/_, _%_, _≤_, _<_, min}
 use native.Mathlib.Nat.{mul-le-mul, le-refl}
 use native.Mathlib.Omega.{arith}
 use lib.ListN.{length, getD}
 use Rattle.lists.specs.Lists.{tab}
-use Rattle.lists.proofs.Laws.{tab-at, tab-length}
+use Rattle.lists.proofs.Laws.{tab-at, tab-length, upto-same}
 use Rattle.color.specs.declared.Pixel.{Pixel}
+use Rattle.color.specs.Channels.{premultiplied}
+use Rattle.color.proofs.Alpha.{premultiplied-under}
 use Rattle.paint.specs.Ramps.{mixByte, mixPixel}
 use Rattle.paint.specs.Buffers.{packed, unpacked}
-use Rattle.paint.specs.Segments.{Words, OnRamp, mixPair}
-use Rattle.paint.proofs.Mix.{mix-below, mix-same}
+use Rattle.paint.specs.Segments.{Words, Planes, OnRamp, Bytes, mixPair, leftPair, rightPair, ofPairs}
+use Rattle.paint.proofs.Mix.{mix-above, mix-below, mix-same}
 use Rattle.paint.proofs.Built.{packed-back}
+use Rattle.paint.proofs.Begins.{opaque-same}
 
 -- ---- a channel: x is how far the two stops' lie apart
 up : (c x t u : ℕ) → t + u ≡ 65536 → c + x * t / 65536 + x * t % 65536 / 32768 ≡ (c * u + (c + x) * t + 32768) / 65536
@@ -52,45 +55,98 @@ pub one-alpha : (t ci cj a : ℕ) → t < 65536 → mixByte 0 65536 t ci cj + a 
 unfolding mixPair
 one-alpha t ci cj a l = ap (λ (x : ℕ). mixByte 0 65536 t ci cj + x * 256) (sym (mix-same 0 65536 t a a (omega arith) l refl))
 
--- ---- a pixel
-abbrev pub Bytes : Pixel → Type 0
-Bytes p = (p .r < 256) × (p .g < 256) × (p .b < 256) × (p .a < 256)
+-- an alpha between two of 255
+pub mixed-opaque : (t ai aj : ℕ) → t < 65536 → ai < 256 → aj < 256 → min ai aj ≡ 255 → mixByte 0 65536 t ai aj ≡ 255
+mixed-opaque t ai aj l h k e =
+    omega (arith, mix-above 0 65536 t ai aj (omega arith) l 255 (omega arith) (omega arith), mixed-byte t ai aj l h k)
 
-two-pairs : (p : Pixel) → Bytes p → unpacked (p .r + p .g * 256 + (p .b + p .a * 256) * 65536) ≡ p
-unfolding packed
+-- ---- a pixel
+two-pairs : (p : Pixel) → Bytes p → unpacked (leftPair p + rightPair p * 65536) ≡ p
+unfolding packed leftPair rightPair
 two-pairs p h =
     let e : p .r + p .g * 256 + (p .b + p .a * 256) * 65536 ≡ packed p = omega arith in
     ap unpacked e ∙ packed-back p (h .0) (h .1) (h .2) (h .3)
 
-mixed-word : (c d : Pixel) (t : ℕ) → Bytes c → Bytes d → t < 65536
-    → unpacked (mixPair (c .r) (d .r) (c .g) (d .g) t + mixPair (c .b) (d .b) (c .a) (d .a) t * 65536) ≡ mixPixel 0 65536 t c d
-unfolding mixPair
-mixed-word c d t h k l =
-    two-pairs (mixPixel 0 65536 t c d) (
-      mixed-byte t (c .r) (d .r) l (h .0) (k .0),
-      mixed-byte t (c .g) (d .g) l (h .1) (k .1),
-      mixed-byte t (c .b) (d .b) l (h .2) (k .2),
-      mixed-byte t (c .a) (d .a) l (h .3) (k .3),
-    )
+low : (x y : ℕ) → x < 256 → (x + y * 256) % 256 ≡ x
+low x y h = omega arith
 
--- ---- a block: t at each pixel, the two pairs made of it, and these joined
-module _ (n : ℕ) (c d : Pixel) (ts left right ws : List ℕ) (long : length ts ≡ n) (on : OnRamp ts) where
-  pub joined-words : Bytes c → Bytes d
-      → left ≡ tab (length ts) (λ i. mixPair (c .r) (d .r) (c .g) (d .g) (getD ts i 0))
-      → right ≡ tab (length ts) (λ i. mixPair (c .b) (d .b) (c .a) (d .a) (getD ts i 0))
-      → ws ≡ tab n (λ i. getD left i 0 + getD right i 0 * 65536)
-      → Words (λ i. mixPixel 0 65536 (getD ts i 0) c d) n ws
-  joined-words h k p q w = record {
-    long = ap length w ∙ tab-length n _;
-    color = λ i m.
-        let l : i < length ts = omega (arith, long) in
-        let x : getD left i 0 ≡ mixPair (c .r) (d .r) (c .g) (d .g) (getD ts i 0) =
-        rw p (tab-at (length ts) (λ i. mixPair (c .r) (d .r) (c .g) (d .g) (getD ts i 0)) i 0 l) in
-        let y : getD right i 0 ≡ mixPair (c .b) (d .b) (c .a) (d .a) (getD ts i 0) =
-        rw q (tab-at (length ts) (λ i. mixPair (c .b) (d .b) (c .a) (d .a) (getD ts i 0)) i 0 l) in
-        let z : getD ws i 0 ≡ getD left i 0 + getD right i 0 * 65536 = rw w (tab-at n (λ i. getD left i 0 + getD right i 0 * 65536) i 0 m) in
-        ap unpacked (z ∙ ap₂ (λ (a b : ℕ). a + b * 65536) x y) ∙ mixed-word c d (getD ts i 0) h k (on .below i l);
+high : (x y : ℕ) → x < 256 → (x + y * 256) / 256 ≡ y
+high x y h = omega arith
+
+pairs-back : (p : Pixel) → Bytes p → ofPairs (leftPair p) (rightPair p) ≡ p
+unfolding leftPair rightPair
+pairs-back p h j = record {
+  r = low (p .r) (p .g) (h .0) j;
+  g = high (p .r) (p .g) (h .0) j;
+  b = low (p .b) (p .a) (h .2) j;
+  a = high (p .b) (p .a) (h .2) j;
+}
+
+premultiplied-bytes : (p : Pixel) → Bytes p → Bytes (premultiplied p)
+premultiplied-bytes p h =
+    let u = premultiplied-under p (h .0) (h .1) (h .2) in
+    (omega (arith, u .r, h .3), omega (arith, u .g, h .3), omega (arith, u .b, h .3), h .3)
+
+-- ---- a block: the pairs made of t at each pixel
+pub mixed-planes : (c d : Pixel) (ts left right : List ℕ) → OnRamp ts → Bytes c → Bytes d
+    → left ≡ tab (length ts) (λ i. mixPair (c .r) (d .r) (c .g) (d .g) (getD ts i 0))
+    → right ≡ tab (length ts) (λ i. mixPair (c .b) (d .b) (c .a) (d .a) (getD ts i 0))
+    → Planes (λ i. mixPixel 0 65536 (getD ts i 0) c d) (length ts) left right
+unfolding mixPair leftPair rightPair
+mixed-planes c d ts left right on h k p q = record {
+  first = p;
+  second = q;
+  bytes = λ i m.
+      let t = getD ts i 0 in
+      let l = on .below i m in (
+        mixed-byte t (c .r) (d .r) l (h .0) (k .0),
+        mixed-byte t (c .g) (d .g) l (h .1) (k .1),
+        mixed-byte t (c .b) (d .b) l (h .2) (k .2),
+        mixed-byte t (c .a) (d .a) l (h .3) (k .3),
+      );
+}
+
+-- the same pairs premultiplied, and joined
+module _ {f : ℕ → Pixel} {n : ℕ} {left right : List ℕ} (o : Planes f n left right) where
+  first-at : (i : ℕ) → i < n → getD left i 0 ≡ leftPair (f i)
+  first-at i h = rw (o .first) (tab-at n (λ i. leftPair (f i)) i 0 h)
+
+  second-at : (i : ℕ) → i < n → getD right i 0 ≡ rightPair (f i)
+  second-at i h = rw (o .second) (tab-at n (λ i. rightPair (f i)) i 0 h)
+
+  pub joined-words : (m : ℕ) (ws : List ℕ) → n ≡ m → ws ≡ tab m (λ i. getD left i 0 + getD right i 0 * 65536) → Words f m ws
+  joined-words m ws e w = record {
+    long = ap length w ∙ tab-length m _;
+    color = λ i h.
+        let l : i < n = omega (arith, e) in
+        let z : getD ws i 0 ≡ getD left i 0 + getD right i 0 * 65536 = rw w (tab-at m (λ i. getD left i 0 + getD right i 0 * 65536) i 0 h) in
+        ap unpacked (z ∙ ap₂ (λ (a b : ℕ). a + b * 65536) (first-at i l) (second-at i l)) ∙ two-pairs (f i) (o .bytes i l);
   }
+
+  -- under the alpha 255 a colour is the same premultiplied
+  pub opaque-planes : ((i : ℕ) → i < n → f i .a ≡ 255) → Planes (λ i. premultiplied (f i)) n left right
+  opaque-planes e =
+      let same : (i : ℕ) → i < n → f i ≡ premultiplied (f i) = λ i h. opaque-same (f i) (e i h) in
+      record {
+        first = o .first ∙ upto-same n _ _ (λ i h. ap (λ (p : Pixel). leftPair p ∷ []) (same i h));
+        second = o .second ∙ upto-same n _ _ (λ i h. ap (λ (p : Pixel). rightPair p ∷ []) (same i h));
+        bytes = λ i h. premultiplied-bytes (f i) (o .bytes i h);
+      }
+
+  back-at : (i : ℕ) → i < n → ofPairs (getD left i 0) (getD right i 0) ≡ f i
+  back-at i h = ap₂ ofPairs (first-at i h) (second-at i h) ∙ pairs-back (f i) (o .bytes i h)
+
+  pub premultiplied-planes : (left' right' : List ℕ)
+      → left' ≡ tab (length left) (λ i. leftPair (premultiplied (ofPairs (getD left i 0) (getD right i 0))))
+      → right' ≡ tab (length left) (λ i. rightPair (premultiplied (ofPairs (getD left i 0) (getD right i 0))))
+      → Planes (λ i. premultiplied (f i)) n left' right'
+  premultiplied-planes left' right' p q =
+      let long : length left ≡ n = ap length (o .first) ∙ tab-length n _ in
+      record {
+        first = (rw long at p) ∙ upto-same n _ _ (λ i h. ap (λ (p : Pixel). leftPair (premultiplied p) ∷ []) (back-at i h));
+        second = (rw long at q) ∙ upto-same n _ _ (λ i h. ap (λ (p : Pixel). rightPair (premultiplied p) ∷ []) (back-at i h));
+        bytes = λ i h. premultiplied-bytes (f i) (o .bytes i h);
+      }
 
 -- ---- t's that were cut
 module _ (n : ℕ) (f : ℕ → ℕ) (ts : List ℕ) (e : ts ≡ tab n (λ i. min (f i) 65535)) where
@@ -103,9 +159,6 @@ module _ (n : ℕ) (f : ℕ → ℕ) (ts : List ℕ) (e : ts ≡ tab n (λ i. mi
   pub cut-on-ramp : OnRamp ts
   cut-on-ramp = record { below = λ i h. let m : i < n = omega (arith, cut-long) in omega (arith, cut-at i m) }
 
-  pub cut-words : (c d : Pixel) (m : ℕ) (ws : List ℕ) → m ≡ n → Words (λ i. mixPixel 0 65536 (getD ts i 0) c d) m ws
-      → Words (λ i. mixPixel 0 65536 (min (f i) 65535) c d) n ws
-  cut-words c d m ws q w = record {
-    long = w .long ∙ q;
-    color = λ i h. w .color i (omega (arith, q)) ∙ ap (λ (t : ℕ). mixPixel 0 65536 t c d) (cut-at i h);
-  }
+  pub cut-words : (color : ℕ → Pixel) (m : ℕ) (ws : List ℕ) → m ≡ n → Words (λ i. color (getD ts i 0)) m ws
+      → Words (λ i. color (min (f i) 65535)) n ws
+  cut-words color m ws q w = record { long = w .long ∙ q; color = λ i h. w .color i (omega (arith, q)) ∙ ap color (cut-at i h) }

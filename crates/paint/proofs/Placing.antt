@@ -13,13 +13,12 @@ use lib.Signed.{ltZ}
 use Rattle.lists.specs.Lists.{tab}
 use Rattle.lists.proofs.Laws.{tab-length, tab-at}
 use Rattle.color.specs.declared.Pixel.{Pixel}
-use Rattle.color.specs.Channels.{premultiplied}
 use Rattle.raster.specs.Surface.{run}
 use Rattle.raster.proofs.Runs.{run-same}
 use Rattle.paint.specs.Gradient.{rampUnit, mapped}
 use Rattle.paint.specs.Ramps.{rampAt}
 use Rattle.paint.specs.Paints.{gradientColor}
-use Rattle.paint.specs.Segments.{positionOf, tAt, colorAtPosition, Positions}
+use Rattle.paint.specs.Segments.{positionOf, tAt, finished, colorAtPosition, Positions}
 use Rattle.paint.specs.declared.Stop.{Stop}
 
 same-color : (ramp : List Stop) (u : ℤ) → rampAt ramp (tAt (positionOf u)) ≡ rampAt ramp u
@@ -69,15 +68,15 @@ cut-same (pos n) = by (ltb n 65535) refl (ltb n rampUnit) refl
         rw (e, le-ltb n 0 (omega arith), f) (ap pos m)
     by false e false f = rw (e, le-ltb n 0 (omega arith), f)
 
+pub painted : (spread : ℕ) (premultiply : Bool) (ramp : List Stop) (t : ℤ) (p : Pixel) → p ≡ rampAt ramp (tAt (positionOf (mapped spread t)))
+    → finished premultiply p ≡ gradientColor spread premultiply ramp t
+unfolding gradientColor finished
+painted spread premultiply ramp t p e = ap (finished premultiply) (e ∙ same-color ramp (mapped spread t))
+
 at-position : (spread : ℕ) (premultiply : Bool) (ramp : List Stop) (t : ℤ)
     → colorAtPosition premultiply ramp (positionOf (mapped spread t)) ≡ gradientColor spread premultiply ramp t
-unfolding gradientColor colorAtPosition
-at-position spread premultiply ramp t = ap (λ (p : Pixel). cond premultiply p (premultiplied p)) (same-color ramp (mapped spread t))
-
-pub painted : (spread : ℕ) (premultiply : Bool) (ramp : List Stop) (t : ℤ) (p : Pixel) → p ≡ rampAt ramp (tAt (positionOf (mapped spread t)))
-    → cond premultiply p (premultiplied p) ≡ gradientColor spread premultiply ramp t
-unfolding gradientColor
-painted spread premultiply ramp t p e = ap (λ (p : Pixel). cond premultiply p (premultiplied p)) (e ∙ same-color ramp (mapped spread t))
+unfolding colorAtPosition
+at-position spread premultiply ramp t = painted spread premultiply ramp t _ refl
 
 -- ---- the pixels of a row, whose t are f's
 module _ (n spread : ℕ) (f : ℕ → ℤ) (ks : List ℕ) (e : ks ≡ tab n (λ i. positionOf (mapped spread (f i)))) where

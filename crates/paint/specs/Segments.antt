@@ -1,12 +1,13 @@
 -- How the code holds a part of a ramp between two stops, so that pixel after pixel is mixed without a division. Only the proofs need it: a reviewer of the
 -- paper need not read it.
-use Prim.Native.Nat.{ℕ, zero, suc, _+_, _-_, _*_, _/_, _≤_, _<_, min}
+use Prim.Native.Nat.{ℕ, zero, suc, _+_, _-_, _*_, _/_, _%_, _≤_, _<_, min}
 use mathlib.Core.Path.{_≡_}
 use mathlib.Core.Bool.{Bool, cond}
 use mathlib.Core.List.{List}
 use lib.IntN.{ℤ, pos, negsuc, natAbs, _-ℤ_, _*ℤ_}
 use lib.ListN.{length, getD}
 use lib.Signed.{ltZ, _<ℤ_}
+use Rattle.lists.specs.Lists.{tab}
 use Rattle.color.specs.declared.Pixel.{Pixel}
 use Rattle.color.specs.Channels.{premultiplied}
 use Rattle.paint.specs.Gradient.{rampUnit, squaredLength}
@@ -32,9 +33,13 @@ abbrev pub tAt : ℕ → ℤ
 tAt zero = negsuc 0
 tAt (suc n) = pos n
 
+-- a ramp's colour as the paint of a pixel: premultiplied, if the stops were not
+unfoldable pub finished : Bool → Pixel → Pixel
+finished premultiply p = cond premultiply p (premultiplied p)
+
 -- the paint at a position
 unfoldable pub colorAtPosition : Bool → List Stop → ℕ → Pixel
-colorAtPosition premultiply ramp k = cond premultiply (rampAt ramp (tAt k)) (premultiplied (rampAt ramp (tAt k)))
+colorAtPosition premultiply ramp k = finished premultiply (rampAt ramp (tAt k))
 
 -- positions of a block's pixels
 pub record Positions (ks : List ℕ) : Type 0 where
@@ -67,6 +72,25 @@ pub record OnRamp (ts : List ℕ) : Type 0 where
 -- two channels at t as one number
 unfoldable pub mixPair : ℕ → ℕ → ℕ → ℕ → ℕ → ℕ
 mixPair ci cj di dj t = mixByte 0 rampUnit t ci cj + mixByte 0 rampUnit t di dj * 256
+
+-- ---- a pixel as two numbers of 16 bits, R and G in the one, B and A in the other, and back
+unfoldable pub leftPair : Pixel → ℕ
+leftPair p = p .r + p .g * 256
+
+unfoldable pub rightPair : Pixel → ℕ
+rightPair p = p .b + p .a * 256
+
+abbrev pub ofPairs : ℕ → ℕ → Pixel
+ofPairs left right = record { r = left % 256; g = left / 256; b = right % 256; a = right / 256 }
+
+abbrev pub Bytes : Pixel → Type 0
+Bytes p = (p .r < 256) × (p .g < 256) × (p .b < 256) × (p .a < 256)
+
+-- the pixels of a block as two planes of pairs
+pub record Planes (f : ℕ → Pixel) (n : ℕ) (left right : List ℕ) : Type 0 where
+  pub first : left ≡ tab n (λ i. leftPair (f i))
+  pub second : right ≡ tab n (λ i. rightPair (f i))
+  pub bytes : (i : ℕ) → i < n → Bytes (f i)
 
 -- ---- a channel between two stops that lie d apart, as a line in parts of 2^40
 abbrev pub parts : ℕ

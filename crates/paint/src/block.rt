@@ -75,13 +75,13 @@ fn line_block(
     ensures { λ _. ⌜ now (row .exit) ≡ run (length (now (ks .entry))) (λ i. linearAt g (stopsIn (now (ramp .entry)) 2) (x + i) y) ⌝ }
 {
     line_words(
+        g.premultiply,
         stop_color(ramp, 0),
         stop_color(ramp, 1),
         l.first,
         l.step,
         ks,
     );
-    finish_words(g.premultiply, ks);
     put_words(ks, row);
 }
 

@@ -4,8 +4,8 @@ use crate::ramp::pack;
 use crate::ramp::unpack;
 use crate::segments::greatest;
 use color::Pixel;
+use color::premultiply;
 ghost use mathlib.Core.Path.{_≡_};
-ghost use mathlib.Core.Bool.{cond};
 ghost use Prim.Native.Nat.{_+_, _-_, _*_, _≤_, _<_, min};
 ghost use lib.IntN.{pos, natAbs, _+ℤ_, _*ℤ_};
 ghost use lib.ListN.{length, getD};
@@ -15,7 +15,7 @@ ghost use Rattle.color.specs.Channels.{premultiplied};
 ghost use Rattle.raster.specs.Surface.{run};
 ghost use Rattle.paint.specs.Ramps.{mixByte, mixPixel};
 ghost use Rattle.paint.specs.Buffers.{unpacked, lineParts};
-ghost use Rattle.paint.specs.Segments.{Words, Covering, OnRamp, positionOf, twoStops, mixPair};
+ghost use Rattle.paint.specs.Segments.{Words, Planes, Covering, OnRamp, finished, positionOf, twoStops, mixPair, leftPair, rightPair, ofPairs};
 
 // How many pixels are made at a time.
 pub const BLOCK: usize = 128;
@@ -55,20 +55,22 @@ fn mix_planes(c: Pixel, d: Pixel, left: &mut [u16], right: &mut [u16], ks: &mut 
     mix_ts(c, d, left, right, ks);
 }
 
-// The colours between two stops at 0 and 65,536 of pixels whose t is a line.
-pub fn line_words(c: Pixel, d: Pixel, first: i64, step: i64, ws: &mut [u32])
+// The colours between two stops at 0 and 65,536 of pixels whose t is a line, premultiplied if the stops were not.
+pub fn line_words(premultiply: bool, c: Pixel, d: Pixel, first: i64, step: i64, ws: &mut [u32])
     requires { ⌜ (natAbs first ≤ 2305843009213693952) × (natAbs step ≤ 18014398509481984) × (length (now ws) ≤ 128) ⌝ }
     ensures { λ _. ⌜
-        Words (λ i. twoStops c d (positionOf (floorDiv (first +ℤ step *ℤ pos i) lineParts))) (length (now (ws .entry))) (now (ws .exit))
+        Words (λ i. finished premultiply (twoStops c d (positionOf (floorDiv (first +ℤ step *ℤ pos i) lineParts))))
+        (length (now (ws .entry))) (now (ws .exit))
         ⌝ }
 {
     let mut left = [0u16; BLOCK];
     let mut right = [0u16; BLOCK];
-    line_in(c, d, first, step, &mut left, &mut right, ws);
+    line_in(premultiply, c, d, first, step, &mut left, &mut right, ws);
 }
 
 // The same with room for the pairs of a block.
 fn line_in(
+    premultiply: bool,
     c: Pixel,
     d: Pixel,
     first: i64,
@@ -80,15 +82,26 @@ fn line_in(
     requires { ⌜ (natAbs first ≤ 2305843009213693952) × (natAbs step ≤ 18014398509481984) ⌝ }
     requires { ⌜ (length (now left) ≡ 128) × (length (now right) ≡ 128) × (length (now ws) ≤ 128) ⌝ }
     ensures { λ _. ⌜
-        Words (λ i. twoStops c d (positionOf (floorDiv (first +ℤ step *ℤ pos i) lineParts))) (length (now (ws .entry))) (now (ws .exit))
+        Words (λ i. finished premultiply (twoStops c d (positionOf (floorDiv (first +ℤ step *ℤ pos i) lineParts))))
+        (length (now (ws .entry))) (now (ws .exit))
         ⌝ }
 {
     let n = ws.len();
-    line_planes(c, d, first, step, &mut left[0..n], &mut right[0..n], ws);
+    line_planes(
+        premultiply,
+        c,
+        d,
+        first,
+        step,
+        &mut left[0..n],
+        &mut right[0..n],
+        ws,
+    );
 }
 
 // The same with as much room as there are pixels.
 fn line_planes(
+    premultiply: bool,
     c: Pixel,
     d: Pixel,
     first: i64,
@@ -100,11 +113,13 @@ fn line_planes(
     requires { ⌜ (natAbs first ≤ 2305843009213693952) × (natAbs step ≤ 18014398509481984) ⌝ }
     requires { ⌜ (length (now left) ≡ length (now ws)) × (length (now right) ≡ length (now ws)) × (length (now ws) ≤ 128) ⌝ }
     ensures { λ _. ⌜
-        Words (λ i. twoStops c d (positionOf (floorDiv (first +ℤ step *ℤ pos i) lineParts))) (length (now (ws .entry))) (now (ws .exit))
+        Words (λ i. finished premultiply (twoStops c d (positionOf (floorDiv (first +ℤ step *ℤ pos i) lineParts))))
+        (length (now (ws .entry))) (now (ws .exit))
         ⌝ }
 {
     line_ts(first, step, left, right);
-    mix_ts(c, d, left, right, ws);
+    mix_finished(premultiply, c, d, left, right);
+    join(left, right, ws);
 }
 
 // t at each position, for both pairs.
@@ -135,14 +150,42 @@ fn least(a: u32, b: u32) -> u32
     if a < b { a } else { b }
 }
 
-// The colours at t, which both left and right hold: R and G are made in the one, B and A in the other. Numbers of 16 bits are multiplied eight at a time.
+// The colours at t, which both left and right hold.
 fn mix_ts(c: Pixel, d: Pixel, left: &mut [u16], right: &mut [u16], ws: &mut [u32])
     requires { ⌜ OnRamp (now left) × (now right ≡ now left) × (length (now left) ≡ length (now ws)) × (length (now ws) ≤ 128) ⌝ }
     ensures { λ _. ⌜ Words (λ i. mixPixel 0 65536 (getD (now (left .entry)) i 0) c d) (length (now (ws .entry))) (now (ws .exit)) ⌝ }
 {
+    mix_colors(c, d, left, right);
+    join(left, right, ws);
+}
+
+// Pairs of the colours at t in place of t, premultiplied if the stops were not. Between two alphas of 255 that changes nothing.
+fn mix_finished(premultiply: bool, c: Pixel, d: Pixel, left: &mut [u16], right: &mut [u16])
+    requires { ⌜ OnRamp (now left) × (now right ≡ now left) × (length (now left) ≤ 128) ⌝ }
+    ensures { λ _. ⌜
+        Planes (λ i. finished premultiply (mixPixel 0 65536 (getD (now (left .entry)) i 0) c d))
+        (length (now (left .entry))) (now (left .exit)) (now (right .exit))
+        ⌝ }
+{
+    mix_colors(c, d, left, right);
+    if premultiply {
+        return;
+    }
+    if lower(c.a, d) == 255 {
+        return;
+    }
+    premultiply_pairs(left, right);
+}
+
+// Pairs of the colours at t in place of t: R and G in left, B and A in right. Numbers of 16 bits are multiplied eight at a time.
+fn mix_colors(c: Pixel, d: Pixel, left: &mut [u16], right: &mut [u16])
+    requires { ⌜ OnRamp (now left) × (now right ≡ now left) × (length (now left) ≤ 128) ⌝ }
+    ensures { λ _. ⌜
+        Planes (λ i. mixPixel 0 65536 (getD (now (left .entry)) i 0) c d) (length (now (left .entry))) (now (left .exit)) (now (right .exit))
+        ⌝ }
+{
     mix_pairs(c.r, d.r, c.g, d.g, left);
     mix_with_alpha(c.b, d.b, c.a, d.a, right);
-    join(left, right, ws);
 }
 
 // Two channels in place of t.
@@ -225,6 +268,54 @@ fn one_less(a: u16) -> u16
     if 1 < a { a - 1 } else { 0 }
 }
 
+// The pixels of two planes of pairs premultiplied.
+fn premultiply_pairs(left: &mut [u16], right: &mut [u16])
+    requires { ⌜ (length (now right) ≡ length (now left)) × (length (now left) ≤ 128) ⌝ }
+    ensures { λ _. ⌜
+        now (left .exit)
+        ≡ tab (length (now (left .entry))) (λ i. leftPair (premultiplied (ofPairs (getD (now (left .entry)) i 0) (getD (now (right .entry)) i 0))))
+        ⌝ }
+    ensures { λ _. ⌜
+        now (right .exit)
+        ≡ tab (length (now (left .entry))) (λ i. rightPair (premultiplied (ofPairs (getD (now (left .entry)) i 0) (getD (now (right .entry)) i 0))))
+        ⌝ }
+{
+    let mut i = 0;
+    while i < left.len() {
+        let l = left[i];
+        let r = right[i];
+        left[i] = premultiplied_left(l, r);
+        right[i] = premultiplied_right(r);
+        i += 1;
+    }
+}
+
+// R and G times alpha.
+fn premultiplied_left(left: u16, right: u16) -> u16
+    ensures { λ r. ⌜ r ≡ leftPair (premultiplied (ofPairs left right)) ⌝ }
+{
+    let a = (right / 256) as u8;
+    pair(
+        premultiply((left % 256) as u8, a),
+        premultiply((left / 256) as u8, a),
+    )
+}
+
+// B times alpha, and alpha. R and G do not matter to it.
+fn premultiplied_right(right: u16) -> u16
+    ensures { λ r. ⌜ r ≡ rightPair (premultiplied (ofPairs 0 right)) ⌝ }
+{
+    let a = (right / 256) as u8;
+    pair(premultiply((right % 256) as u8, a), a)
+}
+
+// Two bytes as one number.
+fn pair(low: u8, high: u8) -> u16
+    ensures { λ r. ⌜ r ≡ low + high * 256 ⌝ }
+{
+    (low as u16) + (high as u16) * 256
+}
+
 // Two planes of pairs as one of words.
 fn join(left: &[u16], right: &[u16], ws: &mut [u32])
     requires { ⌜ (length (now left) ≡ length (now ws)) × (length (now right) ≡ length (now ws)) × (length (now ws) ≤ 128) ⌝ }
@@ -247,8 +338,7 @@ fn joined(low: u16, high: u16) -> u32
 pub fn finish_words(premultiply: bool, ws: &mut [u32])
     requires { ⌜ length (now ws) ≤ 1024 ⌝ }
     ensures { λ _. ⌜
-        Words (λ i. cond premultiply (unpacked (getD (now (ws .entry)) i 0)) (premultiplied (unpacked (getD (now (ws .entry)) i 0))))
-        (length (now (ws .entry))) (now (ws .exit))
+        Words (λ i. finished premultiply (unpacked (getD (now (ws .entry)) i 0))) (length (now (ws .entry))) (now (ws .exit))
         ⌝ }
 {
     if premultiply {

@@ -1,12 +1,9 @@
 -- `block::color_row` meets its contract.
 use mathlib.Core.Path.{ap, _∙_}
-use mathlib.Core.Bool.{cond}
 use native.Mathlib.Omega.{arith}
 use lib.ListN.{length}
-use Rattle.color.specs.declared.Pixel.{Pixel}
-use Rattle.color.specs.Channels.{premultiplied}
 use Rattle.raster.proofs.Runs.{run-same}
-use Rattle.paint.specs.Segments.{colorAtPosition}
+use Rattle.paint.specs.Segments.{finished, colorAtPosition}
 use borrow.Author.Needs.{needs}
 use Rattle.paint.proofs.block.color_row.Statement.{statement}
 use Rattle.paint.proofs.block.color_row.Tie as tie
@@ -19,22 +16,22 @@ finish-words-requires c κs =
 put-words-requires : tie.Need-put-words-requires
 put-words-requires c κs =
     let colored = c .before .before .before .before .before .before .before .before .color-words .ensures in
-    let finished = c .before .before .before .before .finish-words .ensures in
+    let paint = c .before .before .before .before .finish-words .ensures in
     let entry = c .before .before .before .before .before .before .before .before .before .before .before .before .before in
-    (omega (arith, finished .long, colored .long, entry .pre .1 .few), omega (arith, finished .long, colored .long, entry .pre .2))
+    (omega (arith, paint .long, colored .long, entry .pre .1 .few), omega (arith, paint .long, colored .long, entry .pre .2))
 
 returns : tie.Need-returns
 unfolding colorAtPosition
 returns c =
     let colored = c .before .before .before .before .before .before .before .before .before .before .before .color-words .ensures in
-    let finished = c .before .before .before .before .before .before .before .finish-words .ensures in
+    let paint = c .before .before .before .before .before .before .before .finish-words .ensures in
     let entry = c .before .before .before .before .before .before .before .before .before .before .before .before .before .before .before .before in
     let a = entry .args in
-    let n = finished .long ∙ colored .long in
+    let n = paint .long ∙ colored .long in
     c .before .before .put-words .ensures ∙ rw n
     (run-same (length (a .ks .now)) _ _
-    (λ i h. finished .color i (omega (arith, h, colored .long))
-    ∙ ap (λ (p : Pixel). cond (a .premultiply) p (premultiplied p)) (colored .color i h)))
+    (λ i h. paint .color i (omega (arith, h, colored .long))
+    ∙ ap (finished (a .premultiply)) (colored .color i h)))
 
 pub color-row-spec : {M : Type 1} → statement M
 color-row-spec =

@@ -10,9 +10,8 @@ use Rattle.fixed.proofs.Signed.{clean}
 use Rattle.color.specs.declared.Pixel.{Pixel}
 use Rattle.raster.proofs.Runs.{run-same}
 use Rattle.paint.specs.Gradient.{linearT, mapped}
-use Rattle.paint.specs.Ramps.{rampAt}
-use Rattle.paint.specs.Buffers.{unpacked, lineParts, stopsIn}
-use Rattle.paint.specs.Segments.{positionOf, tAt, twoStops}
+use Rattle.paint.specs.Buffers.{unpacked, lineParts, stopsIn, linearAt}
+use Rattle.paint.specs.Segments.{finished, positionOf, twoStops}
 use Rattle.paint.proofs.Placing.{position-small, painted}
 use Rattle.paint.proofs.Serving.{two-colors}
 use borrow.Author.Needs.{needs}
@@ -29,46 +28,34 @@ line-words-requires c κs =
 colored : (c : tie.After-line-words)
     → let a = c .before .before .before .before .before .before .before .before .before .args in
     (i : ℕ) → i < length (a .ks .now)
-    → unpacked (getD (c .line-words .last .1 .1 .1 .1 .0) i 0)
-    ≡ rampAt (stopsIn (a .ramp .now) 2) (tAt (positionOf (mapped (a .g .spread) (linearT (a .g .points) (a .x + i) (a .y)))))
+    → unpacked (getD (c .line-words .last .1 .1 .1 .1 .1 .0) i 0) ≡ linearAt (a .g) (stopsIn (a .ramp .now) 2) (a .x + i) (a .y)
 colored c i h =
     let second = c .before .before .before .before .stop-color2 in
     let first = c .before .before .before .before .before .stop-color in
     let entry = c .before .before .before .before .before .before .before .before .before in
     let a = entry .args in
     let f = entry .pre .0 .2 in
-    let u = mapped (a .g .spread) (linearT (a .g .points) (a .x + i) (a .y)) in
+    let t = linearT (a .g .points) (a .x + i) (a .y) in
+    let u = mapped (a .g .spread) t in
     c .line-words .ensures .color i h
-    ∙ ap₂ (λ (u v : ℤ). twoStops (first .result) (second .result) (positionOf (floorDiv (u +ℤ v *ℤ pos i) lineParts)))
+    ∙ ap₂ (λ (u v : ℤ). finished (a .g .premultiply) (twoStops (first .result) (second .result) (positionOf (floorDiv (u +ℤ v *ℤ pos i) lineParts))))
     (clean w64 2305843009213693952 (a .l .first) tt (f .small)) (clean w64 18014398509481984 (a .l .step) tt (f .slow))
-    ∙ ap (λ (u : ℤ). twoStops (first .result) (second .result) (positionOf u)) (f .same i (omega (arith, h, entry .pre .1 .1)))
-    ∙ ap₂ (λ (p q : Pixel). twoStops p q (positionOf u)) (first .ensures) (second .ensures)
-    ∙ two-colors (a .ramp .now) (entry .pre .0 .0) (entry .pre .0 .1) (positionOf u) (position-small u)
-
-finish-words-requires : tie.Need-finish-words-requires
-finish-words-requires c κs =
-    let entry = c .before .before .before .before .before .before .before .before .before .before .before .before in
-    omega (arith, c .before .before .before .line-words .ensures .long, entry .pre .1 .1)
+    ∙ ap (λ (u : ℤ). finished (a .g .premultiply) (twoStops (first .result) (second .result) (positionOf u))) (f .same i (omega (arith, h, entry .pre .1 .1)))
+    ∙ painted (a .g .spread) (a .g .premultiply) (stopsIn (a .ramp .now) 2) t _
+    (ap₂ (λ (p q : Pixel). twoStops p q (positionOf u)) (first .ensures) (second .ensures)
+    ∙ two-colors (a .ramp .now) (entry .pre .0 .0) (entry .pre .0 .1) (positionOf u) (position-small u))
 
 put-words-requires : tie.Need-put-words-requires
 put-words-requires c κs =
-    let written = c .before .before .before .before .before .before .before .before .line-words .ensures in
-    let finished = c .before .before .before .before .finish-words .ensures in
-    let entry = c .before .before .before .before .before .before .before .before .before .before .before .before .before .before .before .before .before in
-    (omega (arith, finished .long, written .long, entry .pre .1 .1), omega (arith, finished .long, written .long, entry .pre .1 .0))
+    let written = c .before .before .before .before .line-words .ensures in
+    let entry = c .before .before .before .before .before .before .before .before .before .before .before .before .before in
+    (omega (arith, written .long, entry .pre .1 .1), omega (arith, written .long, entry .pre .1 .0))
 
 returns : tie.Need-returns
 returns c =
-    let after-words = c .before .before .before .before .before .before .before .before .before .before .before in
-    let finished = c .before .before .before .before .before .before .before .finish-words .ensures in
-    let entry = after-words .before .before .before .before .before .before .before .before .before in
-    let a = entry .args in
-    let long = after-words .line-words .ensures .long in
-    let n = finished .long ∙ long in
-    c .before .before .put-words .ensures ∙ rw n
-    (run-same (length (a .ks .now)) _ _
-    (λ i h. finished .color i (omega (arith, h, long))
-    ∙ painted (a .g .spread) (a .g .premultiply) (stopsIn (a .ramp .now) 2) (linearT (a .g .points) (a .x + i) (a .y)) _ (colored after-words i h)))
+    let after-words = c .before .before .before .before .before .before .before in
+    let a = after-words .before .before .before .before .before .before .before .before .before .args in
+    c .before .before .put-words .ensures ∙ rw (after-words .line-words .ensures .long) (run-same (length (a .ks .now)) _ _ (colored after-words))
 
 pub line-block-spec : {M : Type 1} → statement M
 line-block-spec =
@@ -77,7 +64,6 @@ line-block-spec =
     (λ c κs. omega (arith, c .before .before .before .pre .0 .0 .places))
     (λ c κs. omega (arith, c .before .before .before .before .pre .0 .0 .places))
     line-words-requires
-    finish-words-requires
     put-words-requires
     (λ c. search needs)
     (λ c. search needs)

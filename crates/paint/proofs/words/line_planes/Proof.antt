@@ -7,9 +7,10 @@ use lib.ListN.{length}
 use mir.Facts.{toZ-ofZ}
 use Rattle.lists.specs.Lists.{tab}
 use Rattle.fixed.specs.Floor.{floorDiv}
+use Rattle.paint.specs.Ramps.{mixPixel}
 use Rattle.paint.specs.Buffers.{lineParts}
-use Rattle.paint.specs.Segments.{positionOf}
-use Rattle.paint.proofs.Pairs.{cut-on-ramp, cut-words}
+use Rattle.paint.specs.Segments.{finished, positionOf}
+use Rattle.paint.proofs.Pairs.{joined-words, cut-on-ramp, cut-words}
 use borrow.Author.Needs.{needs}
 use Rattle.paint.proofs.words.line_planes.Statement.{statement}
 use Rattle.paint.proofs.words.line_planes.Tie as tie
@@ -36,21 +37,37 @@ written c =
     ∙ ap₂ (λ (first step : ℤ). tab (length (entry .args .left .now)) (λ i. min (positionOf (floorDiv (first +ℤ step *ℤ pos i) lineParts) - 1) 65535))
     (toZ-ofZ (entry .fits .first)) (toZ-ofZ (entry .fits .step))
 
-mix-ts-requires : tie.Need-mix-ts-requires
-mix-ts-requires c κs =
-    let after-ts = c .before .before .before .before .before .before .before in
+mix-finished-requires : tie.Need-mix-finished-requires
+mix-finished-requires c κs =
+    let after-ts = c .before .before .before .before .before .before in
     let call = after-ts .line-ts in
     let entry = after-ts .before .before .before .before .before .before in
     let on = cut-on-ramp (length (entry .args .left .now)) (t entry) _ (written after-ts) in
-    (on, call .ensures .1, call .kept .1 .1 .0 ∙ entry .pre .1 .0, entry .pre .1 .2)
+    (on, call .ensures .1, omega (arith, call .kept .1 .1 .0, entry .pre .1 .0, entry .pre .1 .2))
+
+join-requires : tie.Need-join-requires
+join-requires c κs =
+    let after-mix = c .before .before .before .before .before .before .before in
+    let after-ts = after-mix .before .before .before .before .before .before .before in
+    let entry = after-ts .before .before .before .before .before .before in
+    let mixed = after-mix .mix-finished .kept in
+    let ts = after-ts .line-ts .kept in (
+      mixed .1 .1 .1 .0 ∙ ts .1 .1 .0 ∙ entry .pre .1 .0,
+      mixed .1 .1 .1 .1 .0 ∙ ts .1 .1 .1 .0 ∙ entry .pre .1 .1,
+      entry .pre .1 .2,
+    )
 
 returns : tie.Need-returns
 returns c =
-    let after-ts = c .before .before .before .before .before .before .before .before .before .before .before .before .before .before in
+    let after-mix = c .before .before .before .before .before .before .before .before .before .before in
+    let after-ts = after-mix .before .before .before .before .before .before .before in
     let entry = after-ts .before .before .before .before .before .before in
     let a = entry .args in
-    let mixed = c .before .before .before .before .before .before .mix-ts .ensures in
-    let words = cut-words (length (a .left .now)) (t entry) _ (written after-ts) (a .c) (a .d) (length (a .ws .now)) _ (sym (entry .pre .1 .0)) mixed in
+    let n = length (a .ws .now) in
+    let long = after-ts .line-ts .kept .1 .1 .0 ∙ entry .pre .1 .0 in
+    let joined = joined-words (after-mix .mix-finished .ensures) n _ long (c .before .before .join .ensures) in
+    let words = cut-words (length (a .left .now)) (t entry) _ (written after-ts)
+    (λ t. finished (a .premultiply) (mixPixel 0 65536 t (a .c) (a .d))) n _ (sym (entry .pre .1 .0)) joined in
     record { long = words .long ∙ entry .pre .1 .0; color = λ i h. words .color i (omega (arith, h, entry .pre .1 .0)) }
 
 pub line-planes-spec : {M : Type 1} → statement M
@@ -58,7 +75,8 @@ line-planes-spec =
     tie.close
     (tie.spec
     line-ts-requires
-    mix-ts-requires
+    mix-finished-requires
+    join-requires
     (λ c. search needs)
     (λ c. search needs)
     (λ c. search needs)

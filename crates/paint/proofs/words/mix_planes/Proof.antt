@@ -1,7 +1,9 @@
 -- `words::mix_planes` meets its contract.
 use mathlib.Core.Path.{refl, _∙_}
-use Prim.Native.Nat.{_-_}
+use Prim.Native.Nat.{ℕ, _-_}
 use lib.ListN.{length, getD}
+use Rattle.color.specs.declared.Pixel.{Pixel}
+use Rattle.paint.specs.Ramps.{mixPixel}
 use Rattle.paint.proofs.Pairs.{cut-on-ramp, cut-words}
 use borrow.Author.Needs.{needs}
 use Rattle.paint.proofs.words.mix_planes.Statement.{statement}
@@ -20,7 +22,8 @@ returns c =
     let after-ts = after-mix .before .before .before .before .before .before .before .before in
     let a = after-ts .before .before .before .before .before .before .before .args in
     let ks = a .ks .now in
-    cut-words (length ks) (λ i. getD ks i 0 - 1) _ (after-ts .take-ts .ensures .0) (a .c) (a .d) (length ks) _ refl (after-mix .mix-ts .ensures)
+    let color : ℕ → Pixel = λ t. mixPixel 0 65536 t (a .c) (a .d) in
+    cut-words (length ks) (λ i. getD ks i 0 - 1) _ (after-ts .take-ts .ensures .0) color (length ks) _ refl (after-mix .mix-ts .ensures)
 
 pub mix-planes-spec : {M : Type 1} → statement M
 mix-planes-spec =
