@@ -3,6 +3,7 @@ use mathlib.Core.Path.{_≡_, refl, ap, _∙_}
 use mathlib.Core.List.{List, [], _∷_}
 use Prim.Native.Nat.{ℕ, _+_, _-_, _*_, _/_, _%_, _≤_, _<_}
 use native.Mathlib.Omega.{arith}
+use lib.Bits.{bitOr, or-shifted-r}
 use lib.ListN.{getD}
 use Rattle.lists.specs.Lists.{tab}
 use Rattle.lists.proofs.Laws.{upto-same, tab-length, tab-at}
@@ -93,3 +94,12 @@ four-bytes f h =
     let high : f * 16843009 / 256 ≡ f * 65793 = omega arith in
     let higher : f * 16843009 / 65536 ≡ f * 257 = omega arith in
     (omega arith, rw high (omega arith), rw higher (omega arith), omega arith)
+
+-- the highest byte of what is left of a number of 32 bits up to the greatest, laid beside itself, and both beside themselves
+pub left-laid : (w a : ℕ) → w < 4294967296 → w / 16777216 ≡ a
+    → (bitOr ((4294967295 - w) / 16777216) ((4294967295 - w) / 16777216 * 256) ≡ (255 - a) * 257)
+    × (bitOr ((255 - a) * 257) ((255 - a) * 257 * 65536) ≡ (255 - a) * 16843009)
+left-laid w a h e =
+    let f = 255 - a in
+    let highest : (4294967295 - w) / 16777216 ≡ f = omega arith in
+    (rw highest (or-shifted-r f 8 f (omega arith) ∙ omega arith), or-shifted-r (f * 257) 16 (f * 257) (omega arith) ∙ omega arith)

@@ -27,7 +27,7 @@ loop-again c =
     let w = c .word .result in (
       search needs,
       below-more (λ j. bitAnd (l .all) w ≤ wordOf (pixelIn s j)) (l .i) (λ j h. le-trans (and-le-l (l .all) w) (l .inv .1 j h))
-          (rw (c .word .ensures, after-pixel .pixel .ensures) (and-le-r (l .all) (wordOf (pixelIn s (l .i))))),
+          (rw (c .word .ensures .0, after-pixel .pixel .ensures) (and-le-r (l .all) (wordOf (pixelIn s (l .i))))),
     )
 
 returns : tie.Need-returns Inv-loop μ-loop

@@ -22,11 +22,11 @@ loop-holds c = (omega arith, stored-none _ _)
 loop-again : tie.Need-loop-again Inv-loop μ-loop
 loop-again c =
     let after-put-pixel = c .before .before in
-    let after-four = after-put-pixel .before in
-    let after-pixel = after-four .before .before .before in
+    let after-kept = after-put-pixel .before in
+    let after-pixel = after-kept .before .before in
     let at-loop = after-pixel .before .before in
     let entry = at-loop .before .before .before in
-    let made = after-four .four in
+    let made = after-kept .kept in
     let put = after-put-pixel .put-pixel in (
       search needs,
       stored-turn (at-loop .loop .inv .1) (put .last .0) (made .result) (put .ensures) (made .ensures ∙ ap keepPixel (after-pixel .pixel .ensures))
@@ -46,7 +46,6 @@ keep-row-spec =
     μ-loop
     loop-holds
     (λ c κs. search needs)
-    (λ c. search needs)
     (λ c κs. tt)
     (λ c κs. search needs)
     (λ c. search needs)
