@@ -19,3 +19,4 @@ pub mod Sides
 pub mod Outside
 pub mod Rectangles
 pub mod Borders
+pub mod Covered

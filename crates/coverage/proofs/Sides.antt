@@ -86,7 +86,7 @@ module _ (X Y : ℤ) where
   right-core u v h k false q = nil (leftUp u X Y)
 
   -- the sample lies left of both ends, or not left of either
-  left-of : (e : Edge) → (X <ℤ e .x0) × (X <ℤ e .x1) → counts X Y e ≡ pos 0
+  pub left-of : (e : Edge) → (X <ℤ e .x0) × (X <ℤ e .x1) → counts X Y e ≡ pos 0
   unfolding counts weight spans atOrLeft upward
   left-of e h = by (rises e)
     where
@@ -94,7 +94,7 @@ module _ (X Y : ℤ) where
       by true = left-core e (sign e) (h .0) (h .1) (spansUp e Y) refl
       by false = left-core (turned e) (sign e) (h .1) (h .0) (spansUp (turned e) Y) refl
 
-  right-of : (e : Edge) → (e .x0 ≤ℤ X) × (e .x1 ≤ℤ X) → counts X Y e ≡ weight Y e
+  pub right-of : (e : Edge) → (e .x0 ≤ℤ X) × (e .x1 ≤ℤ X) → counts X Y e ≡ weight Y e
   unfolding counts weight spans atOrLeft upward
   right-of e h = by (rises e)
     where
@@ -109,13 +109,13 @@ module _ (X Y : ℤ) where
   flat e q = ap (λ (v : ℤ). cond (atOrLeft e X Y) v (pos 0)) q ∙ nil (atOrLeft e X Y)
 
   -- the sample lies below both ends, or not below either
-  under : (e : Edge) → (Y <ℤ e .y0) × (Y <ℤ e .y1) → counts X Y e ≡ pos 0
+  pub under : (e : Edge) → (Y <ℤ e .y0) × (Y <ℤ e .y1) → counts X Y e ≡ pos 0
   under e h = flat e (weight-law e Y ∙ ap₂ (λ (a b : Bool). cond a (pos 1) (pos 0) -ℤ cond b (pos 1) (pos 0)) (far (e .y0) (h .0)) (far (e .y1) (h .1)))
     where
       far : (y : ℤ) → Y <ℤ y → leZ y Y ≡ false
       far y l = is-false (leZ y Y) (λ t. clashℤ {a = Y} {b = y} l (leZ-yes t))
 
-  over : (e : Edge) → (e .y0 ≤ℤ Y) × (e .y1 ≤ℤ Y) → counts X Y e ≡ pos 0
+  pub over : (e : Edge) → (e .y0 ≤ℤ Y) × (e .y1 ≤ℤ Y) → counts X Y e ≡ pos 0
   over e h = flat e
       (weight-law e Y
       ∙ ap₂ (λ (a b : Bool). cond a (pos 1) (pos 0) -ℤ cond b (pos 1) (pos 0)) (is-true (leZ (e .y0) Y) (h .0 .le)) (is-true (leZ (e .y1) Y) (h .1 .le)))

@@ -4,3 +4,4 @@ pub mod Scissors
 pub mod Scanline
 pub mod Marks
 pub mod Band
+pub mod Covers

@@ -26,7 +26,7 @@ pub fn filter_edges(scratch: &[i32], n: usize, from: usize, end: usize, list: &m
 }
 
 // 1 where an edge with such ends has a sample row of the pixel rows from to end - 1 between them.
-fn needed(y0: i32, y1: i32, from: usize, end: usize) -> usize
+pub fn needed(y0: i32, y1: i32, from: usize, end: usize) -> usize
     requires { ⌜ (from < end) × (end ≤ 1024) ⌝ }
     ensures { λ r. ⌜ (r ≡ cond (apart y0 y1 from end) 0 1) × (r ≤ 1) ⌝ }
 {

@@ -2,6 +2,7 @@
 pub mod band;
 mod column;
 pub mod cover;
+pub mod covers;
 mod edges;
 mod marks;
 mod samples;
