@@ -5,11 +5,12 @@ use crate::Quotient;
 ghost use mathlib.Core.Path.{_≡_};
 ghost use Prim.Native.Nat.{_+_, _*_, _≤_};
 ghost use lib.IntN.{pos, natAbs, _-ℤ_, _*ℤ_};
-ghost use mathlib.Core.Bool.{true};
+ghost use mathlib.Core.Bool.{true, not, _&&_};
+ghost use lib.Dec.{eqb};
 ghost use Rattle.fixed.specs.Floats.{atMost, scaled};
-ghost use Rattle.paint.specs.Gradient.{fixedPoints, rampUnit, centre, squaredLength, projection, linearT, mapped};
+ghost use Rattle.paint.specs.Gradient.{fixedPoints, rampUnit, centre, squaredLength, projection, linearT, spreadRepeat, spreadReflect, mapped};
 ghost use lib.Signed.{_<ℤ_};
-ghost use Rattle.paint.specs.Buffers.{LimitedPoints, Pads, Moderate, quotientOf, addQuotients, quotientAt, rowStep};
+ghost use Rattle.paint.specs.Buffers.{LimitedPoints, Moderate, quotientOf, addQuotients, quotientAt, rowStep};
 
 // t at the second point, where a ramp ends.
 pub const RAMP_UNIT: i64 = 65536;
@@ -67,7 +68,7 @@ pub fn spread(mode: u32, t: i64) -> i64
 
 // Whether the spread pads.
 pub fn pads(mode: u32) -> bool
-    ensures { λ r. ⌜ (r ≡ true → Pads mode) ⌝ }
+    ensures { λ r. ⌜ r ≡ (not (eqb mode spreadRepeat) && not (eqb mode spreadReflect)) ⌝ }
 {
     mode != REPEAT && mode != REFLECT
 }

@@ -1,10 +1,11 @@
 -- `positions::has_line` meets its contract.
-use mathlib.Core.Path.{_≡_, refl, sym, subst}
+use mathlib.Core.Path.{_≡_, refl, sym, subst, _∙_}
 use mathlib.Core.Bool.{Bool, true, false, not}
 use lib.Dec.{T, lit≤}
 use mir.Syntax.{w64}
 use mir.Facts.{toZ-ofZ}
 use Rattle.fixed.proofs.Signed.{back}
+use Rattle.paint.proofs.Folded.{leaves-t}
 use Rattle.paint.proofs.positions.has_line.Statement.{statement}
 use Rattle.paint.proofs.positions.has_line.Tie as tie
 
@@ -22,7 +23,7 @@ returns-4 c e =
     let first = after-first .is-below .ensures (passed _ (after-step .before .before .if2 .left)) in
     let step = after-step .is-below2 .ensures (passed _ (c .before .if3 .left)) in
     record {
-      pads = after-pads .pads .ensures (passed _ (after-first .before .before .if1 .left));
+      pads = leaves-t _ (sym (after-pads .pads .ensures) ∙ passed _ (after-first .before .before .if1 .left));
       whole = rw (back w64 (entry .args .q .whole) (after-first .before .struct-told .given .0 .1)) at first;
       growth = rw (back w64 (entry .args .step .whole) (after-step .before .struct-told2 .given .0 .1)) at step;
       length = rw (toZ-ofZ (entry .fits .d)) at (c .is-below3 .ensures e);

@@ -7,7 +7,9 @@ use borrow.Author.Tests.{lt-ltb, le-ltb}
 use lib.IntN.{pos}
 use mir.Syntax.{w64}
 use Rattle.fixed.proofs.Means.{of-nat}
+use Rattle.paint.specs.Buffers.{Pads}
 use Rattle.paint.specs.Segments.{positionOf}
+use Rattle.paint.proofs.Folded.{leaves-t}
 use Rattle.paint.proofs.radial_row.position_of.Statement.{statement}
 use Rattle.paint.proofs.radial_row.position_of.Tie as tie
 
@@ -19,17 +21,20 @@ behind : (t : ℕ) → 65536 ≤ t → 65537 ≡ positionOf (pos t)
 unfolding positionOf
 behind t h = rw (le-ltb t 0 (omega arith), le-ltb t 65536 h)
 
+unmapped : (c : tie.Then1) → Pads (c .before .before .args .spread)
+unmapped c = leaves-t _ (sym (c .before .pads .ensures) ∙ c .if1 .taken)
+
 returns : tie.Need-returns
 returns c =
     let s = c .before .before .before in
     on-ramp (s .args .t) (c .if2 .taken)
-    ∙ ap positionOf (sym (c .before .before .pads .ensures (c .before .if1 .taken) .same (pos (s .args .t))))
+    ∙ ap positionOf (sym (unmapped (c .before) .same (pos (s .args .t))))
 
 returns-2 : tie.Need-returns-2
 returns-2 c =
     let s = c .before .before .before in
     behind (s .args .t) (c .if2 .left)
-    ∙ ap positionOf (sym (c .before .before .pads .ensures (c .before .if1 .taken) .same (pos (s .args .t))))
+    ∙ ap positionOf (sym (unmapped (c .before) .same (pos (s .args .t))))
 
 returns-3 : tie.Need-returns-3
 returns-3 c =
