@@ -2,7 +2,7 @@
 use mathlib.Core.Path.{_≡_, refl, sym, ap, ap₂, _∙_}
 use mathlib.Core.List.{[], _∷_}
 use Prim.Native.Nat.{ℕ, _+_, _*_, _/_, _%_, _≤_, _<_}
-use native.Mathlib.Nat.{le-refl, le-trans, mul-le-mul, mul-le-mul-right, lt-of-mul-lt-mul-right}
+use native.Mathlib.Nat.{le-refl, le-trans, mul-le-mul}
 use native.Mathlib.Nat.{div-eq-of-lt-le, div-lt-iff-lt-mul, div-div-eq-div-mul, div-add-mod, mod-lt}
 use native.Mathlib.Omega.{arith}
 use lib.Dec.{lit<}
@@ -20,32 +20,9 @@ use Rattle.paint.specs.Segments.{positionOf}
 use Rattle.paint.specs.declared.FixedPoints.{FixedPoints}
 use Rattle.paint.specs.declared.Quotient.{Quotient}
 use Rattle.paint.proofs.Folded.{rest-below}
-use Rattle.paint.proofs.Quotients.{floor-whole, floor-parts}
+use Rattle.paint.proofs.Quotients.{linear-form, floor-whole, floor-parts}
 use Rattle.paint.proofs.Slope.{squared-is, above}
 use Rattle.paint.proofs.Walk.{shifted, positive, whole-is-t}
-
--- ---- natural numbers: u and v are a s / d and h s / d, k is (a j + h) / d
-lower : (s d a h j u v k : ℕ) → 0 < d → a * s < d * u + d → h * s < d * v + d → d * k ≤ a * j + h → k * s ≤ (u + 1) * j + (v + 1)
-lower s d a h j u v k l f g e =
-    let f' : a * s ≤ d * u + d = omega arith in
-    let m : k * s < (u + 1) * j + (v + 1) = lt-of-mul-lt-mul-right d (omega (arith, mul-le-mul-right j f', mul-le-mul-right s e)) in
-    omega arith
-
-upper : (s d a h j u v k : ℕ) → (j + 1) * d < s → d * u ≤ a * s → d * v ≤ h * s → a * j + h < d * k + d → (u + 1) * j + (v + 1) < (k + 1) * s
-upper s d a h j u v k l f g e =
-    let e' : a * j + h + 1 ≤ d * k + d = omega arith in
-    lt-of-mul-lt-mul-right d (omega (arith, mul-le-mul-right j f, mul-le-mul-right s e'))
-
-linear-form : (s d a h j : ℕ) → 0 < d → (j + 1) * d < s → ((a * s / d + 1) * j + (h * s / d + 1)) / s ≡ (a * j + h) / d
-linear-form s d a h j l near =
-    let A = div-add-mod (a * s) d in
-    let H = div-add-mod (h * s) d in
-    let K = div-add-mod (a * j + h) d in
-    let u = a * s / d in
-    let v = h * s / d in
-    let k = (a * j + h) / d in
-    div-eq-of-lt-le s (lower s d a h j u v k l (omega (arith, A, mod-lt (a * s) l)) (omega (arith, H, mod-lt (h * s) l)) (omega (arith, K)))
-    (upper s d a h j u v k near (omega (arith, A)) (omega (arith, H)) (omega (arith, K, mod-lt (a * j + h) l)))
 
 -- ---- a fraction in parts of 2^44, by two divisions
 pub fraction-below : (r d : ℕ) → r < d → r * lineParts / d < lineParts

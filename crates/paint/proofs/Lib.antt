@@ -3,8 +3,8 @@
 -- Gradients:
 --     Sizes       signed numbers of which a size is known
 --     Slope       dx² + dy², and rows with one t
---     Folded      t modulo 65,536
---     Quotients   floor division from one numerator to the next
+--     Folded      t modulo 65,536, and spreads that leave t as it is
+--     Quotients   floor division from one numerator to the next, and by a product and a shift
 --     Walk        t from pixel to pixel of a row
 --     Along       t along a row as a line in parts of 2^44
 --
@@ -12,6 +12,7 @@
 --     Lagrange    Q is A² + D (dx² + dy²)
 --     Focal       so Q and t are not negative where the focal point is inside the circle; how large the numbers of t are
 --     Differences A and Q from pixel to pixel of a row
+--     Onward      what a loop over the pixels of a row keeps
 --
 -- Ramps:
 --     Mix         a channel between two stops
@@ -37,6 +38,7 @@ pub mod Along
 pub mod Lagrange
 pub mod Focal
 pub mod Differences
+pub mod Onward
 pub mod Mix
 pub mod Lines
 pub mod Pairs

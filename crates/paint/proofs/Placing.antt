@@ -2,10 +2,11 @@
 use mathlib.Core.Path.{_≡_, refl, ap, _∙_}
 use mathlib.Core.Bool.{Bool, true, false, cond}
 use mathlib.Core.List.{List, [], _∷_}
-use Prim.Native.Nat.{ℕ, _+_, _-_, _≤_, _<_, min}
+use Prim.Native.Nat.{ℕ, _+_, _-_, _*_, _/_, _≤_, _<_, min}
+use native.Mathlib.Nat.{div-lt-iff-lt-mul, le-div-iff-mul-le}
 use native.Mathlib.Numerals.{add-one}
 use native.Mathlib.Omega.{arith}
-use borrow.Author.Tests.{le-ltb, ltb-true, ltb-false}
+use borrow.Author.Tests.{lt-ltb, le-ltb, ltb-true, ltb-false}
 use lib.Dec.{ltb}
 use lib.IntN.{ℤ, pos, negsuc, _+ℤ_}
 use lib.ListN.{length, getD}
@@ -39,6 +40,22 @@ position-small (pos n) = by (ltb n rampUnit) refl
     by : (t : Bool) → ltb n rampUnit ≡ t → positionOf (pos n) ≤ 65537
     by true e = rw (le-ltb n 0 (omega arith), e) (omega (arith, ltb-true n rampUnit e))
     by false e = rw (le-ltb n 0 (omega arith), e) (omega arith)
+
+-- t of 65,536 u / d, by how u and d lie
+pub below-unit : (u d : ℕ) → u < d → 65536 * u / d < 65536
+below-unit u d l = div-lt-iff-lt-mul {k = d} {x = 65536 * u} {y = 65536} (omega arith) .1 (omega arith)
+
+pub from-unit : (u d : ℕ) → 0 < d → d ≤ u → 65536 ≤ 65536 * u / d
+from-unit u d some l = le-div-iff-mul-le {k = d} {x = 65536} {y = 65536 * u} some .1 (omega arith)
+
+-- the position of a t that is not negative
+pub on-ramp : (t : ℕ) → t < 65536 → t + 1 ≡ positionOf (pos t)
+unfolding positionOf
+on-ramp t h = rw (le-ltb t 0 (omega arith), lt-ltb t 65536 h)
+
+pub behind : (t : ℕ) → 65536 ≤ t → 65537 ≡ positionOf (pos t)
+unfolding positionOf
+behind t h = rw (le-ltb t 0 (omega arith), le-ltb t 65536 h)
 
 -- one more than t cut to -1..65,536 is its position
 pub cut-next : (t : ℤ) → let v = cond (ltZ t (pos rampUnit)) t (pos rampUnit) in cond (ltZ v (pos 0)) (negsuc 0) v +ℤ pos 1 ≡ pos (positionOf t)

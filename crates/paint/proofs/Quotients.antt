@@ -1,8 +1,9 @@
--- A floor division that is carried from one numerator to the next: its parts are the only ones there are, and quotients add with a carry.
+-- A floor division that is carried from one numerator to the next: its parts are the only ones there are, and quotients add with a carry. The quotients
+-- of a line by a product and a shift.
 use mathlib.Core.Path.{_≡_, refl, ap, ap₂, _∙_}
 use mathlib.Core.Bool.{Bool, true, false}
 use Prim.Native.Nat.{ℕ, suc, _+_, _-_, _*_, _/_, _%_, _≤_, _<_}
-use native.Mathlib.Nat.{div-eq-of-lt-le, div-add-mod', mod-lt}
+use native.Mathlib.Nat.{zero-mul, zero-div, mul-le-mul-right, lt-of-mul-lt-mul-right, div-eq-of-lt-le, div-add-mod, div-add-mod', mod-lt}
 use native.Mathlib.Omega.{arith}
 use borrow.Author.Tests.{ltb-true, ltb-false}
 use lib.Dec.{ltb}
@@ -18,6 +19,43 @@ divided : (a k r d : ℕ) → r < d → a ≡ k * d + r → (a / d ≡ k) × (a 
 divided a k r d h e =
     let q : a / d ≡ k = div-eq-of-lt-le d (omega arith) (omega arith) in
     (q, omega (arith, div-add-mod' a d, ap (λ (x : ℕ). x * d) q))
+
+-- ---- a line's quotients by d are those of a line in parts of s: u and v are a s / d and h s / d, k is (a j + h) / d
+lower : (s d a h j u v k : ℕ) → 0 < d → a * s < d * u + d → h * s < d * v + d → d * k ≤ a * j + h → k * s ≤ (u + 1) * j + (v + 1)
+lower s d a h j u v k l f g e =
+    let f' : a * s ≤ d * u + d = omega arith in
+    let m : k * s < (u + 1) * j + (v + 1) = lt-of-mul-lt-mul-right d (omega (arith, mul-le-mul-right j f', mul-le-mul-right s e)) in
+    omega arith
+
+upper : (s d a h j u v k : ℕ) → (j + 1) * d < s → d * u ≤ a * s → d * v ≤ h * s → a * j + h < d * k + d → (u + 1) * j + (v + 1) < (k + 1) * s
+upper s d a h j u v k l f g e =
+    let e' : a * j + h + 1 ≤ d * k + d = omega arith in
+    lt-of-mul-lt-mul-right d (omega (arith, mul-le-mul-right j f, mul-le-mul-right s e'))
+
+pub linear-form : (s d a h j : ℕ) → 0 < d → (j + 1) * d < s → ((a * s / d + 1) * j + (h * s / d + 1)) / s ≡ (a * j + h) / d
+linear-form s d a h j l near =
+    let A = div-add-mod (a * s) d in
+    let H = div-add-mod (h * s) d in
+    let K = div-add-mod (a * j + h) d in
+    let u = a * s / d in
+    let v = h * s / d in
+    let k = (a * j + h) / d in
+    div-eq-of-lt-le s (lower s d a h j u v k l (omega (arith, A, mod-lt (a * s) l)) (omega (arith, H, mod-lt (h * s) l)) (omega (arith, K)))
+    (upper s d a h j u v k near (omega (arith, A)) (omega (arith, H)) (omega (arith, K, mod-lt (a * j + h) l)))
+
+-- a u / d by one product, where u is below d
+pub by-scale : (s d a u : ℕ) → u < d → d * d < s → (u * (a * s / d + 1) + 1) / s ≡ a * u / d
+by-scale s d a u l near =
+    let some : 0 < d = omega arith in
+    let next : u + 1 ≤ d = omega arith in
+    let e : u * (a * s / d + 1) + 1 ≡ (a * s / d + 1) * u + (0 * s / d + 1) = rw (zero-mul s, zero-div d) (omega arith) in
+    let f : a * u + 0 ≡ a * u = omega arith in
+    ap (λ (n : ℕ). n / s) e ∙ linear-form s d a 0 u some (omega (arith, mul-le-mul-right d next)) ∙ ap (λ (n : ℕ). n / d) f
+
+pub scaled-small : (u d n : ℕ) → u < d → u * (n / d + 1) ≤ n + u
+scaled-small u d n l =
+    let h : u ≤ d = omega arith in
+    omega (arith, div-add-mod n d, mul-le-mul-right (n / d) h)
 
 -- ---- integers
 pub floor-whole : (z : ℤ) (d : ℕ) → 0 < d → z ≡ floorDiv z d *ℤ pos d +ℤ pos (floorMod z d)

@@ -167,8 +167,16 @@ pub fn t_of(a: i64, q: u64, d: i64, reciprocal: u64) -> u64
     requires { ⌜ (natAbs a ≤ q) × (q ≤ 1073741824) × (pos 0 <ℤ d) × (natAbs d ≤ 268435456) × (reciprocal < 8589934592) ⌝ }
     ensures { λ t. ⌜ (pos t ≡ floorDiv (pos rampUnit *ℤ (a +ℤ pos q)) (natAbs d)) × (t ≤ 140737488355328) ⌝ }
 {
-    let u = (a + q as i64) as u64;
+    let u = numerator(a, q);
     quotient_near(65536 * u, d as u64, u * reciprocal / 2147483648)
+}
+
+// A + q, which is not negative.
+pub fn numerator(a: i64, q: u64) -> u64
+    requires { ⌜ (natAbs a ≤ q) × (q ≤ 1073741824) ⌝ }
+    ensures { λ u. ⌜ (pos u ≡ a +ℤ pos q) × (u ≤ 2147483648) ⌝ }
+{
+    (a + q as i64) as u64
 }
 
 // n / d, from a guess of at most 2^33, right or not.

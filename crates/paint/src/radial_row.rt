@@ -9,15 +9,22 @@ use crate::radial;
 use crate::segments::BEHIND;
 ghost use mathlib.Core.Path.{_≡_};
 ghost use mathlib.Core.Bool.{true};
-ghost use Prim.Native.Nat.{_+_, _≤_, _<_};
+ghost use Prim.Native.Nat.{_+_, _*_, _/_, _≤_, _<_};
 ghost use lib.IntN.{pos, natAbs, _+ℤ_, _-ℤ_, _*ℤ_};
 ghost use lib.Signed.{_<ℤ_};
 ghost use lib.ListN.{length};
 ghost use Rattle.lists.specs.Lists.{tab};
-ghost use Rattle.paint.specs.Gradient.{mapped};
-ghost use Rattle.paint.specs.Radial.{inside, radialT, focalAllowed};
+ghost use Rattle.paint.specs.Gradient.{rampUnit, mapped};
+ghost use Rattle.paint.specs.Radial.{inside, radialD, radialT, focalAllowed};
 ghost use Rattle.paint.specs.Circles.{LimitedCircle, ModeratePlace, placeFrom, placeAt, nextPlace};
 ghost use Rattle.paint.specs.Segments.{positionOf};
+
+// D up to which one product gives t on the ramp: A + q times 2^63 / D, rounded up, is t in parts of 2^47, and right as long as (A + q + 1) D is below
+// 2^47. On the ramp A + q is below D, so this is the largest D of which the square is below 2^47: that of a radius of 215 pixels.
+const PRODUCT_LIMIT: i64 = 11863283;
+
+// 65,536 in these parts: 2^63.
+const UNIT_IN_PARTS: u64 = 9223372036854775808;
 
 // The roots of the three pixels before a pixel, and 3c - 8b, where b is the third of them and c the root before it. They serve for guesses
 // alone, so that nothing is asked of them.
@@ -36,8 +43,53 @@ pub fn radial_positions(g: RadialGradient, x: usize, y: usize, ks: &mut [u32])
 {
     let c = g.circle;
     let d = radial::circle_d(c);
-    let reciprocal = radial::reciprocal(d);
+    if gradient::pads(g.spread) && d <= PRODUCT_LIMIT {
+        padded_positions(c, d, x, y, ks);
+        return;
+    }
+    mapped_positions(g, d, x, y, ks);
+}
+
+// The positions of t as it is, which is where the spread pads, of a D up to PRODUCT_LIMIT.
+fn padded_positions(c: Circle, d: i64, x: usize, y: usize, ks: &mut [u32])
+    requires { ⌜ LimitedCircle c × (focalAllowed c ≡ true) × (pos 0 <ℤ c .r) × (d ≡ radialD c) × (natAbs d ≤ 11863283) ⌝ }
+    requires { ⌜ (x + length (now ks) ≤ 1024) × (y ≤ 1024) ⌝ }
+    ensures { λ _. ⌜ now (ks .exit) ≡ tab (length (now (ks .entry))) (λ i. positionOf (radialT c (x + i) y)) ⌝ }
+{
+    let size = d as u64;
+    let scale = UNIT_IN_PARTS / size + 1;
     let mut p = place_at(c, x, y);
+    let mut roots = first_roots(p.q, p.dq);
+    let mut i = 0;
+    while i < ks.len() {
+        let q = radial::root_near(p.q, next_guess(roots));
+        ks[i] = padded_position(radial::numerator(p.a, q), size, scale);
+        p = next_place(p);
+        roots = next_roots(roots, q);
+        i += 1;
+    }
+}
+
+// The position of t = 65,536 u / d, where scale is what t grows by with u, in parts of 2^47: a u below d is on the ramp, any other behind it.
+fn padded_position(u: u64, d: u64, scale: u64) -> u32
+    requires { ⌜ (0 < d) × (d ≤ 11863283) × (scale ≡ 9223372036854775808 / d + 1) ⌝ }
+    ensures { λ k. ⌜ k ≡ positionOf (pos (rampUnit * u / d)) ⌝ }
+{
+    if u < d {
+        ((u * scale + 1) >> 47) as u32 + 1
+    } else {
+        BEHIND
+    }
+}
+
+// The positions of t as any spread maps it, of any D.
+fn mapped_positions(g: RadialGradient, d: i64, x: usize, y: usize, ks: &mut [u32])
+    requires { ⌜ LimitedCircle (g .circle) × (focalAllowed (g .circle) ≡ true) × (pos 0 <ℤ g .circle .r) × (d ≡ radialD (g .circle)) ⌝ }
+    requires { ⌜ (x + length (now ks) ≤ 1024) × (y ≤ 1024) ⌝ }
+    ensures { λ _. ⌜ now (ks .exit) ≡ tab (length (now (ks .entry))) (λ i. positionOf (mapped (g .spread) (radialT (g .circle) (x + i) y))) ⌝ }
+{
+    let reciprocal = radial::reciprocal(d);
+    let mut p = place_at(g.circle, x, y);
     let mut roots = first_roots(p.q, p.dq);
     let mut i = 0;
     while i < ks.len() {

@@ -1,25 +1,15 @@
 -- `radial_row::position_of` meets its contract: a gradient that pads maps t to itself.
-use mathlib.Core.Path.{_≡_, sym, ap, _∙_}
-use Prim.Native.Nat.{ℕ, _+_, _≤_, _<_}
-use native.Mathlib.Omega.{arith}
+use mathlib.Core.Path.{sym, ap, _∙_}
 use borrow.Author.Needs.{needs}
-use borrow.Author.Tests.{lt-ltb, le-ltb}
 use lib.IntN.{pos}
 use mir.Syntax.{w64}
 use Rattle.fixed.proofs.Means.{of-nat}
 use Rattle.paint.specs.Buffers.{Pads}
 use Rattle.paint.specs.Segments.{positionOf}
 use Rattle.paint.proofs.Folded.{leaves-t}
+use Rattle.paint.proofs.Placing.{on-ramp, behind}
 use Rattle.paint.proofs.radial_row.position_of.Statement.{statement}
 use Rattle.paint.proofs.radial_row.position_of.Tie as tie
-
-on-ramp : (t : ℕ) → t < 65536 → t + 1 ≡ positionOf (pos t)
-unfolding positionOf
-on-ramp t h = rw (le-ltb t 0 (omega arith), lt-ltb t 65536 h)
-
-behind : (t : ℕ) → 65536 ≤ t → 65537 ≡ positionOf (pos t)
-unfolding positionOf
-behind t h = rw (le-ltb t 0 (omega arith), le-ltb t 65536 h)
 
 unmapped : (c : tie.Then1) → Pads (c .before .before .args .spread)
 unmapped c = leaves-t _ (sym (c .before .pads .ensures) ∙ c .if1 .taken)
