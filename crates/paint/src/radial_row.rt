@@ -20,7 +20,7 @@ ghost use Rattle.paint.specs.Circles.{LimitedCircle, ModeratePlace, plac
 ghost use Rattle.paint.specs.Segments.{positionOf};
 
 // D up to which one product gives t on the ramp: A + q times 2^63 / D, rounded up, is t in parts of 2^47, and right as long as (A + q + 1) D is below
-// 2^47. On the ramp A + q is below D, so this is the largest D of which the square is below 2^47: that of a radius of 215 pixels.
+// 2^47. On the ramp A + q is below D, so this is the largest D of which the square is below 2^47; no radius up to 215 pixels has a larger one.
 const PRODUCT_LIMIT: i64 = 11863283;
 
 // 65,536 in these parts: 2^63.
