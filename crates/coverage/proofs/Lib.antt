@@ -20,3 +20,4 @@ pub mod Outside
 pub mod Rectangles
 pub mod Borders
 pub mod Covered
+pub mod Clipped

@@ -1,5 +1,6 @@
 // Coverage: how many of a pixel's 16 samples lie inside a path.
 pub mod band;
+pub mod clip;
 mod column;
 pub mod cover;
 pub mod covers;

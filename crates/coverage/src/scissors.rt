@@ -52,7 +52,7 @@ fn span(scissors: &[u8], n: usize, r: usize, y: usize) -> Span
 }
 
 // From start to start + size - 1, as whole numbers.
-fn run(start: i32, size: i32) -> Span
+pub fn run(start: i32, size: i32) -> Span
     ensures { λ s. ⌜ s ≡ runOf start size ⌝ }
 {
     Span {

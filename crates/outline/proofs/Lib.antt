@@ -1,4 +1,4 @@
--- Laws of outlines. Callers of this crate need the first seven; the others serve its own functions.
+-- Laws of outlines. Callers of this crate need the first seven and Outermost; the others serve its own functions.
 --     Flattened   what `flatten` leaves
 --     Returns     a path's edges come back to where they began
 --     Counts      how many edges a curve and a path have
@@ -18,6 +18,6 @@ pub mod Stores
 pub mod Every
 pub mod Walked
 mod Bezier
-mod Outermost
+pub mod Outermost
 mod Merged
 mod Around
