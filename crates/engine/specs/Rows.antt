@@ -8,12 +8,13 @@ use lib.ListN.{length, take, drop, replicate}
 use Rattle.runs.specs.Runs.{startOf, expand, Runs}
 use Rattle.color.specs.declared.Pixel.{Pixel}
 use Rattle.rect.specs.declared.Rect.{Rect}
-use Rattle.rect.specs.Rects.{On}
+use Rattle.rect.specs.Rects.{On, whole}
 use Rattle.path.specs.declared.Edge.{Edge}
 use Rattle.path.specs.Stored.{edgesOf}
 use Rattle.coverage.specs.Scanline.{Outlined}
 use Rattle.coverage.specs.Band.{Needed, Band}
 use Rattle.coverage.specs.Scissors.{scissored}
+use Rattle.coverage.specs.Clips.{scissorBox}
 use Rattle.coverage.specs.Winding.{coverage}
 use Rattle.raster.specs.declared.Range.{Range}
 use Rattle.raster.specs.declared.Target.{Target}
@@ -33,7 +34,7 @@ use Rattle.paint.specs.Circles.{LimitedCircle, HeldGradient, gradientAt}
 use Rattle.transform.specs.Transforms.{transformed}
 use Rattle.scene.specs.Blocks.{drawOf}
 use Rattle.scene.specs.Header.{countOf}
-use Rattle.scene.specs.Fields.{blendOf, nonZeroRule, scissoring, scissorCount, spreadOf, rampPremultiplied, usesMask, stopsOf, stopCount}
+use Rattle.scene.specs.Fields.{blendOf, nonZeroRule, scissoring, scissorsOf, scissorCount, spreadOf, rampPremultiplied, usesMask, stopsOf, stopCount}
 use Rattle.engine.specs.Picture.{drawEdges, drawTransform, drawPaint}
 use Rattle.engine.specs.declared.Style.{Style}
 use Rattle.engine.specs.declared.Strip.{Strip}
@@ -68,6 +69,10 @@ maskWith s m = cond (s .masked) m 255
 -- what is stored, with the mask's byte m
 unfoldable pub stepWith : Style → List Edge → List ℕ → List ℕ → ℕ → ℕ → ℕ → Pixel → Pixel
 stepWith s es scissors ramp m x y q = compositeOn (s .mode) (coverageWith s es scissors x y) (maskWith s m) (shadeAt (s .shade) ramp x y) q
+
+-- pixels outside of which a draw's scissors leave nothing of it
+abbrev pub clipOf : List ℕ → Rect
+clipOf d = cond (scissoring d) (scissorBox (scissorsOf d) (scissorCount d)) (whole 1024 1024)
 
 -- ---- what is asked
 -- of the scissors

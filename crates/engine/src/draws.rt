@@ -23,7 +23,7 @@ ghost use Rattle.scene.specs.Fields.{usesMask};
 ghost use Rattle.scene.specs.Accepted.{AcceptedFields, AcceptedDraw, AcceptedScene};
 ghost use Rattle.engine.specs.Picture.{drawEdges, firstDraws, pixelAt, maskAt};
 ghost use Rattle.engine.specs.Unclamped.{unclampedOf, unclampedStep, unclampedAll};
-ghost use Rattle.engine.specs.Rows.{Blank, Area, MaskFor, MaskForScene};
+ghost use Rattle.engine.specs.Rows.{Blank, Area, MaskFor, MaskForScene, clipOf};
 
 // The scene's picture under a mask, at every pixel of a.
 pub fn paint_area(
@@ -126,7 +126,8 @@ fn misses(d: &[u8], edition: u32, target: Target) -> bool
     rect::is_empty(rect::meet(a, hull))
 }
 
-// A draw whose n edges lie in the scratch, at every pixel of the target: only the pixels of its box are gone through.
+// A draw whose n edges lie in the scratch, at every pixel of the target: only the pixels of its box, inside the rectangle round its scissors, are gone
+// through.
 fn paint_box(
     surface: &mut [u8],
     scratch: &mut [i32],
@@ -146,10 +147,8 @@ fn paint_box(
 {
     let width = target.width;
     let height = target.height;
-    let b = rect::meet(
-        target.area,
-        outline::bounds::bounds(scratch, n, width, height),
-    );
+    let outer = rect::meet(outline::bounds::bounds(scratch, n, width, height), clip(d));
+    let b = rect::meet(target.area, outer);
     if rect::is_empty(b) {
         return;
     }
@@ -159,4 +158,23 @@ fn paint_box(
         area: b,
     };
     fill(surface, scratch, mask, n, d, inner);
+}
+
+// The rectangle round a draw's scissors, or the largest surface where they are off.
+fn clip(d: &[u8]) -> Rect
+    requires { ⌜ (length (now d) ≡ drawBytes) × AcceptedFields (now d) ⌝ }
+    ensures { λ r. ⌜ r ≡ clipOf (now (d .entry)) ⌝ }
+{
+    if scene::fields::scissoring(d) {
+        return coverage::clip::scissor_box(
+            scene::fields::scissors(d),
+            scene::fields::scissor_count(d),
+        );
+    }
+    Rect {
+        x0: 0,
+        y0: 0,
+        x1: 1024,
+        y1: 1024,
+    }
 }

@@ -6,13 +6,15 @@ use native.Mathlib.Omega.{arith}
 use lib.IntN.{ℤ, pos}
 use lib.ListN.{replicate, drop}
 use Rattle.rect.specs.Rects.{meetOf}
+use Rattle.rect.proofs.Laws.{meet-left}
 use Rattle.raster.specs.Rows.{stepped}
 use Rattle.path.specs.declared.Edge.{Edge}
 use Rattle.path.specs.Boxes.{boxOf}
 use Rattle.path.specs.Closed.{Closed}
 use Rattle.engine.specs.Picture.{drawEdges, maskAt}
 use Rattle.engine.specs.Unclamped.{unclampedOf}
-use Rattle.engine.proofs.Steps.{draw-closed, box-none}
+use Rattle.engine.specs.Rows.{clipOf}
+use Rattle.engine.proofs.Steps.{draw-closed, hull-none, box-none}
 use borrow.Author.Needs.{needs}
 use Rattle.engine.proofs.draws.paint_draw.Statement.{statement}
 use Rattle.engine.proofs.draws.paint_draw.Tie as tie
@@ -30,10 +32,13 @@ returns c =
     let a = entry .args in
     let t = a .target in
     let edges = drawEdges (a .edition) (a .d .now) in
-    let mask = maskAt (t .width) (a .mask .now) in (
+    let mask = maskAt (t .width) (a .mask .now) in
+    let box = boxOf (t .width) (t .height) edges in
+    let clip = clipOf (a .d .now) in
+    let empty = hull-none (t .area) (meetOf box clip) box (meet-left box clip) (after-misses .misses .ensures (c .if1 .taken)) in (
       refl,
-      box-none t edges (a .surface .now) (a .d .now) mask (draw-closed (a .edition) (a .d .now)) (meetOf (t .area) (boxOf (t .width) (t .height) edges))
-          (entry .pre .1 .1 .0) refl (after-misses .misses .ensures (c .if1 .taken)),
+      box-none t edges (a .surface .now) (a .d .now) (entry .pre .1 .1 .0) mask (draw-closed (a .edition) (a .d .now)) (meetOf (t .area) (meetOf box clip)) refl
+          empty,
     )
 
 lay-edges-requires : tie.Need-lay-edges-requires
