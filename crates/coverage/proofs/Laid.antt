@@ -1,8 +1,8 @@
 -- A run of numbers laid into a list: what is read of it, what is stored into it.
-use mathlib.Core.Path.{_≡_, sym, ap, ap₂, _∙_}
+use mathlib.Core.Path.{_≡_, refl, sym, ap, ap₂, _∙_}
 use mathlib.Core.List.{List, [], _∷_, _++_}
 use mathlib.Core.Bool.{Bool, cond}
-use Prim.Native.Nat.{ℕ, _+_, _≤_, _<_}
+use Prim.Native.Nat.{ℕ, zero, suc, _+_, _≤_, _<_}
 use native.Mathlib.Omega.{arith}
 use native.Mathlib.Nat.{suc-add, zero-add}
 use native.Mathlib.Decide.{ℕ-discrete}
@@ -18,6 +18,11 @@ use Rattle.coverage.specs.Scanline.{laid}
 set-append-right : {A : Type 0} (xs ys : List A) (n : ℕ) (a : A) → set (xs ++ ys) (length xs + n) a ≡ xs ++ set ys n a
 set-append-right [] ys n a = rw zero-add
 set-append-right (x ∷ xs) ys n a = rw (suc-add, set-append-right xs ys n a)
+
+pub set-again : {A : Type 0} (xs : List A) (n : ℕ) (a : A) → set (set xs n a) n a ≡ set xs n a
+set-again {A} [] n a = refl
+set-again {A} (x ∷ xs) zero a = refl
+set-again {A} (x ∷ xs) (suc n) a = ap (λ (t : List A). x ∷ t) (set-again xs n a)
 
 module _ (b m : ℕ) (l q : List ℤ) (h : b + m ≤ length l) (e : length q ≡ m) where
   front : length (take b l) ≡ b

@@ -16,6 +16,7 @@ pub mod Window
 pub mod Limits
 pub mod Telescope
 pub mod Sides
+pub mod Steep
 pub mod Outside
 pub mod Rectangles
 pub mod Borders

@@ -35,7 +35,7 @@ product (pos a) (pos b) h k = record { lt = lt→ltb 0 (a * b) (mul-pos (ltb→l
 product (pos a) (negsuc b) h k = absurd (k .lt)
 product (negsuc a) b h k = absurd (h .lt)
 
-product-le : (a b : ℤ) → pos 0 ≤ℤ a → pos 0 ≤ℤ b → pos 0 ≤ℤ (a *ℤ b)
+pub product-le : (a b : ℤ) → pos 0 ≤ℤ a → pos 0 ≤ℤ b → pos 0 ≤ℤ (a *ℤ b)
 product-le (pos a) (pos b) h k = le (num 0) (num (a * b)) (omega arith)
 product-le (pos a) (negsuc b) h k = absurd (k .le)
 product-le (negsuc a) b h k = absurd (h .le)

@@ -8,7 +8,7 @@ use native.Mathlib.Numerals.{add-one}
 use native.Mathlib.Decide.{ℕ-discrete}
 use lib.Dec.{eqb, ltb}
 use borrow.Author.Tests.{ltb-true, ltb-false, ne-eqb}
-use lib.IntN.{ℤ, pos, natAbs, _+ℤ_, +ℤ-idr}
+use lib.IntN.{ℤ, pos, _+ℤ_, +ℤ-idr}
 use lib.ListN.{length, getD, set, length-set}
 use lib.Seq.{getD-set-same, getD-set-other}
 use Rattle.lists.specs.Lists.{tab}
@@ -17,10 +17,10 @@ use Rattle.path.specs.declared.Edge.{Edge}
 use Rattle.path.specs.Stored.{edgeAt, edgesOf, Small}
 use Rattle.coverage.specs.declared.Start.{Start}
 use Rattle.coverage.specs.Winding.{sample}
-use Rattle.coverage.specs.Scanline.{laid, zeros, starts, startOf, sumsAt, missed, beyond, bumped, withSums, Edges, Marked}
+use Rattle.coverage.specs.Scanline.{laid, zeros, starts, startOf, sumsAt, missed, beyond, bumped, bumpedFour, withSums, Low, LowFour, Edges, Marked}
 use Rattle.coverage.proofs.Beyond.{beyond-more}
 use Rattle.coverage.proofs.Laid.{laid-at, laid-before, laid-set, laid-again, tab-bump}
-use Rattle.coverage.proofs.Laid.{tab-same}
+use Rattle.coverage.proofs.Laid.{tab-same, set-again}
 use Rattle.coverage.proofs.Starts.{partly, partly-none, partly-more, partly-all, partly-small, missed-more}
 
 -- ---- one number more in the sums
@@ -75,12 +75,110 @@ module _ (n m : ℕ) (l q : List ℤ) (fit : n * 4 + m ≤ length l) (e : length
   edges-stay : (i : ℕ) → i ≤ n → edgesOf (laid (n * 4) m l q) i ≡ edgesOf l i
   edges-stay i h = tab-same i (edgeAt (laid (n * 4) m l q)) (edgeAt l) (λ j k. edge-stays j (omega arith))
 
+-- ---- an edge, for w pixels from column c on in the pixel row y
+-- v is l with the sums of es and what e begins in the first r sample rows; where something begins, d has a mark
+pub record Added (n w c y : ℕ) (l : List ℤ) (es : List Edge) (e : Edge) (r : ℕ) (v : List ℤ) (d : List ℕ) : Type 0 where
+  pub long : length v ≡ length l
+  pub wide : length d ≡ w
+  pub sums : v ≡ laid (n * 4) (w * 16) l (tab (w * 16) (partly c (w * 4) y es e r))
+  pub marks : Marked d (partly c (w * 4) y es e r)
+
+module _ (n w c y : ℕ) (l : List ℤ) (fit : n * 4 + w * 16 ≤ length l) (es : List Edge) (e : Edge) where
+  abbrev sumsUpTo : ℕ → ℕ → ℤ
+  sumsUpTo r = partly c (w * 4) y es e r
+
+  -- no number is too large to add to
+  module _ (r : ℕ) (v : List ℤ) (d : List ℕ) (a : Added n w c y l es e r v d) (few : length es < 1000000) where
+    pub added-low : (p : ℕ) → p < w * 16 → Low (getD v (n * 4 + p) (pos 0))
+    added-low p h =
+        subst Low (sym (stands (n * 4) (w * 16) l fit (sumsUpTo r) v (a .sums) p h)) (omega (arith, partly-small c (w * 4) y es e r p, few))
+
+    pub added-low-four : (at : ℕ) → at / 4 < w → LowFour v (n * 4 + at * 4)
+    added-low-four at h = (
+      row 0 (omega arith) (n * 4 + at * 4) (omega arith),
+      row 1 (omega arith) (n * 4 + at * 4 + 1) (omega arith),
+      row 2 (omega arith) (n * 4 + at * 4 + 2) (omega arith),
+      row 3 (omega arith) (n * 4 + at * 4 + 3) (omega arith),
+    )
+      where
+        row : (q : ℕ) → q < 4 → (j : ℕ) → n * 4 + (at * 4 + q) ≡ j → Low (getD v j (pos 0))
+        row q k j o = subst (λ (i : ℕ). Low (getD v i (pos 0))) o (added-low (at * 4 + q) (omega (arith, h, k)))
+
+  -- one sample row more
+  module _ (r : ℕ) (low : r < 4) (s : Start) (q : s ≡ startOf c (w * 4) (sample (4 * y + r)) e) where
+    next : (j : ℕ) → sumsUpTo r j +ℤ cond (eqb (s .at * 4 + r) j) (s .by) (pos 0) ≡ sumsUpTo (r + 1) j
+    unfolding startOf
+    next j =
+        ap (λ (z : Start). sumsUpTo r j +ℤ cond (eqb (z .at * 4 + r) j) (z .by) (pos 0)) q
+        ∙ partly-more c (w * 4) y es e r j low
+
+    next-sums : (v t : List ℤ) → v ≡ laid (n * 4) (w * 16) l (tab (w * 16) (sumsUpTo r))
+        → t ≡ cond (ltb (s .at / 4) w) (bumped v (n * 4 + (s .at * 4 + r)) (s .by)) v
+        → t ≡ laid (n * 4) (w * 16) l (tab (w * 16) (sumsUpTo (r + 1)))
+    next-sums v t o p =
+        put-turn (n * 4) (w * 16) l fit (sumsUpTo r) v o w (s .at) r (s .by) refl low t p
+        ∙ ap (laid (n * 4) (w * 16) l)
+        (tab-same (w * 16) (λ j. sumsUpTo r j +ℤ cond (eqb (s .at * 4 + r) j) (s .by) (pos 0)) (sumsUpTo (r + 1)) (λ j m. next j))
+
+    next-marks : (d t : List ℕ) → t ≡ set d (s .at / 4) 1 → Marked d (sumsUpTo r) → Marked t (sumsUpTo (r + 1))
+    next-marks d t p k =
+        mark-same t (λ j. sumsUpTo r j +ℤ cond (eqb (s .at * 4 + r) j) (s .by) (pos 0)) (sumsUpTo (r + 1)) (λ j m. next j)
+        (mark-turn d t (sumsUpTo r) (s .at) r (s .by) low p k)
+
+    pub added-row : (v t : List ℤ) (d m : List ℕ) → length t ≡ length v → t ≡ cond (ltb (s .at / 4) (length d)) (bumped v (n * 4 + (s .at * 4 + r)) (s .by)) v
+        → m ≡ set d (s .at / 4) 1 → Added n w c y l es e r v d → Added n w c y l es e (r + 1) t m
+    added-row v t d m g p o a = record {
+      long = g ∙ a .long;
+      wide = ap length o ∙ length-set d (s .at / 4) 1 ∙ a .wide;
+      sums =
+          next-sums v t (a .sums) (p ∙ ap (λ (k : ℕ). cond (ltb (s .at / 4) k) (bumped v (n * 4 + (s .at * 4 + r)) (s .by)) v) (a .wide));
+      marks = next-marks d m o (a .marks);
+    }
+
+  -- all four, where it begins in one column
+  module _ (s : Start) (q : (r : ℕ) → r < 4 → s ≡ startOf c (w * 4) (sample (4 * y + r)) e) where
+    -- what is added in the sample row r, if the column is in the window
+    abbrev more : Bool → List ℤ → ℕ → List ℤ
+    more b v r = cond b (bumped v (n * 4 + (s .at * 4 + r)) (s .by)) v
+
+    four-rows : (b : Bool) (v : List ℤ) → cond b (bumpedFour v (n * 4 + s .at * 4) (s .by)) v ≡ more b (more b (more b (more b v 0) 1) 2) 3
+    unfolding bumpedFour
+    four-rows false v = refl
+    four-rows true v = rw (at-row 1, at-row 2, at-row 3, first)
+      where
+        at-row : (r : ℕ) → n * 4 + s .at * 4 + r ≡ n * 4 + (s .at * 4 + r)
+        at-row r = omega arith
+
+        first : n * 4 + s .at * 4 ≡ n * 4 + (s .at * 4 + 0)
+        first = omega arith
+
+    pub added-four : (v t : List ℤ) (d m : List ℕ) → length t ≡ length v → t ≡ cond (ltb (s .at / 4) (length d)) (bumpedFour v (n * 4 + s .at * 4) (s .by)) v
+        → m ≡ set d (s .at / 4) 1 → Added n w c y l es e 0 v d → Added n w c y l es e 4 t m
+    added-four v t d m g p o a = record {
+      long = g ∙ a .long;
+      wide = ap length o ∙ length-set d (s .at / 4) 1 ∙ a .wide;
+      sums = p ∙ ap (λ (k : ℕ). cond (ltb (s .at / 4) k) (bumpedFour v (n * 4 + s .at * 4) (s .by)) v) (a .wide) ∙ four-rows b v ∙ all;
+      marks = again 3 (omega arith) (again 2 (omega arith) (again 1 (omega arith) (next-marks 0 (omega arith) s (q 0 (omega arith)) d m o (a .marks))));
+    }
+      where
+        b : Bool
+        b = ltb (s .at / 4) w
+
+        row : (r : ℕ) → r < 4 → (u : List ℤ) → u ≡ laid (n * 4) (w * 16) l (tab (w * 16) (sumsUpTo r))
+            → more b u r ≡ laid (n * 4) (w * 16) l (tab (w * 16) (sumsUpTo (r + 1)))
+        row r h u e = next-sums r h s (q r h) u (more b u r) e refl
+
+        all : more b (more b (more b (more b v 0) 1) 2) 3 ≡ laid (n * 4) (w * 16) l (tab (w * 16) (sumsUpTo 4))
+        all =
+            row 3 (omega arith) (more b (more b (more b v 0) 1) 2)
+            (row 2 (omega arith) (more b (more b v 0) 1) (row 1 (omega arith) (more b v 0) (row 0 (omega arith) v (a .sums))))
+
+        again : (r : ℕ) → r < 4 → Marked m (sumsUpTo r) → Marked m (sumsUpTo (r + 1))
+        again r h =
+            next-marks r h s (q r h) m m (o ∙ sym (ap (λ (z : List ℕ). set z (s .at / 4) 1) o ∙ set-again d (s .at / 4) 1))
+
 -- ---- the ith edge, for w pixels from column c on in the pixel row y
 module _ (n w c y : ℕ) (l : List ℤ) (fit : n * 4 + w * 16 ≤ length l) (i : ℕ) where
-  -- the sums while it is added: with what it begins in the first r sample rows
-  abbrev sumsUpTo : ℕ → ℕ → ℤ
-  sumsUpTo r = partly c (w * 4) y (edgesOf l i) (edgeAt l i) r
-
   with-more : (f : ℕ → ℤ) → ((j : ℕ) → f j ≡ sumsAt c (w * 4) y (edgesOf l i ++ (edgeAt l i ∷ [])) j)
       → laid (n * 4) (w * 16) l (tab (w * 16) f) ≡ withSums n w c y (i + 1) l
   with-more f h =
@@ -111,47 +209,28 @@ module _ (n w c y : ℕ) (l : List ℤ) (fit : n * 4 + w * 16 ≤ length l) (i :
     pub beyond-marks : (d : List ℕ) → length d ≡ w → Marked d (sumsAt c (w * 4) y (edgesOf l i)) → Marked d (sumsAt c (w * 4) y (edgesOf l (i + 1)))
     beyond-marks d e = mark-same d (sumsAt c (w * 4) y (edgesOf l i)) (sumsAt c (w * 4) y (edgesOf l (i + 1))) (λ j h. same j (omega (arith, e, h)))
 
-  -- it does not: before the first sample row, in each, and after the last
-  pub first-sums : l ≡ withSums n w c y i l → l ≡ laid (n * 4) (w * 16) l (tab (w * 16) (sumsUpTo 0))
-  first-sums o = o
-      ∙ ap (laid (n * 4) (w * 16) l)
-      (tab-same (w * 16) (sumsAt c (w * 4) y (edgesOf l i)) (sumsUpTo 0) (λ j m. partly-none c (w * 4) y (edgesOf l i) (edgeAt l i) j))
+  -- it does not: before the first sample row, and after the last
+  module _ (e : Edge) (is : e ≡ edgeAt l i) (d : List ℕ) where
+    pub added-none : length d ≡ w → l ≡ withSums n w c y i l → Marked d (sumsAt c (w * 4) y (edgesOf l i)) → Added n w c y l (edgesOf l i) e 0 l d
+    added-none h o k = record {
+      long = refl;
+      wide = h;
+      sums =
+          o
+          ∙ ap (laid (n * 4) (w * 16) l)
+          (tab-same (w * 16) (sumsAt c (w * 4) y (edgesOf l i)) (partly c (w * 4) y (edgesOf l i) e 0) (λ j m. partly-none c (w * 4) y (edgesOf l i) e j));
+      marks = mark-same d (sumsAt c (w * 4) y (edgesOf l i)) (partly c (w * 4) y (edgesOf l i) e 0) (λ j m. partly-none c (w * 4) y (edgesOf l i) e j) k;
+    }
 
-  pub first-marks : (d : List ℕ) → Marked d (sumsAt c (w * 4) y (edgesOf l i)) → Marked d (sumsUpTo 0)
-  first-marks d = mark-same d (sumsAt c (w * 4) y (edgesOf l i)) (sumsUpTo 0) (λ j m. partly-none c (w * 4) y (edgesOf l i) (edgeAt l i) j)
+    all-rows : (j : ℕ) → partly c (w * 4) y (edgesOf l i) e 4 j ≡ sumsAt c (w * 4) y (edgesOf l i ++ (edgeAt l i ∷ [])) j
+    all-rows j = partly-all c (w * 4) y (edgesOf l i) e j ∙ ap (λ (f : Edge). sumsAt c (w * 4) y (edgesOf l i ++ (f ∷ [])) j) is
 
-  pub last-sums : (r : ℕ) (t : List ℤ) → r ≡ 4 → t ≡ laid (n * 4) (w * 16) l (tab (w * 16) (sumsUpTo r)) → t ≡ withSums n w c y (i + 1) l
-  last-sums r t e o =
-      o ∙ ap (λ (k : ℕ). laid (n * 4) (w * 16) l (tab (w * 16) (sumsUpTo k))) e ∙ with-more (sumsUpTo 4) (partly-all c (w * 4) y (edgesOf l i) (edgeAt l i))
-
-  pub last-marks : (r : ℕ) (d : List ℕ) → r ≡ 4 → Marked d (sumsUpTo r) → Marked d (sumsAt c (w * 4) y (edgesOf l (i + 1)))
-  last-marks r d e k = marks-more d (sumsUpTo 4) (partly-all c (w * 4) y (edgesOf l i) (edgeAt l i)) (subst (λ (q : ℕ). Marked d (sumsUpTo q)) e k)
-
-  module _ (r : ℕ) (low : r < 4) (s : Start) (q : s ≡ startOf c (w * 4) (sample (4 * y + r)) (edgeAt l i)) where
-    next : (j : ℕ) → sumsUpTo r j +ℤ cond (eqb (s .at * 4 + r) j) (s .by) (pos 0) ≡ sumsUpTo (r + 1) j
-    unfolding startOf
-    next j =
-        ap (λ (z : Start). sumsUpTo r j +ℤ cond (eqb (z .at * 4 + r) j) (z .by) (pos 0)) q
-        ∙ partly-more c (w * 4) y (edgesOf l i) (edgeAt l i) r j low
-
-    pub next-sums : (v t : List ℤ) → v ≡ laid (n * 4) (w * 16) l (tab (w * 16) (sumsUpTo r))
-        → t ≡ cond (ltb (s .at / 4) w) (bumped v (n * 4 + (s .at * 4 + r)) (s .by)) v
-        → t ≡ laid (n * 4) (w * 16) l (tab (w * 16) (sumsUpTo (r + 1)))
-    next-sums v t o p =
-        put-turn (n * 4) (w * 16) l fit (sumsUpTo r) v o w (s .at) r (s .by) refl low t p
-        ∙ ap (laid (n * 4) (w * 16) l)
-        (tab-same (w * 16) (λ j. sumsUpTo r j +ℤ cond (eqb (s .at * 4 + r) j) (s .by) (pos 0)) (sumsUpTo (r + 1)) (λ j m. next j))
-
-    pub next-marks : (d t : List ℕ) → t ≡ set d (s .at / 4) 1 → Marked d (sumsUpTo r) → Marked t (sumsUpTo (r + 1))
-    next-marks d t p k =
-        mark-same t (λ j. sumsUpTo r j +ℤ cond (eqb (s .at * 4 + r) j) (s .by) (pos 0)) (sumsUpTo (r + 1)) (λ j m. next j)
-        (mark-turn d t (sumsUpTo r) (s .at) r (s .by) low p k)
-
-  pub sums-small : (r : ℕ) (t : List ℤ) → t ≡ laid (n * 4) (w * 16) l (tab (w * 16) (sumsUpTo r)) → (p : ℕ) → p < w * 16
-      → natAbs (getD t (n * 4 + p) (pos 0)) ≤ i + 1
-  sums-small r t o p h =
-      subst (λ (z : ℤ). natAbs z ≤ i + 1) (sym (stands (n * 4) (w * 16) l fit (sumsUpTo r) t o p h))
-      (omega (arith, partly-small c (w * 4) y (edgesOf l i) (edgeAt l i) r p, tab-length i (edgeAt l)))
+    pub added-all : (r : ℕ) (v : List ℤ) → r ≡ 4 → Added n w c y l (edgesOf l i) e r v d
+        → (v ≡ withSums n w c y (i + 1) l) × Marked d (sumsAt c (w * 4) y (edgesOf l (i + 1)))
+    added-all r v q a =
+        let f = subst (λ (k : ℕ). Added n w c y l (edgesOf l i) e k v d) q a in
+        let g = partly c (w * 4) y (edgesOf l i) e 4 in
+        (f .sums ∙ with-more g all-rows, marks-more d g all-rows (f .marks))
 
 -- ---- all edges
 module _ (n w c y : ℕ) (l : List ℤ) (fit : n * 4 + w * 16 ≤ length l) where

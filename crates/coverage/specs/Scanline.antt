@@ -2,7 +2,7 @@
 use Prim.Native.Nat.{ℕ, zero, suc, _+_, _*_, _-_, _/_, _%_, _≤_, _<_}
 use mathlib.Core.Path.{_≡_}
 use mathlib.Core.List.{List, _++_}
-use mathlib.Core.Bool.{Bool, cond, _&&_}
+use mathlib.Core.Bool.{Bool, not, cond, _&&_}
 use lib.Dec.{eqb, leb}
 use lib.ListN.{length, getD, set, take, drop}
 use lib.IntN.{ℤ, pos, natAbs, _+ℤ_, _-ℤ_, _*ℤ_}
@@ -42,6 +42,10 @@ startAt c k Y e = cond (spans e Y) (place c k (firstColumn (upward e) Y)) k
 unfoldable pub startOf : ℕ → ℕ → ℤ → Edge → Start
 startOf c k Y e = record { at = startAt c k Y e; by = weight Y e }
 
+-- an edge counts in two rows, and from the same column on
+unfoldable pub startsAlike : Start → Start → Bool
+startsAlike s t = eqb (s .at) (t .at) && (not (eqb (natAbs (s .by)) 0) && not (eqb (natAbs (t .by)) 0))
+
 -- what begins at column j of the window
 unfoldable pub starts : ℕ → ℕ → ℤ → List Edge → ℕ → ℤ
 starts c k Y es j = sumOf (λ e. cond (eqb (startAt c k Y e) j) (weight Y e) (pos 0)) es
@@ -67,6 +71,10 @@ beyond x0 x1 c = leZ (pos (64 * c)) x0 && leZ (pos (64 * c)) x1
 -- v added to number i
 abbrev pub bumped : List ℤ → ℕ → ℤ → List ℤ
 bumped l i v = set l i (getD l i (pos 0) +ℤ v)
+
+-- v added to each of the four numbers from i on
+unfoldable pub bumpedFour : List ℤ → ℕ → ℤ → List ℤ
+bumpedFour l i v = bumped (bumped (bumped (bumped l i v) (i + 1) v) (i + 2) v) (i + 3) v
 
 -- a pixel that is not marked has no number but 0
 pub record Marked (cover : List ℕ) (f : ℕ → ℤ) : Type 0 where
@@ -103,6 +111,10 @@ at s j = getD s j (pos 0)
 -- so small that no sum overflows
 abbrev pub Low : ℤ → Type 0
 Low z = natAbs z ≤ 1000000
+
+-- so are the four numbers from i on
+abbrev pub LowFour : List ℤ → ℕ → Type 0
+LowFour s i = Low (at s i) × Low (at s (i + 1)) × Low (at s (i + 2)) × Low (at s (i + 3))
 
 -- the running sums of four columns from z on
 unfoldable pub windingsFrom : ℤ → ℤ → ℤ → ℤ → ℤ → Windings

@@ -2,7 +2,8 @@
 // sample row r, so that the 16 numbers of a pixel stand together.
 use crate::Start;
 use crate::column::start;
-use crate::marks::touch;
+use crate::marks::mark;
+use path::Edge;
 use path::edges::load;
 use rect::least;
 use rect::most;
@@ -12,8 +13,8 @@ ghost use Prim.Native.Nat.{_+_, _*_, _/_, _^_, _<_, _≤_};
 ghost use lib.Dec.{ltb};
 ghost use lib.IntN.{pos, natAbs};
 ghost use lib.ListN.{length, getD, set};
-ghost use Rattle.path.specs.Stored.{edgesOf};
-ghost use Rattle.coverage.specs.Scanline.{laid, zeros, missed, beyond, bumped, sumsAt, withSums, Edges, Marked};
+ghost use Rattle.path.specs.Stored.{edgeAt, edgesOf};
+ghost use Rattle.coverage.specs.Scanline.{laid, zeros, missed, beyond, startsAlike, bumped, bumpedFour, sumsAt, withSums, Low, LowFour, Edges, Marked};
 ghost use Rattle.coverage.specs.Marks.{Grouped};
 ghost use Rattle.coverage.specs.Band.{Needed};
 
@@ -39,6 +40,26 @@ fn is_beyond(x0: i32, x1: i32, c: usize) -> bool
     if right <= x0 { right <= x1 } else { false }
 }
 
+// Adds to a number.
+fn bump(scratch: &mut [i32], i: usize, by: i32)
+    requires { ⌜ (i < length (now scratch)) × Low (getD (now scratch) i (pos 0)) × (natAbs by ≤ 1) ⌝ }
+    ensures { λ _. ⌜ now (scratch .exit) ≡ bumped (now (scratch .entry)) i by ⌝ }
+{
+    let v = scratch[i] + by;
+    scratch[i] = v;
+}
+
+// Adds to the four numbers from i on.
+fn bump_four(scratch: &mut [i32], i: usize, by: i32)
+    requires { ⌜ (i + 3 < length (now scratch)) × LowFour (now scratch) i × (natAbs by ≤ 1) ⌝ }
+    ensures { λ _. ⌜ now (scratch .exit) ≡ bumpedFour (now (scratch .entry)) i by ⌝ }
+{
+    bump(scratch, i, by);
+    bump(scratch, i + 1, by);
+    bump(scratch, i + 2, by);
+    bump(scratch, i + 3, by);
+}
+
 // Adds to the number of column at and sample row r, and marks its pixel and its group. Right of the window nothing is to be done.
 fn put(
     scratch: &mut [i32],
@@ -51,7 +72,7 @@ fn put(
 )
     requires { ⌜ (r < 4) × (base + length (now cover) * 16 ≤ length (now scratch)) × (natAbs by ≤ 1) ⌝ }
     requires { ⌜ Grouped (now cover) (now groups) ⌝ }
-    requires { ⌜ (at / 4 < length (now cover) → natAbs (getD (now scratch) (base + (at * 4 + r)) (pos 0)) ≤ 1000000) ⌝ }
+    requires { ⌜ (at / 4 < length (now cover) → Low (getD (now scratch) (base + (at * 4 + r)) (pos 0))) ⌝ }
     ensures { λ _. ⌜ now (scratch .exit)
         ≡ cond (ltb (at / 4) (length (now (cover .entry)))) (bumped (now (scratch .entry)) (base + (at * 4 + r)) by) (now (scratch .entry)) ⌝ }
     ensures { λ _. ⌜ now (cover .exit) ≡ set (now (cover .entry)) (at / 4) 1 ⌝ }
@@ -61,11 +82,84 @@ fn put(
     if cover.len() <= p {
         return;
     }
-    cover[p] = 1;
-    touch(groups, p);
-    let i = base + (at * 4 + r);
-    let v = scratch[i] + by;
-    scratch[i] = v;
+    mark(cover, groups, p);
+    bump(scratch, base + (at * 4 + r), by);
+}
+
+// The same for the four sample rows at once.
+fn put_four(
+    scratch: &mut [i32],
+    base: usize,
+    cover: &mut [u8],
+    groups: &mut [u16],
+    at: usize,
+    by: i32,
+)
+    requires { ⌜ (base + length (now cover) * 16 ≤ length (now scratch)) × (natAbs by ≤ 1) ⌝ }
+    requires { ⌜ Grouped (now cover) (now groups) ⌝ }
+    requires { ⌜ (at / 4 < length (now cover) → LowFour (now scratch) (base + at * 4)) ⌝ }
+    ensures { λ _. ⌜ now (scratch .exit)
+        ≡ cond (ltb (at / 4) (length (now (cover .entry)))) (bumpedFour (now (scratch .entry)) (base + at * 4) by) (now (scratch .entry)) ⌝ }
+    ensures { λ _. ⌜ now (cover .exit) ≡ set (now (cover .entry)) (at / 4) 1 ⌝ }
+    ensures { λ _. ⌜ Grouped (now (cover .exit)) (now (groups .exit)) ⌝ }
+{
+    let p = at / 4;
+    if cover.len() <= p {
+        return;
+    }
+    mark(cover, groups, p);
+    bump_four(scratch, base + at * 4, by);
+}
+
+// Whether an edge counts in two sample rows, and from the same column on.
+fn starts_alike(s: Start, t: Start) -> bool
+    ensures { λ r. ⌜ r ≡ startsAlike s t ⌝ }
+{
+    if s.at != t.at {
+        return false;
+    }
+    if s.by == 0 {
+        return false;
+    }
+    t.by != 0
+}
+
+// Adds what the ith edge, e, begins in the pixel row y, in the window from column c on. Where it counts from one column on in the first and in the last
+// of the four sample rows, it does so in those between.
+fn add_rows(
+    scratch: &mut [i32],
+    n: usize,
+    i: usize,
+    e: Edge,
+    c: usize,
+    y: usize,
+    cover: &mut [u8],
+    groups: &mut [u16],
+)
+    requires { ⌜ (i < n) × (y < 1024) × (c + length (now cover) * 4 < 2 ^ 24) × Grouped (now cover) (now groups) ⌝ }
+    requires { ⌜ Edges (now scratch) n (length (now cover) * 16) × (e ≡ edgeAt (now scratch) i) ⌝ }
+    requires { ⌜ now scratch ≡ withSums n (length (now cover)) c y i (now scratch) ⌝ }
+    requires { ⌜ Marked (now cover) (sumsAt c (length (now cover) * 4) y (edgesOf (now scratch) i)) ⌝ }
+    ensures { λ _. ⌜ now (scratch .exit) ≡ withSums n (length (now (cover .entry))) c y (i + 1) (now (scratch .entry)) ⌝ }
+    ensures { λ _. ⌜ Marked (now (cover .exit)) (sumsAt c (length (now (cover .entry)) * 4) y (edgesOf (now (scratch .entry)) (i + 1))) ⌝ }
+    ensures { λ _. ⌜ Grouped (now (cover .exit)) (now (groups .exit)) ⌝ }
+{
+    let base = n * 4;
+    let k = cover.len() * 4;
+    let s = start(e, (256 * y + 32) as i32, c, k);
+    let t = start(e, (256 * y + 224) as i32, c, k);
+    if starts_alike(s, t) {
+        put_four(scratch, base, cover, groups, s.at, s.by);
+        return;
+    }
+    put(scratch, base, cover, groups, 0, s.at, s.by);
+    let mut r = 1;
+    while r < 3 {
+        let u = start(e, (64 * (4 * y + r) + 32) as i32, c, k);
+        put(scratch, base, cover, groups, r, u.at, u.by);
+        r += 1;
+    }
+    put(scratch, base, cover, groups, 3, t.at, t.by);
 }
 
 // Adds what the ith edge begins in the pixel row y, in the window from column c on.
@@ -92,21 +186,12 @@ fn add_edge(
     if misses(y0, y1, y) {
         return;
     }
-    let base = n * 4;
-    let k = cover.len() * 4;
     let x0 = e.x0;
     let x1 = e.x1;
-    if is_beyond(x0, x1, c + k) {
+    if is_beyond(x0, x1, c + cover.len() * 4) {
         return;
     }
-    let mut r = 0;
-    while r < 4 {
-        let s = start(e, (64 * (4 * y + r) + 32) as i32, c, k);
-        let at = s.at;
-        let by = s.by;
-        put(scratch, base, cover, groups, r, at, by);
-        r += 1;
-    }
+    add_rows(scratch, n, i, e, c, y, cover, groups);
 }
 
 // Adds what the listed edges begin in the pixel row y, in the window from column c on, and marks the pixels where something begins. The others miss

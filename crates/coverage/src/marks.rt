@@ -4,11 +4,21 @@
 use rect::most;
 ghost use mathlib.Core.Path.{_≡_};
 ghost use Prim.Native.Nat.{_<_, _≤_};
-ghost use lib.ListN.{length};
-ghost use Rattle.coverage.specs.Marks.{raised, touched};
+ghost use lib.ListN.{length, set};
+ghost use Rattle.coverage.specs.Marks.{raised, touched, Grouped};
+
+// Marks pixel p, and notes it for its group.
+pub fn mark(marks: &mut [u8], groups: &mut [u16], p: usize)
+    requires { ⌜ (p < length (now marks)) × Grouped (now marks) (now groups) ⌝ }
+    ensures { λ _. ⌜ now (marks .exit) ≡ set (now (marks .entry)) p 1 ⌝ }
+    ensures { λ _. ⌜ Grouped (now (marks .exit)) (now (groups .exit)) ⌝ }
+{
+    marks[p] = 1;
+    touch(groups, p);
+}
 
 // Notes for its group that pixel p is marked.
-pub fn touch(groups: &mut [u16], p: usize)
+fn touch(groups: &mut [u16], p: usize)
     requires { ⌜ (p < 1024) × (length (now groups) ≡ 32) ⌝ }
     ensures { λ _. ⌜ now (groups .exit) ≡ touched (now (groups .entry)) p ⌝ }
 {
