@@ -3,7 +3,7 @@
 use mathlib.Core.Path.{_≡_, refl, ap, ap₂, _∙_}
 use mathlib.Core.Bool.{Bool, true, false}
 use Prim.Native.Nat.{ℕ, suc, _+_, _-_, _*_, _/_, _%_, _≤_, _<_}
-use native.Mathlib.Nat.{zero-mul, zero-div, mul-le-mul-right, lt-of-mul-lt-mul-right, div-eq-of-lt-le, div-add-mod, div-add-mod', mod-lt}
+use native.Mathlib.Nat.{mul-le-mul-right, lt-of-mul-lt-mul-right, div-eq-of-lt-le, div-add-mod, div-add-mod', mod-lt}
 use native.Mathlib.Omega.{arith}
 use borrow.Author.Tests.{ltb-true, ltb-false}
 use lib.Dec.{ltb}
@@ -44,13 +44,21 @@ linear-form s d a h j l near =
     (upper s d a h j u v k near (omega (arith, A)) (omega (arith, H)) (omega (arith, K, mod-lt (a * j + h) l)))
 
 -- a u / d by one product, where u is below d
-pub by-scale : (s d a u : ℕ) → u < d → d * d < s → (u * (a * s / d + 1) + 1) / s ≡ a * u / d
+pub by-scale : (s d a u : ℕ) → u < d → d * d < s → u * (a * s / d + 1) / s ≡ a * u / d
 by-scale s d a u l near =
     let some : 0 < d = omega arith in
-    let next : u + 1 ≤ d = omega arith in
-    let e : u * (a * s / d + 1) + 1 ≡ (a * s / d + 1) * u + (0 * s / d + 1) = rw (zero-mul s, zero-div d) (omega arith) in
-    let f : a * u + 0 ≡ a * u = omega arith in
-    ap (λ (n : ℕ). n / s) e ∙ linear-form s d a 0 u some (omega (arith, mul-le-mul-right d next)) ∙ ap (λ (n : ℕ). n / d) f
+    let A = div-add-mod (a * s) d in
+    let K = div-add-mod (a * u) d in
+    let q = a * s / d in
+    let k = a * u / d in
+    let below : a * s ≤ (q + 1) * d = omega (arith, A, mod-lt (a * s) some) in
+    let above : q * d ≤ a * s = omega (arith, A) in
+    let least : d * k ≤ a * u = omega (arith, K) in
+    let most : a * u + 1 ≤ d * k + d = omega (arith, K, mod-lt (a * u) some) in
+    let part : u * d ≤ d * d = mul-le-mul-right d (omega arith) in
+    let low : s * k < u * (q + 1) + 1 = lt-of-mul-lt-mul-right d (omega (arith, mul-le-mul-right u below, mul-le-mul-right s least)) in
+    let high : u * (q + 1) < s * (k + 1) = lt-of-mul-lt-mul-right d (omega (arith, near, part, mul-le-mul-right u above, mul-le-mul-right s most)) in
+    div-eq-of-lt-le s (omega (arith, low)) (omega (arith, high))
 
 pub scaled-small : (u d n : ℕ) → u < d → u * (n / d + 1) ≤ n + u
 scaled-small u d n l =

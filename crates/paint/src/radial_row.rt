@@ -76,7 +76,7 @@ fn padded_position(u: u64, d: u64, scale: u64) -> u32
     ensures { λ k. ⌜ k ≡ positionOf (pos (rampUnit * u / d)) ⌝ }
 {
     if u < d {
-        ((u * scale + 1) >> 47) as u32 + 1
+        ((u * scale) >> 47) as u32 + 1
     } else {
         BEHIND
     }

@@ -15,13 +15,13 @@ small c =
     let s = c .before in
     rw (s .pre .2) (omega (arith, c .if1 .taken, s .pre .1, scaled-small (s .args .u) (s .args .d) 9223372036854775808 (c .if1 .taken)))
 
-t-is : (c : tie.Then1) → let a = c .before .args in (a .u * a .scale + 1) / 140737488355328 ≡ 65536 * a .u / a .d
+t-is : (c : tie.Then1) → let a = c .before .args in a .u * a .scale / 140737488355328 ≡ 65536 * a .u / a .d
 t-is c =
     let s = c .before in
     let h : s .args .d * s .args .d < 140737488355328 = omega (arith, mul-le-mul (s .pre .1) (s .pre .1)) in
     rw (s .pre .2) (by-scale 140737488355328 (s .args .d) 65536 (s .args .u) (c .if1 .taken) h)
 
-t-small : (c : tie.Then1) → let a = c .before .args in (a .u * a .scale + 1) / 140737488355328 < 65536
+t-small : (c : tie.Then1) → let a = c .before .args in a .u * a .scale / 140737488355328 < 65536
 t-small c = let a = c .before .args in rw (t-is c) (below-unit (a .u) (a .d) (c .if1 .taken))
 
 returns : tie.Need-returns
@@ -37,7 +37,6 @@ pub padded-position-spec : {M : Type 1} → statement M
 padded-position-spec =
     tie.close
     (tie.spec
-    (λ c. record { fits = omega (arith, small c) })
     (λ c. record { fits = omega (arith, small c) })
     (λ c. record { fits = omega (arith, t-small c) })
     (λ c. record { fits = omega (arith, t-small c) })
