@@ -150,12 +150,14 @@ fn least(a: u32, b: u32) -> u32
     if a < b { a } else { b }
 }
 
-// The colours at t, which both left and right hold.
+// The colours at t, which both left and right hold. All channels are mixed: with a way less for equal alphas the compiler keeps a segment in registers
+// where this is built in beside it.
 fn mix_ts(c: Pixel, d: Pixel, left: &mut [u16], right: &mut [u16], ws: &mut [u32])
     requires { ⌜ OnRamp (now left) × (now right ≡ now left) × (length (now left) ≡ length (now ws)) × (length (now ws) ≤ 128) ⌝ }
     ensures { λ _. ⌜ Words (λ i. mixPixel 0 65536 (getD (now (left .entry)) i 0) c d) (length (now (ws .entry))) (now (ws .exit)) ⌝ }
 {
-    mix_colors(c, d, left, right);
+    mix_pairs(c.r, d.r, c.g, d.g, left);
+    mix_pairs(c.b, d.b, c.a, d.a, right);
     join(left, right, ws);
 }
 
