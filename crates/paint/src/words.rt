@@ -150,8 +150,8 @@ fn least(a: u32, b: u32) -> u32
     if a < b { a } else { b }
 }
 
-// The colours at t, which both left and right hold. All channels are mixed: with a way less for equal alphas the compiler keeps a segment in registers
-// where this is built in beside it.
+// The colours at t, which both left and right hold. Equal alphas have no way of their own here: one more loop, built in beside the segments, would leave
+// the compiler too few registers for theirs.
 fn mix_ts(c: Pixel, d: Pixel, left: &mut [u16], right: &mut [u16], ws: &mut [u32])
     requires { ⌜ OnRamp (now left) × (now right ≡ now left) × (length (now left) ≡ length (now ws)) × (length (now ws) ≤ 128) ⌝ }
     ensures { λ _. ⌜ Words (λ i. mixPixel 0 65536 (getD (now (left .entry)) i 0) c d) (length (now (ws .entry))) (now (ws .exit)) ⌝ }
