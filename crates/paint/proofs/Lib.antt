@@ -29,6 +29,7 @@
 -- For callers:
 --     Sound       what the stops of a ramp keep to, and a run of numbers that holds one
 --     Under       no channel of a paint is above its alpha
+--     Opaque      between opaque stops all is opaque
 pub mod Sizes
 pub mod Slope
 pub mod Folded
@@ -51,3 +52,4 @@ pub mod Built
 pub mod Ends
 pub mod Sound
 pub mod Under
+pub mod Opaque

@@ -45,7 +45,7 @@ module _ (P : Pixel → Type 0) (mixed : (i j : Stop) (t : ℕ) → i .offset �
   chosen true h k = h
   chosen false h k = k
 
-  ramp-has : (l : List Stop) (t : ℤ) → Starts l → Each (λ s. P (s .color)) l → P (rampAt l t)
+  pub ramp-has : (l : List Stop) (t : ℤ) → Starts l → Each (λ s. P (s .color)) l → P (rampAt l t)
   unfolding rampAt
   ramp-has [] t h e = absurd h
   ramp-has (i ∷ l) t h (more p e) =

@@ -5,4 +5,5 @@ pub mod Ramps
 pub mod Paints
 pub mod Buffers
 pub mod Circles
+pub mod Opaque
 pub mod Segments
