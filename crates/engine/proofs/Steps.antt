@@ -11,7 +11,7 @@ use Rattle.rect.specs.declared.Rect.{Rect}
 use Rattle.rect.specs.Rects.{Inside, On, Holds, meetOf, emptyOf}
 use Rattle.rect.proofs.Laws.{either, empty-out, in-or-out, not-empty, meet-in, meet-left, meet-right}
 use Rattle.raster.specs.declared.Target.{Target}
-use Rattle.raster.specs.Surface.{overlay, pixelOf}
+use Rattle.raster.specs.Surface.{pixelOf}
 use Rattle.raster.specs.Rows.{Part, stepped}
 use Rattle.raster.proofs.Overlay.{overlay-none, overlay-skip, overlay-then, overlay-same}
 use Rattle.blend.specs.PorterDuff.{compositeOn, composite}
@@ -114,7 +114,7 @@ module _ (t : Target) (es : List Edge) (s : List ℕ) (d : List ℕ) (part : Par
       let on : On (t .width) (t .height) b = rw e (meet-on (t .width) (t .height) (t .area) box (part .placed .on) (ap emptyOf (sym e) ∙ z)) in
       record { placed = record { on = on; wide = part .placed .wide; high = part .placed .high }; long = part .long }
 
--- ---- a turn of the loop over the draws, and the background before them
+-- ---- a turn of the loop over the draws, and all of them on the background
 pub draws-turn : (t : Target) (edition : ℕ) (scene : List ℕ) (mask : ℕ → ℕ → ℕ) (s r e d : List ℕ) (i : ℕ) → e ≡ drawOf scene i
     → s ≡ stepped t (unclampedAll edition (firstDraws scene i) mask) d → r ≡ stepped t (unclampedStep edition e mask) s
     → r ≡ stepped t (unclampedAll edition (firstDraws scene (i + 1)) mask) d
@@ -126,19 +126,9 @@ draws-turn t edition scene mask s r e d i q o u =
     (u ∙ ap (λ (z : List ℕ). stepped t (unclampedStep edition z mask) s) q)
     ∙ overlay-same w h a _ _ d (λ x y k l j. sym (draws-more edition scene mask i x y (pixelOf w d x y)))
 
-pixel-is : (scene : List ℕ) (mask : ℕ → ℕ → ℕ) (n : ℕ) (p : Pixel) (x y : ℕ) → n ≡ countOf scene → p ≡ premultiplied (backgroundOf scene)
-    → UnderAlpha p → unclampedAll (editionOf scene) (firstDraws scene n) mask x y p ≡ pixelAt scene mask x y
+pub pixel-is : (scene : List ℕ) (mask : ℕ → ℕ → ℕ) (n x y : ℕ) → n ≡ countOf scene → UnderAlpha (premultiplied (backgroundOf scene))
+    → unclampedAll (editionOf scene) (firstDraws scene n) mask x y (premultiplied (backgroundOf scene)) ≡ pixelAt scene mask x y
 unfolding pixelAt
-pixel-is scene mask n p x y e f h =
-    all-same (editionOf scene) (firstDraws scene n) mask x y p h
-    ∙ ap (λ (k : ℕ). drawAll (editionOf scene) (firstDraws scene k) mask x y p) e
-    ∙ ap (drawAll (editionOf scene) (firstDraws scene (countOf scene)) mask x y) f
-
-pub background-then : (scene : List ℕ) (mask : ℕ → ℕ → ℕ) (s t d : List ℕ) (w h n : ℕ) (p : Pixel) (a : Rect)
-    → n ≡ countOf scene → p ≡ premultiplied (backgroundOf scene) → UnderAlpha p → s ≡ overlay w h a (λ x y. p) d
-    → t ≡ overlay w h a (λ x y. unclampedAll (editionOf scene) (firstDraws scene n) mask x y (pixelOf w s x y)) s
-    → t ≡ overlay w h a (pixelAt scene mask) d
-background-then scene mask s t d w h n p a e f q o u =
-    overlay-then w h a (unclampedAll (editionOf scene) (firstDraws scene n) mask) (λ x y. p) s t d o u
-    ∙ overlay-same w h a (λ x y. unclampedAll (editionOf scene) (firstDraws scene n) mask x y p) (pixelAt scene mask) d
-    (λ x y k l j. pixel-is scene mask n p x y e f q)
+pixel-is scene mask n x y e h =
+    all-same (editionOf scene) (firstDraws scene n) mask x y (premultiplied (backgroundOf scene)) h
+    ∙ ap (λ (k : ℕ). drawAll (editionOf scene) (firstDraws scene k) mask x y (premultiplied (backgroundOf scene))) e

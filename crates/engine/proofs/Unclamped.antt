@@ -1,5 +1,5 @@
 -- P2: a scene lays its premultiplied background first and meets no stray byte, so the clamp changes no picture.
-use mathlib.Core.Path.{_≡_, refl, sym, ap, _∙_, subst}
+use mathlib.Core.Path.{_≡_, refl, ap, _∙_, subst}
 use mathlib.Core.List.{List, [], _∷_}
 use mathlib.Core.Bool.{Bool, true, false, cond}
 use Prim.Native.Nat.{ℕ, _+_, _<_}
@@ -30,14 +30,16 @@ transform-under d p h = by (transforms d)
     by true = transformed-under (fixedTransform (transformOf d)) p
     by false = h
 
+pub drawn-under : (d : List ℕ) (x y : ℕ) → UnderAlpha (drawPaint d x y)
+unfolding drawPaint
+drawn-under d x y =
+    transform-under d (paintAt (paintOf d) (spreadOf d) (rampPremultiplied d) (stopsOf d) (stopCount d) x y)
+    (paint-under (paintOf d) (spreadOf d) (rampPremultiplied d) (stopsOf d) (stopCount d) x y)
+
 module _ (es : List Edge) (d : List ℕ) (mask : ℕ → ℕ → ℕ) (x y : ℕ) (p : Pixel) (h : UnderAlpha p) where
   draw-under : UnderAlpha (unclampedOf es d mask x y p)
-  unfolding unclampedOf drawPaint
-  draw-under =
-      stored-under (blendOf d) (coverageOf es d x y) (drawMask d mask x y) (drawPaint d x y) p
-      (transform-under d (paintAt (paintOf d) (spreadOf d) (rampPremultiplied d) (stopsOf d) (stopCount d) x y)
-      (paint-under (paintOf d) (spreadOf d) (rampPremultiplied d) (stopsOf d) (stopCount d) x y))
-      h
+  unfolding unclampedOf
+  draw-under = stored-under (blendOf d) (coverageOf es d x y) (drawMask d mask x y) (drawPaint d x y) p (drawn-under d x y) h
 
   draw-same : unclampedOf es d mask x y p ≡ stepOf es d mask x y p
   unfolding unclampedOf stepOf
@@ -61,7 +63,7 @@ module _ (edition : ℕ) where
 
 -- ---- of any bytes, an accepted scene's among them
 module _ (s : List ℕ) (bytes : (i : ℕ) → getD s i 0 < 256) where
-  background-under : UnderAlpha (premultiplied (backgroundOf s))
+  pub background-under : UnderAlpha (premultiplied (backgroundOf s))
   background-under = premultiplied-under (backgroundOf s) (bytes backgroundAt) (bytes (backgroundAt + 1)) (bytes (backgroundAt + 2))
 
   -- no draw meets a stray byte

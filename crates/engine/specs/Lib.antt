@@ -3,3 +3,4 @@ pub mod Picture
 pub mod Unclamped
 pub mod Rows
 pub mod Spans
+pub mod Background

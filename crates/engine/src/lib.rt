@@ -1,6 +1,7 @@
 // Drawing a scene inside a rectangle of the surface. The way of a draw, from its bytes in the file to the surface:
 //
-//     draws    the scene: the background, then every draw in order; of a draw only its box, nothing of one that misses the rectangle
+//     draws    the scene: the background, unless the first draw hides it, then every draw in order; of a draw only its box, nothing of one that misses
+//              the rectangle
 //     edges    the draw's path as edges in the scratch
 //     decode   the rest of the draw, decoded once: rule, scissors, blend mode, and its paint with its ramp and its colour transformation
 //     rows     row after row: its coverage as runs of pixels that are covered alike, their paint, and both blended into the surface
@@ -8,6 +9,7 @@
 //
 // What a stage computes is in a crate of its own: `scene` reads the fields, `outline` makes the edges and their box, `coverage` counts a
 // row's samples, `paint` colours a row, `transform` gives it other colours, `blend` stores it.
+mod background;
 pub mod decode;
 pub mod draws;
 pub mod edges;
