@@ -5,8 +5,6 @@ use crate::column::start;
 use crate::marks::mark;
 use path::Edge;
 use path::edges::load;
-use rect::least;
-use rect::most;
 ghost use mathlib.Core.Path.{_≡_};
 ghost use mathlib.Core.Bool.{cond};
 ghost use Prim.Native.Nat.{_+_, _*_, _/_, _^_, _<_, _≤_};
