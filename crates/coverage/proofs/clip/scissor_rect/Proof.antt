@@ -15,7 +15,7 @@ use Rattle.coverage.proofs.clip.scissor_rect.Tie as tie
 -- the columns of the scissor, and its rows
 columns : (c : tie.After-run)
     → let a = c .before .before .before .before .args in
-      c .run .result ≡ runOf (i32At (a .scissors .now) (16 * a .i)) (i32At (a .scissors .now) (16 * a .i + 8))
+    c .run .result ≡ runOf (i32At (a .scissors .now) (16 * a .i)) (i32At (a .scissors .now) (16 * a .i + 8))
 columns c =
     let p = c .before .before .i32-at in
     let q = c .before .i32-at2 in
