@@ -1,19 +1,20 @@
--- Marks in two levels: one more mark, none, and pixels without one.
-use mathlib.Core.Path.{_≡_, refl, ap, subst, _∙_}
+-- Marks in two levels: one more mark, four more, none, and pixels without one.
+use mathlib.Core.Path.{_≡_, refl, sym, ap, subst, subst₂, _∙_}
 use mathlib.Core.List.{List}
-use mathlib.Core.Bool.{Bool, true, false}
+use mathlib.Core.Bool.{Bool, true, false, _&&_}
 use Prim.Native.Nat.{ℕ, _+_, _-_, _*_, _/_, _%_, _≤_, _<_, min, max}
 use native.Mathlib.Omega.{arith}
 use native.Mathlib.Decide.{ℕ-discrete}
-use lib.Dec.{ltb}
-use borrow.Author.Tests.{ltb-true, ltb-false}
+use lib.Dec.{T, eqb, ltb}
+use borrow.Author.Tests.{ltb-true, ltb-false, eqb-true}
 use lib.ListN.{length, getD, set, length-set}
 use lib.Seq.{getD-set-same, getD-set-other}
+use Rattle.fixed.proofs.Tests.{is-true, both-left, both-right}
 use Rattle.lists.specs.Lists.{tab}
 use Rattle.lists.proofs.Laws.{tab-at}
-use Rattle.coverage.specs.Marks.{raised, touched, Grouped, Blank}
+use Rattle.coverage.specs.Marks.{raised, touched, markRows, Grouped, Blank}
 
--- ---- pixel p is marked
+-- ---- pixels are marked
 module _ (s : List ℕ) (i n : ℕ) (h : i < length s) where
   raised-reached : n ≤ getD (raised s i n) i 0
   unfolding raised
@@ -31,61 +32,130 @@ raised-long : (s : List ℕ) (i n : ℕ) → length (raised s i n) ≡ length s
 unfolding raised
 raised-long s i n = length-set s i (max (getD s i 0) n)
 
-module _ (groups : List ℕ) (p : ℕ) (h : p < 1024) (long : length groups ≡ 32) where
-  pub touched-long : length (touched groups p) ≡ 32
-  unfolding touched
-  touched-long = raised-long (raised groups (p / 64) (p + 1)) (16 + p / 64) (64 - p % 64) ∙ raised-long groups (p / 64) (p + 1) ∙ long
+-- the groups know of pixel p: it lies where their marks may be
+record Noted (groups : List ℕ) (p : ℕ) : Type 0 where
+  ended : p < getD groups (p / 64) 0
+  begun : 64 ≤ getD groups (16 + p / 64) 0 + p % 64
 
-  here : p / 64 < length groups
+-- the groups are told of pixels from lo to hi: they still know of all marks, and of the pixels between if these are of one group
+module _ (groups : List ℕ) (lo hi : ℕ) (order : lo ≤ hi) (h : hi < 1024) (long : length groups ≡ 32) where
+  abbrev ending : List ℕ
+  ending = raised groups (hi / 64) (hi + 1)
+
+  ending-long : length ending ≡ 32
+  ending-long = raised-long groups (hi / 64) (hi + 1) ∙ long
+
+  here : hi / 64 < length groups
   here = omega arith
 
-  there : 16 + p / 64 < length (raised groups (p / 64) (p + 1))
-  there = omega (arith, raised-long groups (p / 64) (p + 1))
+  there : 16 + lo / 64 < length ending
+  there = omega (arith, ending-long)
 
-  touched-grown : (j : ℕ) → getD groups j 0 ≤ getD (touched groups p) j 0
+  touched-long : length (touched groups lo hi) ≡ 32
   unfolding touched
-  touched-grown j =
-      omega (arith, raised-grown groups (p / 64) (p + 1) here j, raised-grown (raised groups (p / 64) (p + 1)) (16 + p / 64) (64 - p % 64) there j)
+  touched-long = raised-long ending (16 + lo / 64) (64 - lo % 64) ∙ ending-long
 
-  end-touched : p < getD (touched groups p) (p / 64) 0
+  touched-grown : (j : ℕ) → getD groups j 0 ≤ getD (touched groups lo hi) j 0
   unfolding touched
-  end-touched =
-      omega (
-        arith,
-        raised-reached groups (p / 64) (p + 1) here,
-        raised-grown (raised groups (p / 64) (p + 1)) (16 + p / 64) (64 - p % 64) there (p / 64),
-      )
+  touched-grown j = omega (arith, raised-grown groups (hi / 64) (hi + 1) here j, raised-grown ending (16 + lo / 64) (64 - lo % 64) there j)
 
-  begin-touched : 64 - p % 64 ≤ getD (touched groups p) (16 + p / 64) 0
+  touched-keeps : (marks : List ℕ) → Grouped marks groups → Grouped marks (touched groups lo hi)
+  touched-keeps marks g = record {
+    wide = g .wide;
+    long = touched-long;
+    ended = λ i l q. g .ended i l (omega (arith, q, touched-grown (i / 64)));
+    begun = λ i l q. g .begun i l (omega (arith, q, touched-grown (16 + i / 64)));
+  }
+
+  end-touched : hi < getD (touched groups lo hi) (hi / 64) 0
   unfolding touched
-  begin-touched = raised-reached (raised groups (p / 64) (p + 1)) (16 + p / 64) (64 - p % 64) there
+  end-touched = omega (arith, raised-reached groups (hi / 64) (hi + 1) here, raised-grown ending (16 + lo / 64) (64 - lo % 64) there (hi / 64))
 
-pub touched-grouped : (marks groups : List ℕ) (p : ℕ) → p < length marks → Grouped marks groups → Grouped (set marks p 1) (touched groups p)
-touched-grouped marks groups p h g = record {
+  begin-touched : 64 - lo % 64 ≤ getD (touched groups lo hi) (16 + lo / 64) 0
+  unfolding touched
+  begin-touched = raised-reached ending (16 + lo / 64) (64 - lo % 64) there
+
+  touched-noted : lo / 64 ≡ hi / 64 → (p : ℕ) → lo ≤ p → p ≤ hi → Noted (touched groups lo hi) p
+  touched-noted one p low high = record {
+    ended = subst (λ (n : ℕ). p < getD (touched groups lo hi) n 0) as-last (omega (arith, end-touched, high));
+    begun = subst (λ (n : ℕ). 64 ≤ getD (touched groups lo hi) (16 + n) 0 + p % 64) as-first (omega (arith, begin-touched, rest));
+  }
+    where
+      as-last : hi / 64 ≡ p / 64
+      as-last = omega (arith, one, low, high)
+
+      as-first : lo / 64 ≡ p / 64
+      as-first = omega (arith, one, low, high)
+
+      rest : lo % 64 ≤ p % 64
+      rest = omega (arith, as-first, low)
+
+-- a pixel that they know of is marked
+noted-marked : (marks groups : List ℕ) (p : ℕ) → Noted groups p → Grouped marks groups → Grouped (set marks p 1) groups
+noted-marked marks groups p n g = record {
   wide = omega (arith, wide, g .wide);
-  long = touched-long groups p low (g .long);
-  ended = λ i l q. other i (λ e. past i e q) ∙ g .ended i (omega (arith, wide)) (omega (arith, q, touched-grown groups p low (g .long) (i / 64)));
-  begun = λ i l q. other i (λ e. before i e q) ∙ g .begun i (omega (arith, wide)) (omega (arith, q, touched-grown groups p low (g .long) (16 + i / 64)));
+  long = g .long;
+  ended = λ i l q. other i (λ e. past i e q) ∙ g .ended i (omega (arith, wide)) q;
+  begun = λ i l q. other i (λ e. before i e q) ∙ g .begun i (omega (arith, wide)) q;
 }
   where
     wide : length (set marks p 1) ≡ length marks
     wide = length-set marks p 1
 
-    low : p < 1024
-    low = omega (arith, g .wide)
-
     other : (i : ℕ) → (i ≡ p → ⊥) → getD (set marks p 1) i 0 ≡ getD marks i 0
     other i e = getD-set-other marks p i 1 0 e
 
-    past : (i : ℕ) → i ≡ p → getD (touched groups p) (i / 64) 0 ≤ i → ⊥
+    past : (i : ℕ) → i ≡ p → getD groups (i / 64) 0 ≤ i → ⊥
     past i e q =
-        let r : getD (touched groups p) (p / 64) 0 ≤ p = subst (λ (j : ℕ). getD (touched groups p) (j / 64) 0 ≤ j) e q in
-        absurd (omega (arith, r, end-touched groups p low (g .long)))
+        let r : getD groups (p / 64) 0 ≤ p = subst (λ (j : ℕ). getD groups (j / 64) 0 ≤ j) e q in
+        absurd (omega (arith, r, n .ended))
 
-    before : (i : ℕ) → i ≡ p → getD (touched groups p) (16 + i / 64) 0 + i % 64 < 64 → ⊥
+    before : (i : ℕ) → i ≡ p → getD groups (16 + i / 64) 0 + i % 64 < 64 → ⊥
     before i e q =
-        let r : getD (touched groups p) (16 + p / 64) 0 + p % 64 < 64 = subst (λ (j : ℕ). getD (touched groups p) (16 + j / 64) 0 + j % 64 < 64) e q in
-        absurd (omega (arith, r, begin-touched groups p low (g .long)))
+        let r : getD groups (16 + p / 64) 0 + p % 64 < 64 = subst (λ (j : ℕ). getD groups (16 + j / 64) 0 + j % 64 < 64) e q in
+        absurd (omega (arith, r, n .begun))
+
+-- one pixel, and four of one group
+pub one-grouped : (marks groups : List ℕ) (p : ℕ) {m t : List ℕ} → m ≡ set marks p 1 → t ≡ touched groups p p → p < length marks → Grouped marks groups
+    → Grouped m t
+one-grouped marks groups p o e h g =
+    subst₂ Grouped (sym o) (sym e)
+    (noted-marked marks (touched groups p p) p (touched-noted groups p p here low (g .long) refl p here here)
+    (touched-keeps groups p p here low (g .long) marks g))
+  where
+    here : p ≤ p
+    here = omega arith
+
+    low : p < 1024
+    low = omega (arith, g .wide)
+
+pub four-grouped : (marks groups : List ℕ) (a b c d lo hi : ℕ) {m t : List ℕ} → lo ≡ min (min a b) (min c d) / 4 → hi ≡ max (max a b) (max c d) / 4
+    → m ≡ markRows (a / 4) (b / 4) (c / 4) (d / 4) marks → t ≡ touched groups lo hi → hi < length marks → lo / 64 ≡ hi / 64 → Grouped marks groups
+    → Grouped m t
+unfolding markRows
+four-grouped marks groups a b c d lo hi q r o e h one g =
+    subst₂ Grouped (sym o) (sym e)
+    (more (set (set (set marks (a / 4) 1) (b / 4) 1) (c / 4) 1) (d / 4) (omega (arith, q)) (omega (arith, r))
+    (more (set (set marks (a / 4) 1) (b / 4) 1) (c / 4) (omega (arith, q)) (omega (arith, r))
+    (more (set marks (a / 4) 1) (b / 4) (omega (arith, q)) (omega (arith, r))
+    (more marks (a / 4) (omega (arith, q)) (omega (arith, r)) (touched-keeps groups lo hi order low (g .long) marks g)))))
+  where
+    order : lo ≤ hi
+    order = omega (arith, q, r)
+
+    low : hi < 1024
+    low = omega (arith, h, g .wide)
+
+    more : (x : List ℕ) (p : ℕ) → lo ≤ p → p ≤ hi → Grouped x (touched groups lo hi) → Grouped (set x p 1) (touched groups lo hi)
+    more x p k l = noted-marked x (touched groups lo hi) p (touched-noted groups lo hi order low (g .long) one p k l)
+
+-- what the test for pixels of one group tells
+pub near-both : (lo hi w : ℕ) → (ltb hi w && eqb (lo / 64) (hi / 64)) ≡ true → (hi < w) × (lo / 64 ≡ hi / 64)
+near-both lo hi w q =
+    let inside = ltb hi w in
+    let one = eqb (lo / 64) (hi / 64) in
+    let both : T (inside && one) = subst T (sym q) tt in
+    (ltb-true hi w (is-true inside (both-left inside one both)), eqb-true (lo / 64) (hi / 64) (is-true one (both-right inside one both)))
 
 -- no pixel is marked: the groups may be anything
 pub none-grouped : {groups : List ℕ} (marks : List ℕ) (n : ℕ) → marks ≡ tab n (λ j. 0) → length marks ≡ n → n ≤ 1024 → length groups ≡ 32 → Grouped marks groups

@@ -5,6 +5,7 @@ pub mod Begin
 pub mod Laid
 pub mod Starts
 pub mod Beyond
+pub mod Rows
 pub mod Turn
 pub mod Listed
 pub mod Tally

@@ -17,10 +17,13 @@ use Rattle.path.specs.declared.Edge.{Edge}
 use Rattle.path.specs.Stored.{edgeAt, edgesOf, Small}
 use Rattle.coverage.specs.declared.Start.{Start}
 use Rattle.coverage.specs.Winding.{sample}
-use Rattle.coverage.specs.Scanline.{laid, zeros, starts, startOf, sumsAt, missed, beyond, bumped, bumpedFour, withSums, Low, LowFour, Edges, Marked}
+use Rattle.coverage.specs.Scanline.{laid, zeros, starts, startOf, sumsAt, missed, beyond, bumped, bumpedFour, putRow, putRows, withSums}
+use Rattle.coverage.specs.Scanline.{Low, LowFour, Edges, Marked}
+use Rattle.coverage.specs.Marks.{markRows}
 use Rattle.coverage.proofs.Beyond.{beyond-more}
 use Rattle.coverage.proofs.Laid.{laid-at, laid-before, laid-set, laid-again, tab-bump}
 use Rattle.coverage.proofs.Laid.{tab-same, set-again}
+use Rattle.coverage.proofs.Rows.{put-long}
 use Rattle.coverage.proofs.Starts.{partly, partly-none, partly-more, partly-all, partly-small, missed-more}
 
 -- ---- one number more in the sums
@@ -112,11 +115,11 @@ module _ (n w c y : ℕ) (l : List ℤ) (fit : n * 4 + w * 16 ≤ length l) (es 
         ap (λ (z : Start). sumsUpTo r j +ℤ cond (eqb (z .at * 4 + r) j) (z .by) (pos 0)) q
         ∙ partly-more c (w * 4) y es e r j low
 
-    next-sums : (v t : List ℤ) → v ≡ laid (n * 4) (w * 16) l (tab (w * 16) (sumsUpTo r))
-        → t ≡ cond (ltb (s .at / 4) w) (bumped v (n * 4 + (s .at * 4 + r)) (s .by)) v
-        → t ≡ laid (n * 4) (w * 16) l (tab (w * 16) (sumsUpTo (r + 1)))
-    next-sums v t o p =
-        put-turn (n * 4) (w * 16) l fit (sumsUpTo r) v o w (s .at) r (s .by) refl low t p
+    next-sums : (v : List ℤ) → v ≡ laid (n * 4) (w * 16) l (tab (w * 16) (sumsUpTo r))
+        → putRow (n * 4) w r s v ≡ laid (n * 4) (w * 16) l (tab (w * 16) (sumsUpTo (r + 1)))
+    unfolding putRow
+    next-sums v o =
+        put-turn (n * 4) (w * 16) l fit (sumsUpTo r) v o w (s .at) r (s .by) refl low (putRow (n * 4) w r s v) refl
         ∙ ap (laid (n * 4) (w * 16) l)
         (tab-same (w * 16) (λ j. sumsUpTo r j +ℤ cond (eqb (s .at * 4 + r) j) (s .by) (pos 0)) (sumsUpTo (r + 1)) (λ j m. next j))
 
@@ -125,18 +128,43 @@ module _ (n w c y : ℕ) (l : List ℤ) (fit : n * 4 + w * 16 ≤ length l) (es 
         mark-same t (λ j. sumsUpTo r j +ℤ cond (eqb (s .at * 4 + r) j) (s .by) (pos 0)) (sumsUpTo (r + 1)) (λ j m. next j)
         (mark-turn d t (sumsUpTo r) (s .at) r (s .by) low p k)
 
-    pub added-row : (v t : List ℤ) (d m : List ℕ) → length t ≡ length v → t ≡ cond (ltb (s .at / 4) (length d)) (bumped v (n * 4 + (s .at * 4 + r)) (s .by)) v
-        → m ≡ set d (s .at / 4) 1 → Added n w c y l es e r v d → Added n w c y l es e (r + 1) t m
-    added-row v t d m g p o a = record {
-      long = g ∙ a .long;
-      wide = ap length o ∙ length-set d (s .at / 4) 1 ∙ a .wide;
-      sums =
-          next-sums v t (a .sums) (p ∙ ap (λ (k : ℕ). cond (ltb (s .at / 4) k) (bumped v (n * 4 + (s .at * 4 + r)) (s .by)) v) (a .wide));
-      marks = next-marks d m o (a .marks);
+    added-row : (v : List ℤ) (d : List ℕ) → Added n w c y l es e r v d → Added n w c y l es e (r + 1) (putRow (n * 4) w r s v) (set d (s .at / 4) 1)
+    added-row v d a = record {
+      long = put-long (n * 4) w r s v ∙ a .long;
+      wide = length-set d (s .at / 4) 1 ∙ a .wide;
+      sums = next-sums v (a .sums);
+      marks = next-marks d (set d (s .at / 4) 1) refl (a .marks);
     }
 
-  -- all four, where it begins in one column
-  module _ (s : Start) (q : (r : ℕ) → r < 4 → s ≡ startOf c (w * 4) (sample (4 * y + r)) e) where
+  -- all four
+  abbrev startIn : ℕ → Start
+  startIn r = startOf c (w * 4) (sample (4 * y + r)) e
+
+  pub added-rows : (s u x t : Start) → s ≡ startIn 0 → u ≡ startIn 1 → x ≡ startIn 2 → t ≡ startIn 3 → (v z : List ℤ) (d m : List ℕ)
+      → z ≡ putRows (n * 4) (length d) s u x t v → m ≡ markRows (s .at / 4) (u .at / 4) (x .at / 4) (t .at / 4) d → Added n w c y l es e 0 v d
+      → Added n w c y l es e 4 z m
+  unfolding putRows markRows
+  added-rows s u x t q1 q2 q3 q4 v z d m o p a =
+      subst (λ (k : List ℤ). Added n w c y l es e 4 k m) (sym (o ∙ ap (λ (k : ℕ). putRows (n * 4) k s u x t v) (a .wide)))
+      (subst (Added n w c y l es e 4 (putRows (n * 4) w s u x t v)) (sym p) four)
+    where
+      one : Added n w c y l es e 1 (putRow (n * 4) w 0 s v) (set d (s .at / 4) 1)
+      one = added-row 0 (omega arith) s q1 v d a
+
+      two : Added n w c y l es e 2 (putRow (n * 4) w 1 u (putRow (n * 4) w 0 s v)) (set (set d (s .at / 4) 1) (u .at / 4) 1)
+      two = added-row 1 (omega arith) u q2 (putRow (n * 4) w 0 s v) (set d (s .at / 4) 1) one
+
+      three : Added n w c y l es e 3 (putRow (n * 4) w 2 x (putRow (n * 4) w 1 u (putRow (n * 4) w 0 s v)))
+          (set (set (set d (s .at / 4) 1) (u .at / 4) 1) (x .at / 4) 1)
+      three = added-row 2 (omega arith) x q3 (putRow (n * 4) w 1 u (putRow (n * 4) w 0 s v)) (set (set d (s .at / 4) 1) (u .at / 4) 1) two
+
+      four : Added n w c y l es e 4 (putRows (n * 4) w s u x t v) (markRows (s .at / 4) (u .at / 4) (x .at / 4) (t .at / 4) d)
+      four =
+          added-row 3 (omega arith) t q4 (putRow (n * 4) w 2 x (putRow (n * 4) w 1 u (putRow (n * 4) w 0 s v)))
+          (set (set (set d (s .at / 4) 1) (u .at / 4) 1) (x .at / 4) 1) three
+
+  -- where they begin in one column
+  module _ (s : Start) where
     -- what is added in the sample row r, if the column is in the window
     abbrev more : Bool → List ℤ → ℕ → List ℤ
     more b v r = cond b (bumped v (n * 4 + (s .at * 4 + r)) (s .by)) v
@@ -152,30 +180,20 @@ module _ (n w c y : ℕ) (l : List ℤ) (fit : n * 4 + w * 16 ≤ length l) (es 
         first : n * 4 + s .at * 4 ≡ n * 4 + (s .at * 4 + 0)
         first = omega arith
 
-    pub added-four : (v t : List ℤ) (d m : List ℕ) → length t ≡ length v → t ≡ cond (ltb (s .at / 4) (length d)) (bumpedFour v (n * 4 + s .at * 4) (s .by)) v
-        → m ≡ set d (s .at / 4) 1 → Added n w c y l es e 0 v d → Added n w c y l es e 4 t m
-    added-four v t d m g p o a = record {
-      long = g ∙ a .long;
-      wide = ap length o ∙ length-set d (s .at / 4) 1 ∙ a .wide;
-      sums = p ∙ ap (λ (k : ℕ). cond (ltb (s .at / 4) k) (bumpedFour v (n * 4 + s .at * 4) (s .by)) v) (a .wide) ∙ four-rows b v ∙ all;
-      marks = again 3 (omega arith) (again 2 (omega arith) (again 1 (omega arith) (next-marks 0 (omega arith) s (q 0 (omega arith)) d m o (a .marks))));
-    }
-      where
-        b : Bool
-        b = ltb (s .at / 4) w
+    as-rows : (k : ℕ) (v : List ℤ) → cond (ltb (s .at / 4) k) (bumpedFour v (n * 4 + s .at * 4) (s .by)) v ≡ putRows (n * 4) k s s s s v
+    unfolding putRow putRows
+    as-rows k v = four-rows (ltb (s .at / 4) k) v
 
-        row : (r : ℕ) → r < 4 → (u : List ℤ) → u ≡ laid (n * 4) (w * 16) l (tab (w * 16) (sumsUpTo r))
-            → more b u r ≡ laid (n * 4) (w * 16) l (tab (w * 16) (sumsUpTo (r + 1)))
-        row r h u e = next-sums r h s (q r h) u (more b u r) e refl
+    as-marks : (p : ℕ) (d : List ℕ) → set d p 1 ≡ markRows p p p p d
+    unfolding markRows
+    as-marks p d = sym (set-again (set (set d p 1) p 1) p 1 ∙ set-again (set d p 1) p 1 ∙ set-again d p 1)
 
-        all : more b (more b (more b (more b v 0) 1) 2) 3 ≡ laid (n * 4) (w * 16) l (tab (w * 16) (sumsUpTo 4))
-        all =
-            row 3 (omega arith) (more b (more b (more b v 0) 1) 2)
-            (row 2 (omega arith) (more b (more b v 0) 1) (row 1 (omega arith) (more b v 0) (row 0 (omega arith) v (a .sums))))
-
-        again : (r : ℕ) → r < 4 → Marked m (sumsUpTo r) → Marked m (sumsUpTo (r + 1))
-        again r h =
-            next-marks r h s (q r h) m m (o ∙ sym (ap (λ (z : List ℕ). set z (s .at / 4) 1) o ∙ set-again d (s .at / 4) 1))
+    pub added-four : ((r : ℕ) → r < 4 → s ≡ startIn r) → (v t : List ℤ) (d m : List ℕ)
+        → t ≡ cond (ltb (s .at / 4) (length d)) (bumpedFour v (n * 4 + s .at * 4) (s .by)) v → m ≡ set d (s .at / 4) 1 → Added n w c y l es e 0 v d
+        → Added n w c y l es e 4 t m
+    added-four q v t d m o p =
+        added-rows s s s s (q 0 (omega arith)) (q 1 (omega arith)) (q 2 (omega arith)) (q 3 (omega arith)) v t d m (o ∙ as-rows (length d) v)
+        (p ∙ as-marks (s .at / 4) d)
 
 -- ---- the ith edge, for w pixels from column c on in the pixel row y
 module _ (n w c y : ℕ) (l : List ℤ) (fit : n * 4 + w * 16 ≤ length l) (i : ℕ) where

@@ -15,9 +15,13 @@ pub record Grouped (marks groups : List ℕ) : Type 0 where
 unfoldable pub raised : List ℕ → ℕ → ℕ → List ℕ
 raised s i n = set s i (max (getD s i 0) n)
 
--- the groups with a mark of pixel p
-unfoldable pub touched : List ℕ → ℕ → List ℕ
-touched groups p = raised (raised groups (p / 64) (p + 1)) (16 + p / 64) (64 - p % 64)
+-- the groups told of marks from pixel lo to pixel hi of one group
+unfoldable pub touched : List ℕ → ℕ → ℕ → List ℕ
+touched groups lo hi = raised (raised groups (hi / 64) (hi + 1)) (16 + lo / 64) (64 - lo % 64)
+
+-- four pixels marked
+unfoldable pub markRows : ℕ → ℕ → ℕ → ℕ → List ℕ → List ℕ
+markRows i j k l marks = set (set (set (set marks i 1) j 1) k 1) l 1
 
 -- from p to before e no pixel is marked
 pub record Blank (marks : List ℕ) (p e : ℕ) : Type 0 where

@@ -3,7 +3,7 @@ use Prim.Native.Nat.{ℕ, zero, suc, _+_, _*_, _-_, _/_, _%_, _≤_, _<_}
 use mathlib.Core.Path.{_≡_}
 use mathlib.Core.List.{List, _++_}
 use mathlib.Core.Bool.{Bool, not, cond, _&&_}
-use lib.Dec.{eqb, leb}
+use lib.Dec.{eqb, ltb, leb}
 use lib.ListN.{length, getD, set, take, drop}
 use lib.IntN.{ℤ, pos, natAbs, _+ℤ_, _-ℤ_, _*ℤ_}
 use lib.Signed.{leZ, ltZ}
@@ -76,6 +76,14 @@ bumped l i v = set l i (getD l i (pos 0) +ℤ v)
 unfoldable pub bumpedFour : List ℤ → ℕ → ℤ → List ℤ
 bumpedFour l i v = bumped (bumped (bumped (bumped l i v) (i + 1) v) (i + 2) v) (i + 3) v
 
+-- what begins in sample row r of a window of w pixels, added to the sums from b on
+unfoldable pub putRow : ℕ → ℕ → ℕ → Start → List ℤ → List ℤ
+putRow b w r s l = cond (ltb (s .at / 4) w) (bumped l (b + (s .at * 4 + r)) (s .by)) l
+
+-- what begins in the four sample rows
+unfoldable pub putRows : ℕ → ℕ → Start → Start → Start → Start → List ℤ → List ℤ
+putRows b w s u v t l = putRow b w 3 t (putRow b w 2 v (putRow b w 1 u (putRow b w 0 s l)))
+
 -- a pixel that is not marked has no number but 0
 pub record Marked (cover : List ℕ) (f : ℕ → ℤ) : Type 0 where
   pub unmarked : (i : ℕ) → i < length cover * 16 → getD cover (i / 16) 0 ≡ 0 → f i ≡ pos 0
@@ -115,6 +123,13 @@ Low z = natAbs z ≤ 1000000
 -- so are the four numbers from i on
 abbrev pub LowFour : List ℤ → ℕ → Type 0
 LowFour s i = Low (at s i) × Low (at s (i + 1)) × Low (at s (i + 2)) × Low (at s (i + 3))
+
+-- so is the number that is to be added to, and so is what is added: in sample row r, and in the four
+abbrev pub Fits : List ℤ → ℕ → ℕ → ℕ → Start → Type 0
+Fits l b w r s = (natAbs (s .by) ≤ 1) × (s .at / 4 < w → Low (getD l (b + (s .at * 4 + r)) (pos 0)))
+
+abbrev pub FitRows : List ℤ → ℕ → ℕ → Start → Start → Start → Start → Type 0
+FitRows l b w s u v t = Fits l b w 0 s × Fits l b w 1 u × Fits l b w 2 v × Fits l b w 3 t
 
 -- the running sums of four columns from z on
 unfoldable pub windingsFrom : ℤ → ℤ → ℤ → ℤ → ℤ → Windings

@@ -3,17 +3,21 @@
 use crate::Start;
 use crate::column::start;
 use crate::marks::mark;
+use crate::marks::touch;
 use path::Edge;
 use path::edges::load;
+use rect::least;
+use rect::most;
 ghost use mathlib.Core.Path.{_≡_};
-ghost use mathlib.Core.Bool.{cond};
-ghost use Prim.Native.Nat.{_+_, _*_, _/_, _^_, _<_, _≤_};
-ghost use lib.Dec.{ltb};
+ghost use mathlib.Core.Bool.{cond, _&&_};
+ghost use Prim.Native.Nat.{_+_, _*_, _/_, _^_, _<_, _≤_, min, max};
+ghost use lib.Dec.{eqb, ltb};
 ghost use lib.IntN.{pos, natAbs};
 ghost use lib.ListN.{length, getD, set};
 ghost use Rattle.path.specs.Stored.{edgeAt, edgesOf};
-ghost use Rattle.coverage.specs.Scanline.{laid, zeros, missed, beyond, startsAlike, bumped, bumpedFour, sumsAt, withSums, Low, LowFour, Edges, Marked};
-ghost use Rattle.coverage.specs.Marks.{Grouped};
+ghost use Rattle.coverage.specs.Scanline.{laid, zeros, missed, beyond, startsAlike, bumped, bumpedFour, putRow, putRows, sumsAt, withSums};
+ghost use Rattle.coverage.specs.Scanline.{Low, LowFour, Fits, FitRows, Edges, Marked};
+ghost use Rattle.coverage.specs.Marks.{markRows, Grouped};
 ghost use Rattle.coverage.specs.Band.{Needed};
 
 // Whether an edge has no sample row of the pixel row y between its ends.
@@ -58,33 +62,35 @@ fn bump_four(scratch: &mut [i32], i: usize, by: i32)
     bump(scratch, i + 3, by);
 }
 
-// Adds to the number of column at and sample row r, and marks its pixel and its group. Right of the window nothing is to be done.
-fn put(
-    scratch: &mut [i32],
-    base: usize,
-    cover: &mut [u8],
-    groups: &mut [u16],
-    r: usize,
-    at: usize,
-    by: i32,
-)
-    requires { ⌜ (r < 4) × (base + length (now cover) * 16 ≤ length (now scratch)) × (natAbs by ≤ 1) ⌝ }
-    requires { ⌜ Grouped (now cover) (now groups) ⌝ }
-    requires { ⌜ (at / 4 < length (now cover) → Low (getD (now scratch) (base + (at * 4 + r)) (pos 0))) ⌝ }
-    ensures { λ _. ⌜ now (scratch .exit)
-        ≡ cond (ltb (at / 4) (length (now (cover .entry)))) (bumped (now (scratch .entry)) (base + (at * 4 + r)) by) (now (scratch .entry)) ⌝ }
-    ensures { λ _. ⌜ now (cover .exit) ≡ set (now (cover .entry)) (at / 4) 1 ⌝ }
+// Adds what begins in sample row r, at a column of the window, and marks its pixel. Its group is told by the caller.
+fn put_inside(scratch: &mut [i32], base: usize, cover: &mut [u8], r: usize, s: Start)
+    requires { ⌜ (r < 4) × (base + length (now cover) * 16 ≤ length (now scratch)) × (s .at / 4 < length (now cover)) ⌝ }
+    requires { ⌜ Fits (now scratch) base (length (now cover)) r s ⌝ }
+    ensures { λ _. ⌜ now (scratch .exit) ≡ putRow base (length (now (cover .entry))) r s (now (scratch .entry)) ⌝ }
+    ensures { λ _. ⌜ now (cover .exit) ≡ set (now (cover .entry)) (s .at / 4) 1 ⌝ }
+{
+    let at = s.at;
+    cover[at / 4] = 1;
+    bump(scratch, base + (at * 4 + r), s.by);
+}
+
+// Adds what begins in sample row r, and marks its pixel and its group. Right of the window nothing is to be done.
+fn put(scratch: &mut [i32], base: usize, cover: &mut [u8], groups: &mut [u16], r: usize, s: Start)
+    requires { ⌜ (r < 4) × (base + length (now cover) * 16 ≤ length (now scratch)) × Grouped (now cover) (now groups) ⌝ }
+    requires { ⌜ Fits (now scratch) base (length (now cover)) r s ⌝ }
+    ensures { λ _. ⌜ now (scratch .exit) ≡ putRow base (length (now (cover .entry))) r s (now (scratch .entry)) ⌝ }
+    ensures { λ _. ⌜ now (cover .exit) ≡ set (now (cover .entry)) (s .at / 4) 1 ⌝ }
     ensures { λ _. ⌜ Grouped (now (cover .exit)) (now (groups .exit)) ⌝ }
 {
-    let p = at / 4;
+    let p = s.at / 4;
     if cover.len() <= p {
         return;
     }
-    mark(cover, groups, p);
-    bump(scratch, base + (at * 4 + r), by);
+    touch(groups, p, p);
+    put_inside(scratch, base, cover, r, s);
 }
 
-// The same for the four sample rows at once.
+// Adds what begins in all four sample rows at column at, and marks its pixel and its group. Right of the window nothing is to be done.
 fn put_four(
     scratch: &mut [i32],
     base: usize,
@@ -107,6 +113,98 @@ fn put_four(
     }
     mark(cover, groups, p);
     bump_four(scratch, base + at * 4, by);
+}
+
+// The first pixel in which one of four counts begins.
+fn first_pixel(s: Start, u: Start, v: Start, t: Start) -> usize
+    ensures { λ r. ⌜ r ≡ min (min (s .at) (u .at)) (min (v .at) (t .at)) / 4 ⌝ }
+{
+    least(least(s.at, u.at), least(v.at, t.at)) / 4
+}
+
+// The last of them.
+fn last_pixel(s: Start, u: Start, v: Start, t: Start) -> usize
+    ensures { λ r. ⌜ r ≡ max (max (s .at) (u .at)) (max (v .at) (t .at)) / 4 ⌝ }
+{
+    most(most(s.at, u.at), most(v.at, t.at)) / 4
+}
+
+// Whether pixels from lo to hi lie in a window of w, and in one group.
+fn is_near(lo: usize, hi: usize, w: usize) -> bool
+    ensures { λ r. ⌜ r ≡ ltb hi w && eqb (lo / 64) (hi / 64) ⌝ }
+{
+    if hi < w { lo / 64 == hi / 64 } else { false }
+}
+
+// Adds what begins in the four sample rows, at columns of the window, and marks their pixels. Their group is told by the caller.
+fn put_near(
+    scratch: &mut [i32],
+    base: usize,
+    cover: &mut [u8],
+    s: Start,
+    u: Start,
+    v: Start,
+    t: Start,
+)
+    requires { ⌜ (base + length (now cover) * 16 ≤ length (now scratch)) × FitRows (now scratch) base (length (now cover)) s u v t ⌝ }
+    requires { ⌜ max (max (s .at) (u .at)) (max (v .at) (t .at)) / 4 < length (now cover) ⌝ }
+    ensures { λ _. ⌜ now (scratch .exit) ≡ putRows base (length (now (cover .entry))) s u v t (now (scratch .entry)) ⌝ }
+    ensures { λ _. ⌜ now (cover .exit) ≡ markRows (s .at / 4) (u .at / 4) (v .at / 4) (t .at / 4) (now (cover .entry)) ⌝ }
+{
+    put_inside(scratch, base, cover, 0, s);
+    put_inside(scratch, base, cover, 1, u);
+    put_inside(scratch, base, cover, 2, v);
+    put_inside(scratch, base, cover, 3, t);
+}
+
+// The same wherever the columns are; each tells its group.
+fn put_far(
+    scratch: &mut [i32],
+    base: usize,
+    cover: &mut [u8],
+    groups: &mut [u16],
+    s: Start,
+    u: Start,
+    v: Start,
+    t: Start,
+)
+    requires { ⌜ (base + length (now cover) * 16 ≤ length (now scratch)) × Grouped (now cover) (now groups) ⌝ }
+    requires { ⌜ FitRows (now scratch) base (length (now cover)) s u v t ⌝ }
+    ensures { λ _. ⌜ now (scratch .exit) ≡ putRows base (length (now (cover .entry))) s u v t (now (scratch .entry)) ⌝ }
+    ensures { λ _. ⌜ now (cover .exit) ≡ markRows (s .at / 4) (u .at / 4) (v .at / 4) (t .at / 4) (now (cover .entry)) ⌝ }
+    ensures { λ _. ⌜ Grouped (now (cover .exit)) (now (groups .exit)) ⌝ }
+{
+    put(scratch, base, cover, groups, 0, s);
+    put(scratch, base, cover, groups, 1, u);
+    put(scratch, base, cover, groups, 2, v);
+    put(scratch, base, cover, groups, 3, t);
+}
+
+// Adds what begins in the four sample rows. Where their columns lie in one group, it is told of all four at once.
+fn put_rows(
+    scratch: &mut [i32],
+    base: usize,
+    cover: &mut [u8],
+    groups: &mut [u16],
+    s: Start,
+    u: Start,
+    v: Start,
+    t: Start,
+)
+    requires { ⌜ (base + length (now cover) * 16 ≤ length (now scratch)) × Grouped (now cover) (now groups) ⌝ }
+    requires { ⌜ FitRows (now scratch) base (length (now cover)) s u v t ⌝ }
+    ensures { λ _. ⌜ now (scratch .exit) ≡ putRows base (length (now (cover .entry))) s u v t (now (scratch .entry)) ⌝ }
+    ensures { λ _. ⌜ now (cover .exit) ≡ markRows (s .at / 4) (u .at / 4) (v .at / 4) (t .at / 4) (now (cover .entry)) ⌝ }
+    ensures { λ _. ⌜ Grouped (now (cover .exit)) (now (groups .exit)) ⌝ }
+{
+    let lo = first_pixel(s, u, v, t);
+    let hi = last_pixel(s, u, v, t);
+    if is_near(lo, hi, cover.len()) {
+        touch(groups, lo, hi);
+        put_near(scratch, base, cover, s, u, v, t);
+        return;
+    }
+    put_far(scratch, base, cover, groups, s, u, v, t);
 }
 
 // Whether an edge counts in two sample rows, and from the same column on.
@@ -150,14 +248,9 @@ fn add_rows(
         put_four(scratch, base, cover, groups, s.at, s.by);
         return;
     }
-    put(scratch, base, cover, groups, 0, s.at, s.by);
-    let mut r = 1;
-    while r < 3 {
-        let u = start(e, (64 * (4 * y + r) + 32) as i32, c, k);
-        put(scratch, base, cover, groups, r, u.at, u.by);
-        r += 1;
-    }
-    put(scratch, base, cover, groups, 3, t.at, t.by);
+    let u = start(e, (256 * y + 96) as i32, c, k);
+    let v = start(e, (256 * y + 160) as i32, c, k);
+    put_rows(scratch, base, cover, groups, s, u, v, t);
 }
 
 // Adds what the ith edge begins in the pixel row y, in the window from column c on.

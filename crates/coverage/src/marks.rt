@@ -14,16 +14,16 @@ pub fn mark(marks: &mut [u8], groups: &mut [u16], p: usize)
     ensures { λ _. ⌜ Grouped (now (marks .exit)) (now (groups .exit)) ⌝ }
 {
     marks[p] = 1;
-    touch(groups, p);
+    touch(groups, p, p);
 }
 
-// Notes for its group that pixel p is marked.
-fn touch(groups: &mut [u16], p: usize)
-    requires { ⌜ (p < 1024) × (length (now groups) ≡ 32) ⌝ }
-    ensures { λ _. ⌜ now (groups .exit) ≡ touched (now (groups .entry)) p ⌝ }
+// Notes for their group that pixels from lo to hi may be marked.
+pub fn touch(groups: &mut [u16], lo: usize, hi: usize)
+    requires { ⌜ (lo ≤ hi) × (hi < 1024) × (length (now groups) ≡ 32) ⌝ }
+    ensures { λ _. ⌜ now (groups .exit) ≡ touched (now (groups .entry)) lo hi ⌝ }
 {
-    raise(groups, p / 64, p + 1);
-    raise(groups, 16 + p / 64, 64 - p % 64);
+    raise(groups, hi / 64, hi + 1);
+    raise(groups, 16 + lo / 64, 64 - lo % 64);
 }
 
 // The number at a place becomes n, if it was less.

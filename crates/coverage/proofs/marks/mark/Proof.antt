@@ -1,11 +1,7 @@
 -- `coverage::marks::mark` meets its contract. Assumes nothing.
-use mathlib.Core.Path.{refl, sym, subst}
-use mathlib.Core.List.{List}
-use Prim.Native.Nat.{ℕ}
+use mathlib.Core.Path.{refl}
 use native.Mathlib.Omega.{arith}
-use lib.ListN.{set}
-use Rattle.coverage.specs.Marks.{Grouped}
-use Rattle.coverage.proofs.Groups.{touched-grouped}
+use Rattle.coverage.proofs.Groups.{one-grouped}
 use borrow.Author.Needs.{needs}
 use Rattle.coverage.proofs.marks.mark.Statement.{statement}
 use Rattle.coverage.proofs.marks.mark.Tie as tie
@@ -14,7 +10,7 @@ slice-write-marks : tie.Need-slice-write-marks
 slice-write-marks c = search needs
 
 touch-requires : tie.Need-touch-requires
-touch-requires c κs = let entry = c .before .before .before in (omega (arith, entry .pre .0, entry .pre .1 .wide), entry .pre .1 .long)
+touch-requires c κs = let entry = c .before .before .before in (omega arith, omega (arith, entry .pre .0, entry .pre .1 .wide), entry .pre .1 .long)
 
 same-length : tie.Need-same-length
 same-length c = search needs
@@ -26,11 +22,8 @@ returns : tie.Need-returns
 returns c =
     let after-touch = c .before .before in
     let entry = after-touch .before .before .before .before in
-    let a = entry .args in (
-      refl,
-      subst (λ (t : List ℕ). Grouped (set (a .marks .now) (a .p) 1) t) (sym (after-touch .touch .ensures))
-          (touched-grouped (a .marks .now) (a .groups .now) (a .p) (entry .pre .0) (entry .pre .1)),
-    )
+    let a = entry .args in
+    (refl, one-grouped (a .marks .now) (a .groups .now) (a .p) refl (after-touch .touch .ensures) (entry .pre .0) (entry .pre .1))
 
 pub mark-spec : {M : Type 1} → statement M
 mark-spec = tie.close (tie.spec slice-write-marks touch-requires same-length same-length-2 returns)

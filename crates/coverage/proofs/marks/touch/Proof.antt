@@ -29,9 +29,9 @@ returns : tie.Need-returns
 unfolding touched
 returns c =
     let entry = c .before .before .before .before .before .before .before .before .before in
-    let p = entry .args .p in
+    let lo = entry .args .lo in
     let one = c .before .before .before .before .before .before .raise in
-    c .before .before .raise2 .ensures ∙ ap (λ (s : List ℕ). raised s (16 + p / 64) (64 - p % 64)) (one .ensures)
+    c .before .before .raise2 .ensures ∙ ap (λ (s : List ℕ). raised s (16 + lo / 64) (64 - lo % 64)) (one .ensures)
 
 pub touch-spec : {M : Type 1} → statement M
 touch-spec =
