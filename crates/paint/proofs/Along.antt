@@ -1,11 +1,11 @@
 -- t along a row as a line: its quotients by d are quotients of a line in parts of 2^44, as long as (j + 1) d is below that.
 use mathlib.Core.Path.{_≡_, refl, sym, ap, ap₂, _∙_}
 use mathlib.Core.List.{[], _∷_}
-use Prim.Native.Nat.{ℕ, _+_, _*_, _/_, _%_, _≤_, _<_}
+use Prim.Native.Nat.{ℕ, suc, _+_, _-_, _*_, _/_, _%_, _≤_, _<_, min}
 use native.Mathlib.Nat.{le-refl, le-trans, mul-le-mul}
 use native.Mathlib.Nat.{div-eq-of-lt-le, div-lt-iff-lt-mul, div-div-eq-div-mul, div-add-mod, mod-lt}
 use native.Mathlib.Omega.{arith}
-use lib.Dec.{lit<}
+use lib.Dec.{lit<, ltb→lt}
 use lib.IntN.{ℤ, pos, negsuc, natAbs, _+ℤ_, _-ℤ_, _*ℤ_}
 use Rattle.fixed.specs.Floor.{floorDiv, floorMod}
 use Rattle.fixed.proofs.Poly as P
@@ -15,11 +15,12 @@ use Rattle.fixed.proofs.Sign.{is-positive}
 use Rattle.lists.specs.Lists.{tab}
 use Rattle.lists.proofs.Laws.{upto-same}
 use Rattle.paint.specs.Gradient.{rampUnit, centre, squaredLength, projection, linearT, mapped}
-use Rattle.paint.specs.Buffers.{Proper, Pads, quotientOf, quotientAt, rowStep, lineParts, inParts}
+use Rattle.paint.specs.Buffers.{Proper, Pads, Inner, quotientOf, quotientAt, rowStep, lineParts, inParts}
 use Rattle.paint.specs.Segments.{positionOf}
 use Rattle.paint.specs.declared.FixedPoints.{FixedPoints}
 use Rattle.paint.specs.declared.Quotient.{Quotient}
 use Rattle.paint.proofs.Folded.{rest-below}
+use Rattle.paint.proofs.Placing.{on-ramp}
 use Rattle.paint.proofs.Quotients.{linear-form, floor-whole, floor-parts}
 use Rattle.paint.proofs.Slope.{squared-is, above}
 use Rattle.paint.proofs.Walk.{shifted, positive, whole-is-t}
@@ -98,12 +99,40 @@ line-first first step = P.eq (P.var first) (P.var first ⊕ P.var step ⊗ P.num
 pub line-next : (first step : ℤ) (i : ℕ) → first +ℤ step *ℤ pos i +ℤ step ≡ first +ℤ step *ℤ pos (i + 1)
 line-next first step i = P.eq (P.var first ⊕ P.var step ⊗ P.num i ⊕ P.var step) (P.var first ⊕ P.var step ⊗ P.num (i + 1)) (omega arith)
 
--- the high half of their bits
+-- ---- a line is between its ends, so it lies on the ramp where they do
+pub inner-between : (first step : ℤ) (i n : ℕ) → i ≤ n → Inner first → Inner (first +ℤ step *ℤ pos n) → Inner (first +ℤ step *ℤ pos i)
+inner-between first (pos s) i n h f l =
+    let z = P.var first ⊕ P.num s ⊗ P.num i in
+    record {
+      above = P.le (P.num 0) z (omega (arith, P.from-le (P.num 0) (P.var first) (f .above)));
+      below = P.lt z (P.num 1152921504606846976)
+          (omega (arith, mul-le-mul (le-refl s) h, P.from-lt (P.var first ⊕ P.num s ⊗ P.num n) (P.num 1152921504606846976) (l .below)));
+    }
+inner-between first (negsuc s) i n h f l =
+    let z = P.var first ⊕ P.var (negsuc s) ⊗ P.num i in
+    record {
+      above = P.le (P.num 0) z
+          (omega (arith, mul-le-mul (le-refl (suc s)) h, P.from-le (P.num 0) (P.var first ⊕ P.var (negsuc s) ⊗ P.num n) (l .above)));
+      below = P.lt z (P.num 1152921504606846976) (omega (arith, P.from-lt (P.var first) (P.num 1152921504606846976) (f .below)));
+    }
+
+pub inner-size : (t : ℤ) → Inner t → natAbs t ≤ 1152921504606846976
+inner-size (pos n) h = omega (arith, ltb→lt n 1152921504606846976 (h .below .lt))
+inner-size (negsuc n) h = absurd (h .above .le)
+
+-- there t is as it would be cut
+pub inner-is : (t : ℤ) → Inner t → floorDiv t lineParts ≡ pos (min (positionOf (floorDiv t lineParts) - 1) 65535)
+inner-is (pos n) h =
+    let l : n / lineParts < 65536 = omega (arith, ltb→lt n 1152921504606846976 (h .below .lt)) in
+    let e : n / lineParts ≡ min (n / lineParts + 1 - 1) 65535 = omega arith in
+    ap pos (e ∙ ap (λ (k : ℕ). min (k - 1) 65535) (on-ramp (n / lineParts) l))
+inner-is (negsuc n) h = absurd (h .above .le)
+
+-- ---- t by the high half of its bits
 pub high-half : (z : ℤ) → natAbs z ≤ 4611686018427387904 → Within 1073741824 (floorDiv z 4294967296)
 high-half (pos n) h = record { size = omega arith }
 high-half (negsuc n) h = record { size = omega arith }
 
--- t by the high half
 pub floor-twice : (z : ℤ) → floorDiv (floorDiv z 4294967296) 4096 ≡ floorDiv z lineParts
 floor-twice (pos n) = ap pos (div-div-eq-div-mul n 4294967296 4096)
 floor-twice (negsuc n) = ap negsuc (div-div-eq-div-mul n 4294967296 4096)

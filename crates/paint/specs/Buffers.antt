@@ -7,7 +7,7 @@ use mathlib.Core.Bool.{Bool, false, cond}
 use lib.Dec.{eqb}
 use lib.ListN.{length, getD, drop}
 use lib.IntN.{ℤ, pos, natAbs, _+ℤ_, _-ℤ_, _*ℤ_}
-use lib.Signed.{ltZ}
+use lib.Signed.{ltZ, _≤ℤ_, _<ℤ_}
 use lib.Ieee.{lt}
 use Rattle.fixed.specs.declared.Real.{Real}
 use Rattle.fixed.specs.declared.Real.the-variants.{Number, Nan}
@@ -111,6 +111,11 @@ pub record Moderate (q : Quotient) : Type 0 where
 -- ---- t along a row as a line in parts of 2^44
 abbrev pub lineParts : ℕ
 lineParts = 17592186044416
+
+-- t in these parts lies on the ramp, which has 65,536 times as many
+pub record Inner (t : ℤ) : Type 0 where
+  pub above : pos 0 ≤ℤ t
+  pub below : t <ℤ pos 1152921504606846976
 
 -- a quotient over d in these parts, rounded up
 unfoldable pub inParts : Quotient → ℤ → ℤ

@@ -14,7 +14,7 @@ ghost use lib.ListN.{length};
 ghost use Rattle.fixed.specs.Floor.{floorDiv};
 ghost use Rattle.lists.specs.Lists.{tab};
 ghost use Rattle.paint.specs.Gradient.{squaredLength, linearT, mapped};
-ghost use Rattle.paint.specs.Buffers.{LimitedPoints, Proper, Lined, Follows, quotientAt, rowStep, lineParts, inParts};
+ghost use Rattle.paint.specs.Buffers.{LimitedPoints, Proper, Lined, Follows, Inner, quotientAt, rowStep, lineParts, inParts};
 ghost use Rattle.paint.specs.Segments.{positionOf};
 
 // The position of t.
@@ -35,6 +35,9 @@ pub fn position(spread: u32, t: i64) -> u32
 const PARTS: i64 = 17592186044416;
 
 const PARTS_ROOT: u64 = 4194304;
+
+// How many of them the ramp has.
+const RAMP_PARTS: i64 = 1152921504606846976;
 
 // The line has t at each pixel of a block, and fits 64 bits, if these are below: the gradient's squared length, t at the first pixel, what t grows by.
 const LENGTH_LIMIT: i64 = 137438953472;
@@ -177,6 +180,65 @@ fn padded(t: i32) -> u32
 
 // t of pixels whose t is a line in parts, cut to 0..65,535: twice, for two pairs of channels.
 pub fn line_ts(first: i64, step: i64, left: &mut [u16], right: &mut [u16])
+    requires { ⌜ (natAbs first ≤ 2305843009213693952) × (natAbs step ≤ 18014398509481984) ⌝ }
+    requires { ⌜ (length (now right) ≡ length (now left)) × (length (now left) ≤ 128) ⌝ }
+    ensures { λ _. ⌜
+        now (left .exit) ≡ tab (length (now (left .entry))) (λ i. min (positionOf (floorDiv (first +ℤ step *ℤ pos i) lineParts) - 1) 65535)
+        ⌝ }
+    ensures { λ _. ⌜ now (right .exit) ≡ now (left .exit) ⌝ }
+{
+    if is_on_ramp(first, step, left.len()) {
+        inner_ts(first, step, left, right);
+        return;
+    }
+    cut_ts(first, step, left, right);
+}
+
+// Whether t in parts lies on the ramp at the first of n pixels and behind the last of them: a line is between its ends, so it does at each of them.
+fn is_on_ramp(first: i64, step: i64, n: usize) -> bool
+    requires { ⌜ (natAbs first ≤ 2305843009213693952) × (natAbs step ≤ 18014398509481984) × (n ≤ 128) ⌝ }
+    ensures { λ r. ⌜ (r ≡ true → Inner first × Inner (first +ℤ step *ℤ pos n)) ⌝ }
+{
+    let end = first + step * (n as i64);
+    is_inner(first) && is_inner(end)
+}
+
+// Whether t in parts lies on the ramp.
+fn is_inner(t: i64) -> bool
+    ensures { λ r. ⌜ (r ≡ true → Inner t) ⌝ }
+{
+    0 <= t && t < RAMP_PARTS
+}
+
+// The same of a line that is on the ramp all along: nothing is cut, which is half of the work.
+fn inner_ts(first: i64, step: i64, left: &mut [u16], right: &mut [u16])
+    requires { ⌜ Inner first × Inner (first +ℤ step *ℤ pos (length (now left))) × (length (now right) ≡ length (now left)) ⌝ }
+    ensures { λ _. ⌜
+        now (left .exit) ≡ tab (length (now (left .entry))) (λ i. min (positionOf (floorDiv (first +ℤ step *ℤ pos i) lineParts) - 1) 65535)
+        ⌝ }
+    ensures { λ _. ⌜ now (right .exit) ≡ now (left .exit) ⌝ }
+{
+    let mut t = first;
+    let mut i = 0;
+    while i < left.len() {
+        let u = inner_t(t);
+        left[i] = u;
+        right[i] = u;
+        t += step;
+        i += 1;
+    }
+}
+
+// t in parts, where it lies on the ramp.
+fn inner_t(t: i64) -> u16
+    requires { ⌜ Inner t ⌝ }
+    ensures { λ k. ⌜ k ≡ min (positionOf (floorDiv t lineParts) - 1) 65535 ⌝ }
+{
+    (t >> 44) as u16
+}
+
+// The same of any line.
+fn cut_ts(first: i64, step: i64, left: &mut [u16], right: &mut [u16])
     requires { ⌜ (natAbs first ≤ 2305843009213693952) × (natAbs step ≤ 18014398509481984) ⌝ }
     requires { ⌜ (length (now right) ≡ length (now left)) × (length (now left) ≤ 128) ⌝ }
     ensures { λ _. ⌜
