@@ -5,10 +5,13 @@ use Prim.Native.Nat.{ℕ, _+_, _-_, _*_, _/_, _≤_, _<_}
 use native.Mathlib.Nat.{mul-le-mul, mul-le-mul-right}
 use native.Mathlib.Omega.{arith}
 use lib.ListN.{length, getD}
+use Rattle.runs.specs.Runs.{startOf, expand, Runs}
+use Rattle.runs.proofs.Expand.{runs-length}
 use Rattle.color.specs.declared.Pixel.{Pixel}
 use Rattle.raster.specs.Surface.{run, pixelIn}
+use Rattle.raster.specs.Rows.{Stored}
 use Rattle.raster.proofs.Pixels.{run-at}
-use Rattle.raster.proofs.Runs.{run-same}
+use Rattle.raster.proofs.Runs.{run-same, stored-all}
 use Rattle.blend.specs.PorterDuff.{blended, stored, storedUnmasked, sourceFactor, destinationFactor, compositeByte, compositeOn}
 use Rattle.blend.specs.Unmasked.{unmaskedByte, unmaskedOn}
 use Rattle.blend.specs.Rows.{Coverage, compositeRow}
@@ -57,10 +60,14 @@ whole-mask-step mode k s d h =
       byte-whole mode k (s .a) (d .a) (s .a) (d .a) h,
     )
 
--- a row of it
-pub whole-mask-row : (mode : ℕ) (ks : List ℕ) (paint : ℕ → Pixel) (d r : List ℕ) → Coverage ks
-    → r ≡ run (length ks) (λ i. unmaskedOn mode (getD ks i 0) (paint i) (pixelIn d i)) → r ≡ compositeRow mode ks (λ i. 255) paint d
-whole-mask-row mode ks paint d r h o = o ∙ run-same (length ks) _ _ (λ i l. whole-mask-step mode (getD ks i 0) (paint i) (pixelIn d i) (h i l))
+-- a row of it, of one paint, when it is blended along all runs of the row
+pub runs-blended : (mode : ℕ) (runs : List ℕ) (n w : ℕ) → Runs runs n w → Coverage (expand runs n) → (src : Pixel) (s d : List ℕ) (a : ℕ) → length d ≡ w * 4
+    → a ≡ startOf runs n → Stored (λ i. unmaskedOn mode (getD (expand runs n) i 0) src (pixelIn d i)) d a s
+    → s ≡ compositeRow mode (expand runs n) (λ i. 255) (λ i. src) d
+runs-blended mode runs n w r c src s d a l e o =
+    let size = runs-length runs n w r in
+    stored-all o (length (expand runs n)) (e ∙ r .last ∙ sym size) (l ∙ ap (λ (m : ℕ). m * 4) (sym size))
+    ∙ run-same (length (expand runs n)) _ _ (λ i h. whole-mask-step mode (getD (expand runs n) i 0) src (pixelIn d i) (c i h))
 
 -- ---- what is stored is B, as it is where all is covered and nothing masked, by the mask's weight
 masked-byte : (mode k m sa da s d : ℕ) → compositeByte mode k m sa da s d ≡ stored k m (unmaskedByte mode 16 sa da s d) d

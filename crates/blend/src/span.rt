@@ -122,12 +122,15 @@ fn over_span(coverage: u8, src: Pixel, row: &mut [u8], n: usize)
     over_laid(coverage, &paint, &keep, row, n);
 }
 
-// The same 16 pixels at a time.
-fn over_laid(coverage: u8, paint: &[u8], keep: &[u8], row: &mut [u8], n: usize)
+// The same 16 pixels at a time, of those that are laid out. Where nothing is covered the pixels stay.
+pub fn over_laid(coverage: u8, paint: &[u8], keep: &[u8], row: &mut [u8], n: usize)
     requires { ⌜ (coverage ≤ 16) × (length (now row) ≡ n * 4) ⌝ }
     requires { ⌜ (now paint ≡ run 16 (λ i. pixelIn (now paint) 0)) × (now keep ≡ run 16 (λ i. keepPixel (pixelIn (now paint) 0))) ⌝ }
     ensures { λ _. ⌜ now (row .exit) ≡ run n (λ i. unmaskedOn modeSrcOver coverage (pixelIn (now (paint .entry)) 0) (pixelIn (now (row .entry)) i)) ⌝ }
 {
+    if coverage == 0 {
+        return;
+    }
     let mut i = 0;
     while i < n {
         let e = sooner(i + 16, n);

@@ -9,10 +9,11 @@ use Rattle.color.specs.declared.Pixel.{Pixel}
 use Rattle.raster.specs.Surface.{run, pixelIn}
 use Rattle.raster.specs.Rows.{Stored}
 use Rattle.raster.proofs.Pixels.{run-length, run-at}
-use Rattle.raster.proofs.Runs.{run-same, stored-none, stored-all}
+use Rattle.raster.proofs.Runs.{run-is, run-same, stored-none, stored-all}
 use Rattle.blend.specs.PorterDuff.{modeSrcOver}
 use Rattle.blend.specs.Unmasked.{unmaskedOn}
 use Rattle.blend.specs.Spans.{keepPixel}
+use Rattle.blend.proofs.Shortcuts.{uncovered-stores}
 use Rattle.blend.proofs.Spans.{part-turn, laid-part}
 use borrow.Author.Needs.{needs}
 use Rattle.blend.proofs.span.over_laid.Statement.{statement}
@@ -44,7 +45,7 @@ over-part-requires : tie.Need-over-part-requires Inv-loop μ-loop
 over-part-requires c κs =
     let after-sooner = c .before .before .before in
     let at-loop = after-sooner .before .before in
-    let entry = at-loop .before .before .before .before in
+    let entry = at-loop .before .before .before .before .before in
     let a = entry .args in
     let first = pixelIn (a .paint .now) 0 in
     let l = at-loop .loop in
@@ -66,7 +67,7 @@ loop-again c =
     let after-over-part = c .before .before in
     let after-sooner = after-over-part .before .before .before .before in
     let at-loop = after-sooner .before .before in
-    let entry = at-loop .before .before .before .before in
+    let entry = at-loop .before .before .before .before .before in
     let a = entry .args in
     let first = pixelIn (a .paint .now) 0 in
     let l = at-loop .loop in
@@ -85,7 +86,15 @@ loop-again c =
 
 returns : tie.Need-returns Inv-loop μ-loop
 returns c =
-    let entry = c .before .before .before .before .before in
+    let entry = c .before .before .before .before in
+    let a = entry .args in
+    rw (c .if1 .taken)
+    (run-is (a .n) (λ i. unmaskedOn modeSrcOver 0 (pixelIn (a .paint .now) 0) (pixelIn (a .row .now) i)) (a .row .now) (entry .pre .0 .1)
+    (λ i l. sym (uncovered-stores modeSrcOver (pixelIn (a .paint .now) 0) (pixelIn (a .row .now) i))))
+
+returns-2 : tie.Need-returns-2 Inv-loop μ-loop
+returns-2 c =
+    let entry = c .before .before .before .before .before .before in
     stored-all (c .before .loop .inv .1) (entry .args .n) (omega arith) (entry .pre .0 .1)
 
 pub over-laid-spec : {M : Type 1} → statement M
@@ -94,6 +103,7 @@ over-laid-spec =
     (tie.spec
     Inv-loop
     μ-loop
+    returns
     loop-holds
     (λ c. search needs)
     (λ c κs. search needs)
@@ -102,10 +112,10 @@ over-laid-spec =
     (λ c. search needs)
     (λ c. search needs)
     (λ c. search needs)
-    (λ c. omega (arith, c .sooner .ensures, paint-length (c .before .before .before .before .before .before)))
+    (λ c. omega (arith, c .sooner .ensures, paint-length (c .before .before .before .before .before .before .before)))
     (λ c. search needs)
     (λ c. search needs)
-    (λ c. omega (arith, c .before .sooner .ensures, keep-length (c .before .before .before .before .before .before .before)))
+    (λ c. omega (arith, c .before .sooner .ensures, keep-length (c .before .before .before .before .before .before .before .before)))
     (λ c. search needs)
     (λ c. search needs)
     (λ c. search needs)
@@ -114,4 +124,4 @@ over-laid-spec =
     (λ c. omega (arith, c .before .before .before .before .before .before .sooner .ensures))
     loop-again
     (λ c. search needs)
-    returns)
+    returns-2)

@@ -1,28 +1,21 @@
 -- `blend::over_span` meets its contract: 16 pixels of the paint are laid out, and what they keep. Assumes nothing.
-use mathlib.Core.Path.{_≡_, sym, ap, _∙_}
-use mathlib.Core.List.{List}
-use Prim.Native.Nat.{ℕ}
-use native.Mathlib.Omega.{arith}
+use mathlib.Core.Path.{sym, ap, _∙_}
 use Rattle.color.specs.declared.Pixel.{Pixel}
 use Rattle.raster.specs.Surface.{run, pixelIn}
-use Rattle.raster.proofs.Pixels.{run-at}
 use Rattle.blend.specs.PorterDuff.{modeSrcOver}
 use Rattle.blend.specs.Unmasked.{unmaskedOn}
 use Rattle.blend.specs.Spans.{keepPixel}
+use Rattle.blend.proofs.Spans.{laid-first}
 use borrow.Author.Needs.{needs}
 use Rattle.blend.proofs.span.over_span.Statement.{statement}
 use Rattle.blend.proofs.span.over_span.Tie as tie
-
--- of pixels that are all p, the first is p
-first : (s : List ℕ) (p : Pixel) → s ≡ run 16 (λ i. p) → pixelIn s 0 ≡ p
-first s p e = ap (λ (t : List ℕ). pixelIn t 0) e ∙ run-at 16 (λ i. p) 0 (omega arith)
 
 over-laid-requires : tie.Need-over-laid-requires
 over-laid-requires c κs =
     let after-four = c .before .before .before .before .before in
     let entry = c .before .before .before .before .before .before .before .before .before .before .before .before in
     let laid = c .before .before .before .before .before .before .before .before .before .fill-row in
-    let e = sym (first (laid .last .0) (entry .args .src) (laid .ensures)) in (
+    let e = sym (laid-first (laid .last .0) (entry .args .src) (laid .ensures)) in (
       entry .pre,
       (
         laid .ensures ∙ ap (λ (p : Pixel). run 16 (λ i. p)) e,
@@ -35,7 +28,8 @@ returns c =
     let a = c .before .before .before .before .before .before .before .before .before .before .before .before .before .before .before .args in
     let laid = c .before .before .before .before .before .before .before .before .before .before .before .before .fill-row in
     c .before .before .over-laid .ensures
-    ∙ ap (λ (p : Pixel). run (a .n) (λ i. unmaskedOn modeSrcOver (a .coverage) p (pixelIn (a .row .now) i))) (first (laid .last .0) (a .src) (laid .ensures))
+    ∙ ap (λ (p : Pixel). run (a .n) (λ i. unmaskedOn modeSrcOver (a .coverage) p (pixelIn (a .row .now) i)))
+    (laid-first (laid .last .0) (a .src) (laid .ensures))
 
 pub over-span-spec : {M : Type 1} → statement M
 over-span-spec =
