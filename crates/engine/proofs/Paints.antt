@@ -1,20 +1,24 @@
 -- A draw decoded: its shade is its paint, and its rows' step is its own.
-use mathlib.Core.Path.{_≡_, refl, ap, _∙_}
+use mathlib.Core.Path.{_≡_, refl, sym, ap, subst, _∙_}
 use mathlib.Core.Bool.{Bool, true, false}
 use mathlib.Core.List.{List}
-use Prim.Native.Nat.{ℕ, _*_, _≤_}
+use Prim.Native.Nat.{ℕ, _*_, _≤_, _<_}
 use native.Mathlib.Omega.{arith}
 use lib.Dec.{eqb}
 use lib.ListN.{length, drop, length-take, length-drop}
 use Rattle.color.specs.declared.Color.{Color}
 use Rattle.color.specs.declared.Pixel.{Pixel}
-use Rattle.color.specs.Channels.{bytesOfColor, premultiplied}
+use Rattle.color.specs.Channels.{bytesOfColor, premultiplied, UnderAlpha}
 use Rattle.raster.specs.declared.Target.{Target}
 use Rattle.raster.specs.Surface.{pixelOf}
 use Rattle.raster.specs.Rows.{stepped}
 use Rattle.raster.proofs.Overlay.{overlay-same}
 use Rattle.fixed.specs.Floats.{atMost}
-use Rattle.blend.specs.PorterDuff.{compositeOn}
+use Rattle.blend.specs.PorterDuff.{modeSrc, compositeOn}
+use Rattle.blend.specs.Unmasked.{unmaskedOn}
+use Rattle.blend.specs.Spans.{hides, fourOf, maskedPixel}
+use Rattle.blend.proofs.Masks.{masked-step}
+use Rattle.blend.proofs.Shortcuts.{hiding-replaces}
 use Rattle.path.specs.declared.Edge.{Edge}
 use Rattle.paint.specs.declared.AnyGradient.the-variants as gradient
 use Rattle.paint.specs.declared.LinearGradient.{LinearGradient}
@@ -40,7 +44,9 @@ use Rattle.engine.specs.declared.Tint.the-variants.{Plain, Transformed}
 use Rattle.engine.specs.declared.Shade.{Shade}
 use Rattle.engine.specs.declared.Shade.the-variants.{Solid, Gradient}
 use Rattle.engine.specs.declared.Style.{Style}
-use Rattle.engine.specs.Rows.{coverageWith, stepWith, tintedBy, shadeAt, styleOf, Tints, MadeLinear, MadeRadial, Shades}
+use Rattle.engine.specs.Rows.{coverageWith, stepWith, tintedBy, shadeAt, styleOf, inMode, SameBlend, Tints, MadeLinear, MadeRadial, Shades}
+use Rattle.engine.specs.Background.{HidingPaint}
+use Rattle.engine.proofs.Unclamped.{drawn-under}
 
 -- ---- the colour transformation
 pub tint-on : (d : List ℕ) (t : FixedTransform) → transforms d ≡ true → t ≡ fixedTransform (transformOf d) → Tints d (Transformed t)
@@ -78,18 +84,34 @@ module _ (d : List ℕ) (t : Tint) (tints : Tints d t) where
     }
 
 -- ---- the step
-own-step : (es : List Edge) (d : List ℕ) (mask : ℕ → ℕ → ℕ) (n : ℕ) (shade : Shade) (ramp : List ℕ) (x y : ℕ) (q : Pixel)
-    → shadeAt shade ramp x y ≡ drawPaint d x y → stepWith (styleOf d n shade) es (scissorsOf d) ramp (mask x y) x y q ≡ unclampedOf es d mask x y q
-unfolding stepWith coverageWith unclampedOf coverageOf drawMask
-own-step es d mask n shade ramp x y q e = ap (λ (p : Pixel). compositeOn (blendOf d) (coverageOf es d x y) (drawMask d mask x y) p q) e
+-- a pixel that hides what is under it is blended as under Src: its own bytes by the mask's weight
+as-src : (mode k m : ℕ) (s p : Pixel) → UnderAlpha s → s .a < 256 → hides mode (s .a) ≡ true → compositeOn modeSrc k m s p ≡ compositeOn mode k m s p
+as-src mode k m s p u l h =
+    masked-step modeSrc k m s p
+    ∙ ap (λ (b : Pixel). maskedPixel k (fourOf m) b p) (replaces modeSrc refl ∙ sym (replaces mode h))
+    ∙ sym (masked-step mode k m s p)
+  where
+    replaces : (z : ℕ) → hides z (s .a) ≡ true → unmaskedOn z 16 s p ≡ s
+    replaces z o = hiding-replaces z s p (omega (arith, u .r)) (omega (arith, u .g)) (omega (arith, u .b)) l o
 
-pub own-steps : (t : Target) (es fs : List Edge) (d : List ℕ) (mask : ℕ → ℕ → ℕ) (s r : List ℕ) (style : Style) (n : ℕ) (shade : Shade) (scissors ramp : List ℕ)
-    → style ≡ styleOf d n shade → fs ≡ es → scissors ≡ scissorsOf d → ((x y : ℕ) → shadeAt shade ramp x y ≡ drawPaint d x y)
-    → r ≡ stepped t (λ x y. stepWith style fs scissors ramp (mask x y) x y) s → r ≡ stepped t (unclampedOf es d mask) s
-own-steps t es fs d mask s r style n shade scissors ramp e f g h o =
-    o
-    ∙ rw (e, f, g)
-    (overlay-same (t .width) (t .height) (t .area) _ _ s (λ x y k l i. own-step es d mask n shade ramp x y (pixelOf (t .width) s x y) (h x y)))
+pub hiding-as-src : (mode : ℕ) (paint : ℕ → ℕ → Pixel) → HidingPaint mode paint → SameBlend modeSrc mode paint
+hiding-as-src mode paint h x y k m p u = as-src mode k m (paint x y) p u (h x y .1) (h x y .0)
+
+module _ (d : List ℕ) (n mode : ℕ) (shade : Shade) (ramp : List ℕ) (paint : (x y : ℕ) → shadeAt shade ramp x y ≡ drawPaint d x y)
+    (same : SameBlend mode (blendOf d) (shadeAt shade ramp)) where
+  own-step : (es : List Edge) (mask : ℕ → ℕ → ℕ) (x y : ℕ) (q : Pixel)
+      → stepWith (inMode (styleOf d n shade) mode) es (scissorsOf d) ramp (mask x y) x y q ≡ unclampedOf es d mask x y q
+  unfolding stepWith coverageWith unclampedOf coverageOf drawMask
+  own-step es mask x y q =
+      same x y (coverageOf es d x y) (drawMask d mask x y) q (subst UnderAlpha (sym (paint x y)) (drawn-under d x y))
+      ∙ ap (λ (p : Pixel). compositeOn (blendOf d) (coverageOf es d x y) (drawMask d mask x y) p q) (paint x y)
+
+  pub own-steps : (t : Target) (es fs : List Edge) (mask : ℕ → ℕ → ℕ) (s r : List ℕ) (style : Style) (scissors : List ℕ)
+      → style ≡ inMode (styleOf d n shade) mode → fs ≡ es → scissors ≡ scissorsOf d
+      → r ≡ stepped t (λ x y. stepWith style fs scissors ramp (mask x y) x y) s → r ≡ stepped t (unclampedOf es d mask) s
+  own-steps t es fs mask s r style scissors e f g o =
+      o
+      ∙ rw (e, f, g) (overlay-same (t .width) (t .height) (t .area) _ _ s (λ x y k l i. own-step es mask x y (pixelOf (t .width) s x y)))
 
 -- ---- what the gradient's functions ask
 abbrev pointsOf : LinearPoints → Paint → LinearPoints

@@ -7,6 +7,7 @@ use lib.IntN.{ℤ, pos}
 use lib.ListN.{length, take, drop, replicate}
 use Rattle.runs.specs.Runs.{startOf, expand, Runs}
 use Rattle.color.specs.declared.Pixel.{Pixel}
+use Rattle.color.specs.Channels.{UnderAlpha}
 use Rattle.rect.specs.declared.Rect.{Rect}
 use Rattle.rect.specs.Rects.{On, whole}
 use Rattle.path.specs.declared.Edge.{Edge}
@@ -149,6 +150,22 @@ styleOf d n shade = record {
   mode = blendOf d;
   shade = shade;
 }
+
+-- a style with another mode
+abbrev pub inMode : Style → ℕ → Style
+inMode s mode = record {
+  edges = s .edges;
+  nonzero = s .nonzero;
+  scissoring = s .scissoring;
+  scissors = s .scissors;
+  masked = s .masked;
+  mode = mode;
+  shade = s .shade;
+}
+
+-- two modes under which a paint is blended alike, whatever k, the mask's byte and the pixel that stands there
+abbrev pub SameBlend : ℕ → ℕ → (ℕ → ℕ → Pixel) → Type 0
+SameBlend a b paint = (x y k m : ℕ) (p : Pixel) → UnderAlpha (paint x y) → compositeOn a k m (paint x y) p ≡ compositeOn b k m (paint x y) p
 
 -- its colour transformation
 abbrev pub Tints : List ℕ → Tint → Type 0

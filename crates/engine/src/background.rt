@@ -96,7 +96,7 @@ fn paint_hides(d: &[u8], ramp: &mut [u32]) -> bool
     shade_hides(mode, shade, ramp)
 }
 
-fn shade_hides(mode: u16, shade: Shade, ramp: &[u32]) -> bool
+pub fn shade_hides(mode: u16, shade: Shade, ramp: &[u32]) -> bool
     requires { ⌜ Shaded shade (now ramp) ⌝ }
     ensures { λ r. ⌜ (r ≡ true → HidingPaint mode (shadeAt shade (now (ramp .entry)))) ⌝ }
 {

@@ -6,6 +6,7 @@ use crate::Strip;
 use crate::Style;
 use crate::Tint;
 use crate::TintedGradient;
+use crate::background::shade_hides;
 use crate::decode::shade;
 use crate::decode::style;
 use crate::spans::shade_gradient;
@@ -34,7 +35,7 @@ ghost use Rattle.scene.specs.Fields.{usesMask};
 ghost use Rattle.scene.specs.Accepted.{AcceptedFields};
 ghost use Rattle.engine.specs.Picture.{maskAt};
 ghost use Rattle.engine.specs.Unclamped.{unclampedOf};
-ghost use Rattle.engine.specs.Rows.{coverageWith, maskWith, stepWith, tintedBy, gradientTinted, shadeAt, Shaded};
+ghost use Rattle.engine.specs.Rows.{coverageWith, maskWith, stepWith, inMode, SameBlend, tintedBy, gradientTinted, shadeAt, Shaded};
 ghost use Rattle.engine.specs.Rows.{Scissors, OnSurface, RowRoom, RowCoverage, ListedIn, ListedFor, MaskFor, rowsOf};
 
 // Bytes for the longest row: four bytes of paint to a pixel. A row's marks, a byte to a pixel, stand there before its paint is made.
@@ -92,7 +93,7 @@ fn fill_draw(
         ⌝ }
 {
     let shade = shade(d, &mut numbers[0..RAMP_NUMBERS]);
-    let style = style(d, n, shade);
+    let style = hiding_style(style(d, n, shade), &numbers[0..RAMP_NUMBERS]);
     let fill = Fill {
         style,
         target,
@@ -106,6 +107,27 @@ fn fill_draw(
         mask,
         fill,
     );
+}
+
+// A draw's style, in the mode Src if its paint is seen to hide what is under it: it is blended alike, and no row asks whether its paint is opaque.
+fn hiding_style(style: Style, ramp: &[u32]) -> Style
+    requires { ⌜ Shaded (style .shade) (now ramp) ⌝ }
+    ensures { λ r. ⌜ r ≡ inMode style (r .mode) ⌝ }
+    ensures { λ r. ⌜ SameBlend (r .mode) (style .mode) (shadeAt (style .shade) (now (ramp .entry))) ⌝ }
+{
+    let shade = style.shade;
+    if shade_hides(style.mode, shade, ramp) {
+        return Style {
+            edges: style.edges,
+            nonzero: style.nonzero,
+            scissoring: style.scissoring,
+            scissors: style.scissors,
+            masked: style.masked,
+            mode: blend::factor::SRC,
+            shade,
+        };
+    }
+    style
 }
 
 // The same of a draw that was decoded, its ramp at the start of the numbers.
