@@ -1,6 +1,5 @@
 // n pixels under one coverage: left as they are, stored, or blended.
 use crate::bytewise::copy_row;
-use crate::bytewise::four;
 use crate::bytewise::is_opaque;
 use crate::bytewise::keep_row;
 use crate::bytewise::over_row;
@@ -31,10 +30,6 @@ pub fn composite_span(mode: u16, coverage: u8, src: Pixel, row: &mut [u8], n: us
     }
     if hides(mode, src.a) {
         store_span(coverage, src, row, n);
-        return;
-    }
-    if mode == SRC_OVER {
-        over_span(coverage, src, row, n);
         return;
     }
     blend_span(mode, coverage, src, row, n);
@@ -110,19 +105,8 @@ fn store_painted(coverage: u8, src: &[u8], row: &mut [u8], n: usize)
     store_row(coverage, src, row, n);
 }
 
-// A pixel under SrcOver: 16 of it are laid out, beside what they keep of what is under them.
-fn over_span(coverage: u8, src: Pixel, row: &mut [u8], n: usize)
-    requires { ⌜ (coverage ≤ 16) × (length (now row) ≡ n * 4) ⌝ }
-    ensures { λ _. ⌜ now (row .exit) ≡ run n (λ i. unmaskedOn modeSrcOver coverage src (pixelIn (now (row .entry)) i)) ⌝ }
-{
-    let mut paint = [0; 64];
-    let mut keep = [0; 64];
-    raster::fill_row(&mut paint, 16, src);
-    raster::fill_row(&mut keep, 16, four(255 - src.a));
-    over_laid(coverage, &paint, &keep, row, n);
-}
-
-// The same 16 pixels at a time, of those that are laid out. Where nothing is covered the pixels stay.
+// A pixel under SrcOver, of which 16 are laid out, beside what they keep of what is under them: 16 pixels at a time. Where nothing is covered the
+// pixels stay.
 pub fn over_laid(coverage: u8, paint: &[u8], keep: &[u8], row: &mut [u8], n: usize)
     requires { ⌜ (coverage ≤ 16) × (length (now row) ≡ n * 4) ⌝ }
     requires { ⌜ (now paint ≡ run 16 (λ i. pixelIn (now paint) 0)) × (now keep ≡ run 16 (λ i. keepPixel (pixelIn (now paint) 0))) ⌝ }

@@ -36,10 +36,7 @@ returns-2 c =
     (sym (after-hides .hides .ensures) ∙ then2 .if2 .taken)))
 
 returns-3 : tie.Need-returns-3
-returns-3 c = rw (c .before .before .before .before .if3 .taken) (c .before .before .over-span .ensures)
-
-returns-4 : tie.Need-returns-4
-returns-4 c = c .before .before .blend-span .ensures
+returns-3 c = c .before .before .blend-span .ensures
 
 pub composite-span-spec : {M : Type 1} → statement M
 composite-span-spec =
@@ -52,7 +49,4 @@ composite-span-spec =
     returns-2
     (λ c κs. search needs)
     (λ c. search needs)
-    returns-3
-    (λ c κs. search needs)
-    (λ c. search needs)
-    returns-4)
+    returns-3)
