@@ -1,18 +1,14 @@
 -- Boxes on the surface, and the loop over the draws.
 use mathlib.Core.Path.{_≡_, sym, ap, ap₂, _∙_}
-use mathlib.Core.List.{List, [], _∷_, foldl, foldl-append}
+use mathlib.Core.List.{List, foldl, foldl-append}
 use mathlib.Core.Bool.{Bool, true, false, not}
 use Prim.Native.Nat.{ℕ, _+_, _≤_, _<_}
 use native.Mathlib.Numerals.{add-one}
 use native.Mathlib.Omega.{arith}
-use lib.IntN.{ℤ, pos, _+ℤ_}
-use lib.Signed.{leZ}
 use lib.Dec.{eqb}
 use borrow.Author.Tests.{eq-eqb, ne-eqb}
 use Rattle.lists.specs.Lists.{upto}
-use Rattle.path.specs.declared.Edge.{Edge}
-use Rattle.fixed.specs.Floor.{floorDiv}
-use Rattle.path.specs.Boxes.{outerOf, within, boxOf}
+use Rattle.path.specs.Boxes.{boxOf}
 use Rattle.rect.specs.declared.Rect.{Rect}
 use Rattle.rect.specs.Rects.{smallest, joinOf, On}
 use Rattle.rect.proofs.Laws.{either, join-on}
@@ -20,19 +16,11 @@ use Rattle.color.specs.declared.Pixel.{Pixel}
 use Rattle.scene.specs.Blocks.{drawOf, sameDraw}
 use Rattle.scene.specs.Header.{countOf, editionOf, backgroundOf}
 use Rattle.engine.specs.Picture.{drawEdges}
+use Rattle.engine.proofs.Steps.{edges-on}
 use Rattle.damage.specs.Damage.{has, changedAt, drawBox, boxAt, boxesAt, sameBytes, sameBackground}
 use Rattle.damage.proofs.Changes.{box-there, changed-bytes}
 
 -- ---- a box lies on the surface
-within-most : (n : ℕ) (z : ℤ) → within n z ≤ n
-within-most n z = either (leZ z (pos 0)) (λ e. rw e (omega arith)) (λ e. rw e (omega arith))
-
-edges-on : (w h : ℕ) (es : List Edge) → (boxOf w h es .x1 ≤ w) × (boxOf w h es .y1 ≤ h)
-unfolding boxOf
-edges-on w h [] = (omega arith, omega arith)
-edges-on w h (e ∷ es) =
-    (within-most w (floorDiv (outerOf true false (e ∷ es)) 256 +ℤ pos 1), within-most h (floorDiv (outerOf true true (e ∷ es)) 256 +ℤ pos 1))
-
 pub box-on : (w h : ℕ) (s : List ℕ) (i : ℕ) → (boxAt w h s i .x1 ≤ w) × (boxAt w h s i .y1 ≤ h)
 unfolding boxAt drawBox
 box-on w h s i = either (has s i) (λ e. rw e (edges-on w h (drawEdges (editionOf s) (drawOf s i)))) (λ e. rw e (omega arith, omega arith))

@@ -1,16 +1,18 @@
--- A draw that hides what is under it: its paint, what it stores, and that all draws make the picture then, whatever stood there.
+-- A draw that hides what is under it: its paint, what it stores, and that all draws make the picture then, whatever stood in the pixels that it hides.
 use mathlib.Core.Path.{_≡_, sym, ap, subst, _∙_}
-use mathlib.Core.Bool.{true, false}
+use mathlib.Core.Bool.{true, false, cond}
 use mathlib.Core.List.{List, [], _∷_, foldl-append}
-use mathlib.Core.Logic.{_⊎_, ⊎-elim}
-use Prim.Native.Nat.{ℕ, zero, suc, _*_, _<_}
+use Prim.Native.Nat.{ℕ, zero, suc, _<_}
 use native.Mathlib.Omega.{arith}
-use lib.ListN.{length}
 use Rattle.color.specs.declared.Pixel.{Pixel}
 use Rattle.color.specs.Channels.{premultiplied, UnderAlpha}
 use Rattle.rect.specs.declared.Rect.{Rect}
+use Rattle.rect.specs.Rects.{inside, emptyOf}
+use Rattle.rect.proofs.Laws.{in-or-out, inside-yes, inside-no, empty-out}
+use Rattle.raster.specs.declared.Target.{Target}
 use Rattle.raster.specs.Surface.{overlay, pixelOf}
-use Rattle.raster.proofs.Overlay.{overlay-length, overlay-then, overlay-same}
+use Rattle.raster.specs.Rows.{stepped, filledAround}
+use Rattle.raster.proofs.Overlay.{overlay-then, overlay-same}
 use Rattle.blend.specs.PorterDuff.{compositeOn}
 use Rattle.blend.specs.Spans.{hides}
 use Rattle.blend.proofs.Masks.{whole-mask-step}
@@ -69,49 +71,48 @@ module _ (d : List ℕ) (whole : scissoring d ≡ false) (unmasked : usesMask d 
   pub draw-hides : HidesCovered d
   draw-hides es mask x y p q k = stores-paint es mask x y p k ∙ sym (stores-paint es mask x y q k)
 
--- ---- a path that covers every pixel
-pub covering-hides : (edition w h : ℕ) (d : List ℕ) (es : List Edge) → HidesCovered d → es ≡ drawEdges edition d → Covered es w h
-    → Hides w h (unclampedStep edition d)
-covering-hides edition w h d es o e k mask x y p q i j =
-    o (drawEdges edition d) mask x y p q (subst (λ (z : List Edge). coverage z (nonZeroRule d) x y ≡ 16) e (k (nonZeroRule d) x y i j))
+-- ---- a path that covers every pixel of a rectangle
+pub covering-hides : (edition : ℕ) (a : Rect) (d : List ℕ) (es : List Edge) → HidesCovered d → es ≡ drawEdges edition d → Covered es a
+    → Hides a (unclampedStep edition d)
+covering-hides edition a d es o e k mask x y p q i =
+    o (drawEdges edition d) mask x y p q (subst (λ (z : List Edge). coverage z (nonZeroRule d) x y ≡ 16) e (k (nonZeroRule d) x y i))
+
+-- nothing is asked of a rectangle without a pixel
+pub empty-covered : (es : List Edge) (a : Rect) → emptyOf a ≡ true → Covered es a
+empty-covered es a e nonZero x y i = absurd (empty-out a x y e i)
+
+pub empty-hides : (a : Rect) (step : (ℕ → ℕ → ℕ) → ℕ → ℕ → Pixel → Pixel) → emptyOf a ≡ true → Hides a step
+empty-hides a step e mask x y p q i = absurd (empty-out a x y e i)
 
 -- ---- the draws behind the first
-first-hides : (s : List ℕ) (n w h : ℕ) → 0 < n → Hides w h (unclampedStep (editionOf s) (drawOf s 0))
-    → Hides w h (unclampedAll (editionOf s) (firstDraws s n))
-first-hides s zero w h l o mask x y p q i j = absurd (omega arith)
-first-hides s (suc zero) w h l o mask x y p q i j = o mask x y p q i j
-first-hides s (suc (suc n)) w h l o mask x y p q i j =
+first-hides : (s : List ℕ) (n : ℕ) (a : Rect) → 0 < n → Hides a (unclampedStep (editionOf s) (drawOf s 0))
+    → Hides a (unclampedAll (editionOf s) (firstDraws s n))
+first-hides s zero a l o mask x y p q i = absurd (omega arith)
+first-hides s (suc zero) a l o mask x y p q i = o mask x y p q i
+first-hides s (suc (suc n)) a l o mask x y p q i =
     let last : Pixel → Pixel = unclampedStep (editionOf s) (drawOf s (suc n)) mask x y in
     foldl-append _ p (firstDraws s (suc n)) (drawOf s (suc n) ∷ [])
-    ∙ ap last (first-hides s (suc n) w h (omega arith) o mask x y p q i j)
+    ∙ ap last (first-hides s (suc n) a (omega arith) o mask x y p q i)
     ∙ sym (foldl-append _ q (firstDraws s (suc n)) (drawOf s (suc n) ∷ []))
 
-pub draws-hide : (s d : List ℕ) (edition n w h : ℕ) → 0 < n → edition ≡ editionOf s → d ≡ drawOf s 0 → Hides w h (unclampedStep edition d)
-    → Hides w h (unclampedAll (editionOf s) (firstDraws s n))
-draws-hide s d edition n w h l e f o =
-    first-hides s n w h l
-    (subst (λ (z : List ℕ). Hides w h (unclampedStep (editionOf s) z)) f (subst (λ (z : ℕ). Hides w h (unclampedStep z d)) e o))
+pub draws-hide : (s d : List ℕ) (edition n : ℕ) (a : Rect) → 0 < n → edition ≡ editionOf s → d ≡ drawOf s 0 → Hides a (unclampedStep edition d)
+    → Hides a (unclampedAll (editionOf s) (firstDraws s n))
+draws-hide s d edition n a l e f o =
+    first-hides s n a l
+    (subst (λ (z : List ℕ). Hides a (unclampedStep (editionOf s) z)) f (subst (λ (z : ℕ). Hides a (unclampedStep z d)) e o))
 
--- ---- a surface before the draws: the background is laid, or the draws hide what stood there; so they make the picture
-module _ (scene : List ℕ) (w h n : ℕ) (a : Rect) (s d : List ℕ) where
-  abbrev pub Ready : Type 0
-  Ready =
-      (s ≡ overlay w h a (λ x y. premultiplied (backgroundOf scene)) d) ⊎ ((s ≡ d) × Hides w h (unclampedAll (editionOf scene) (firstDraws scene n)))
-
-  pub ready-long : Ready → length d ≡ h * (w * 4) → length s ≡ h * (w * 4)
-  ready-long r l =
-      ⊎-elim (λ e. ap length e ∙ overlay-length w h a (λ x y. premultiplied (backgroundOf scene)) d) (λ e. ap length (e .0) ∙ l) r
-
-  pub ready-then : (mask : ℕ → ℕ → ℕ) (t : List ℕ) → n ≡ countOf scene → UnderAlpha (premultiplied (backgroundOf scene)) → Ready
-      → t ≡ overlay w h a (λ x y. unclampedAll (editionOf scene) (firstDraws scene n) mask x y (pixelOf w s x y)) s
-      → t ≡ overlay w h a (pixelAt scene mask) d
-  ready-then mask t e u r o =
-      let b : Pixel = premultiplied (backgroundOf scene) in
+-- ---- a surface before the draws: the background is laid but for a hole, in which the draws hide what stood there; so they make the picture
+module _ (scene : List ℕ) (t : Target) (n : ℕ) (hole : Rect) (mask : ℕ → ℕ → ℕ) (s d u : List ℕ) where
+  pub around-then : (p : Pixel) → n ≡ countOf scene → p ≡ premultiplied (backgroundOf scene) → UnderAlpha (premultiplied (backgroundOf scene))
+      → Hides hole (unclampedAll (editionOf scene) (firstDraws scene n))
+      → s ≡ filledAround t hole p d → u ≡ stepped t (unclampedAll (editionOf scene) (firstDraws scene n) mask) s
+      → u ≡ overlay (t .width) (t .height) (t .area) (pixelAt scene mask) d
+  around-then p e c under hides f o =
       let step : ℕ → ℕ → Pixel → Pixel = unclampedAll (editionOf scene) (firstDraws scene n) mask in
-      ⊎-elim
-      (λ f. overlay-then w h a step (λ x y. b) s t d f o ∙ overlay-same w h a _ (pixelAt scene mask) d (λ x y k l j. pixel-is scene mask n x y e u))
-      (λ f.
-      o
-      ∙ ap (λ (z : List ℕ). overlay w h a (λ x y. step x y (pixelOf w z x y)) z) (f .0)
-      ∙ overlay-same w h a _ (pixelAt scene mask) d (λ x y k l j. f .1 mask x y (pixelOf w d x y) b k l ∙ pixel-is scene mask n x y e u))
-      r
+      let laid : ℕ → ℕ → Pixel = λ x y. cond (inside hole x y) (pixelOf (t .width) d x y) p in
+      overlay-then (t .width) (t .height) (t .area) step laid s u d f o
+      ∙ overlay-same (t .width) (t .height) (t .area) _ (pixelAt scene mask) d
+      (λ x y k l i.
+      in-or-out hole x y
+      (λ j. rw (inside-yes hole x y j) (hides mask x y (pixelOf (t .width) d x y) (premultiplied (backgroundOf scene)) j) ∙ pixel-is scene mask n x y e under)
+      (λ j. rw (inside-no hole x y j) (ap (step x y) c) ∙ pixel-is scene mask n x y e under))

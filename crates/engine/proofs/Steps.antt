@@ -1,10 +1,13 @@
 -- The two laws of a draw that all above rests on: outside its box it changes nothing, and draws are taken one after the other.
 use mathlib.Core.Path.{_≡_, refl, sym, ap, _∙_}
-use mathlib.Core.List.{List, foldl-append}
+use mathlib.Core.List.{List, [], _∷_, foldl-append}
 use mathlib.Core.Bool.{Bool, true, false}
 use Prim.Native.Nat.{ℕ, _+_, _≤_, _<_}
 use native.Mathlib.Omega.{arith}
 use native.Mathlib.Numerals.{add-one}
+use lib.IntN.{ℤ, pos, _+ℤ_}
+use lib.Signed.{leZ}
+use Rattle.fixed.specs.Floor.{floorDiv}
 use Rattle.color.specs.declared.Pixel.{Pixel}
 use Rattle.color.specs.Channels.{premultiplied, UnderAlpha}
 use Rattle.rect.specs.declared.Rect.{Rect}
@@ -18,7 +21,7 @@ use Rattle.blend.specs.PorterDuff.{compositeOn, composite}
 use Rattle.blend.proofs.Masks.{uncovered-masked}
 use Rattle.blend.proofs.Shortcuts.{uncovered-keeps}
 use Rattle.path.specs.declared.Edge.{Edge}
-use Rattle.path.specs.Boxes.{boxOf}
+use Rattle.path.specs.Boxes.{outerOf, within, boxOf}
 use Rattle.path.specs.Closed.{Closed}
 use Rattle.path.specs.Matrices.{fixedMatrix}
 use Rattle.outline.proofs.Returns.{path-closed}
@@ -39,6 +42,17 @@ pub draw-closed : (edition : ℕ) (d : List ℕ) → Closed (drawEdges edition d
 unfolding drawEdges
 draw-closed edition d = path-closed (fixedMatrix (matrixOf d)) (segmentsOf d) (coordinatesOf edition d) (segmentCount d)
 
+-- ---- its box lies on the surface
+within-most : (n : ℕ) (z : ℤ) → within n z ≤ n
+within-most n z = either (leZ z (pos 0)) (λ e. rw e (omega arith)) (λ e. rw e (omega arith))
+
+pub edges-on : (w h : ℕ) (es : List Edge) → (boxOf w h es .x1 ≤ w) × (boxOf w h es .y1 ≤ h)
+unfolding boxOf
+edges-on w h [] = (omega arith, omega arith)
+edges-on w h (e ∷ es) =
+    (within-most w (floorDiv (outerOf true false (e ∷ es)) 256 +ℤ pos 1), within-most h (floorDiv (outerOf true true (e ∷ es)) 256 +ℤ pos 1))
+
+-- ---- outside its box it changes nothing
 uncovered : (es : List Edge) (d : List ℕ) (w h x y : ℕ) → Closed es → x < w → y < h → (Inside (boxOf w h es) x y → ⊥) → coverageOf es d x y ≡ 0
 unfolding coverageOf
 uncovered es d w h x y c k l o =

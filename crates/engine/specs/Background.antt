@@ -1,9 +1,11 @@
--- Draws that hide what is under them: a background that they hide is not filled. A reviewer of the paper need not read it.
+-- Draws that hide what is under them: where they hide a background it is not filled. A reviewer of the paper need not read it.
 use Prim.Native.Nat.{ℕ, _<_}
 use mathlib.Core.Path.{_≡_}
 use mathlib.Core.Bool.{true}
 use mathlib.Core.List.{List}
 use Rattle.color.specs.declared.Pixel.{Pixel}
+use Rattle.rect.specs.declared.Rect.{Rect}
+use Rattle.rect.specs.Rects.{Inside}
 use Rattle.blend.specs.Spans.{hides}
 use Rattle.path.specs.declared.Edge.{Edge}
 use Rattle.coverage.specs.Winding.{coverage}
@@ -20,6 +22,6 @@ HidesCovered d =
     (es : List Edge) (mask : ℕ → ℕ → ℕ) (x y : ℕ) (p q : Pixel) → coverage es (nonZeroRule d) x y ≡ 16
     → unclampedOf es d mask x y p ≡ unclampedOf es d mask x y q
 
--- steps that leave nothing of what stood at any pixel of w by h, whatever the mask
-abbrev pub Hides : ℕ → ℕ → ((ℕ → ℕ → ℕ) → ℕ → ℕ → Pixel → Pixel) → Type 0
-Hides w h step = (mask : ℕ → ℕ → ℕ) (x y : ℕ) (p q : Pixel) → x < w → y < h → step mask x y p ≡ step mask x y q
+-- steps that leave nothing of what stood at any pixel of a rectangle, whatever the mask
+abbrev pub Hides : Rect → ((ℕ → ℕ → ℕ) → ℕ → ℕ → Pixel → Pixel) → Type 0
+Hides a step = (mask : ℕ → ℕ → ℕ) (x y : ℕ) (p q : Pixel) → Inside a x y → step mask x y p ≡ step mask x y q

@@ -1,5 +1,5 @@
 // The draws of a scene, one after the other, inside a rectangle of the surface. The scratch is zero before and after each draw.
-use crate::background::hides_background;
+use crate::background::hidden_rect;
 use crate::edges::clear_edges;
 use crate::edges::draw_hull;
 use crate::edges::lay_edges;
@@ -26,7 +26,7 @@ ghost use Rattle.engine.specs.Picture.{drawEdges, firstDraws, pixelAt, m
 ghost use Rattle.engine.specs.Unclamped.{unclampedOf, unclampedStep, unclampedAll};
 ghost use Rattle.engine.specs.Rows.{Blank, Area, MaskFor, MaskForScene, clipOf};
 
-// The scene's picture under a mask, at every pixel of a. A background that the first draw hides is not filled.
+// The scene's picture under a mask, at every pixel of a. The background is filled only where the first draw is not seen to hide it.
 pub fn paint_area(
     surface: &mut [u8],
     scratch: &mut [i32],
@@ -49,13 +49,13 @@ pub fn paint_area(
         area: a,
     };
     let mut d = [0u8; DRAW_BYTES];
-    if !hides_background(scratch, scene, count, &mut d, width, height) {
-        raster::fill_rect(
-            surface,
-            target,
-            scene::header::background(scene).premultiplied(),
-        );
-    }
+    let hidden = hidden_rect(scratch, scene, count, &mut d, width, height);
+    raster::fill_around(
+        surface,
+        target,
+        hidden,
+        scene::header::background(scene).premultiplied(),
+    );
     paint_draws(surface, scratch, scene, mask, count, &mut d, target);
 }
 

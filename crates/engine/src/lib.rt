@@ -1,6 +1,6 @@
 // Drawing a scene inside a rectangle of the surface. The way of a draw, from its bytes in the file to the surface:
 //
-//     draws    the scene: the background, unless the first draw hides it, then every draw in order; of a draw only its box, nothing of one that misses
+//     draws    the scene: the background, but where the first draw hides it, then every draw in order; of a draw only its box, nothing of one that misses
 //              the rectangle
 //     edges    the draw's path as edges in the scratch
 //     decode   the rest of the draw, decoded once: rule, scissors, blend mode, and its paint with its ramp and its colour transformation

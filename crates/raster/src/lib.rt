@@ -5,7 +5,7 @@ ghost use mathlib.Core.Path.{_≡_};
 ghost use Prim.Native.Nat.{_+_, _*_, _<_};
 ghost use lib.ListN.{length};
 ghost use Rattle.raster.specs.Surface.{run, pixelIn, overlay};
-ghost use Rattle.raster.specs.Rows.{putPixel, Placed, Part};
+ghost use Rattle.raster.specs.Rows.{putPixel, Placed, Part, cut, Framed, filledAround};
 
 // Where is drawn: the surface's width and height, and the rectangle of it.
 pub struct Target {
@@ -71,7 +71,7 @@ pub fn row_bytes(t: Target, y: usize) -> Range
 }
 
 // Every pixel of the rectangle is p.
-pub fn fill_rect(s: &mut [u8], t: Target, p: Pixel)
+fn fill_rect(s: &mut [u8], t: Target, p: Pixel)
     requires { ⌜ Part t (now s) ⌝ }
     ensures { λ _. ⌜ now (s .exit) ≡ overlay (t .width) (t .height) (t .area) (λ x y. p) (now (s .entry)) ⌝ }
 {
@@ -85,4 +85,43 @@ pub fn fill_rect(s: &mut [u8], t: Target, p: Pixel)
         fill_row(&mut s[from..to], n, p);
         y += 1;
     }
+}
+
+// Every pixel of the rectangle is p, but for those in the hole, which stay as they are.
+pub fn fill_around(s: &mut [u8], t: Target, hole: Rect, p: Pixel)
+    requires { ⌜ Part t (now s) ⌝ }
+    ensures { λ _. ⌜ now (s .exit) ≡ filledAround t hole p (now (s .entry)) ⌝ }
+{
+    let area = t.area;
+    let inner = rect::meet(area, hole);
+    if rect::is_empty(inner) {
+        fill_rect(s, t, p);
+    } else {
+        fill_frame(s, t, inner, p);
+    }
+}
+
+// The same, for a hole in the rectangle: what is below the hole, left of it, right of it and above it.
+fn fill_frame(s: &mut [u8], t: Target, hole: Rect, p: Pixel)
+    requires { ⌜ Part t (now s) × Framed (t .area) hole ⌝ }
+    ensures { λ _. ⌜ now (s .exit) ≡ filledAround t hole p (now (s .entry)) ⌝ }
+{
+    let a = t.area;
+    fill_part(s, t, a.x0, a.y0, a.x1, hole.y0, p);
+    fill_part(s, t, a.x0, hole.y0, hole.x0, hole.y1, p);
+    fill_part(s, t, hole.x1, hole.y0, a.x1, hole.y1, p);
+    fill_part(s, t, a.x0, hole.y1, a.x1, a.y1, p);
+}
+
+// Every pixel of another rectangle is p.
+fn fill_part(s: &mut [u8], t: Target, x0: usize, y0: usize, x1: usize, y1: usize, p: Pixel)
+    requires { ⌜ Part (cut t x0 y0 x1 y1) (now s) ⌝ }
+    ensures { λ _. ⌜ now (s .exit) ≡ overlay (t .width) (t .height) (cut t x0 y0 x1 y1 .area) (λ x y. p) (now (s .entry)) ⌝ }
+{
+    let part = Target {
+        width: t.width,
+        height: t.height,
+        area: Rect { x0, y0, x1, y1 },
+    };
+    fill_rect(s, part, p);
 }

@@ -18,10 +18,10 @@ use Rattle.coverage.proofs.covers.covers.Statement.{statement}
 use Rattle.coverage.proofs.covers.covers.Tie as tie
 
 abbrev Inv-loop : tie.InvT-loop
-Inv-loop scratch n width height found₀ i₀ found i = (i ≤ n) × (found ≤ i * 2) × (found ≡ total i (λ k. partOf width height (edgeAt scratch k)))
+Inv-loop scratch n a found₀ i₀ found i = (i ≤ n) × (found ≤ i * 2) × (found ≡ total i (λ k. partOf a (edgeAt scratch k)))
 
 abbrev μ-loop : tie.MeasureT-loop
-μ-loop scratch n width height found₀ i₀ found i = n - i
+μ-loop scratch n a found₀ i₀ found i = n - i
 
 loop-holds : tie.Need-loop-holds Inv-loop μ-loop
 loop-holds c = (search needs, search needs, refl)
@@ -51,7 +51,7 @@ loop-again c =
     let entry = turn .before in
     let a = entry .args in
     let l = turn .loop in
-    let part = partOf (a .width) (a .height) in
+    let part = partOf (a .a) in
     let found : c .part-of .result ≡ part (edgeAt (a .scratch .now) (l .i)) =
     c .part-of .ensures .0 ∙ ap (λ (e : Edge). part (handed e)) (after-load .load .ensures)
     ∙ ap part (handed-is (edgeAt (a .scratch .now) (l .i)) (entry .pre .0 .small (l .i) (omega arith))) in (
@@ -66,8 +66,8 @@ returns c =
     let l = c .before .loop in
     let all : l .i ≡ a .n = omega arith in
     λ t.
-    one-covers (a .width) (a .height) (a .scratch .now) (a .n)
-    (ap (λ (m : ℕ). total m (λ k. partOf (a .width) (a .height) (edgeAt (a .scratch .now) k))) (sym all) ∙ sym (l .inv .2) ∙ eqb-true (l .found) 1 t)
+    one-covers (a .a) (a .scratch .now) (a .n)
+    (ap (λ (m : ℕ). total m (λ k. partOf (a .a) (edgeAt (a .scratch .now) k))) (sym all) ∙ sym (l .inv .2) ∙ eqb-true (l .found) 1 t)
 
 pub covers-spec : {M : Type 1} → statement M
 covers-spec =

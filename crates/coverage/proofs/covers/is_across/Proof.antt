@@ -13,15 +13,22 @@ use borrow.Author.Needs.{needs}
 use Rattle.coverage.proofs.covers.is_across.Statement.{statement}
 use Rattle.coverage.proofs.covers.is_across.Tie as tie
 
--- the last row of samples, as the local holds it, and the first test
-last : (s : tie.Start) → toZ w32 (256 * s .args .height - 32) ≡ sample (4 * s .args .height - 1)
-last s = toZ-pos w32 (omega arith) ∙ ap pos (as-sample (s .args .height) (omega arith))
+-- the first and the last row of samples, as the locals hold them, and the first test
+first : (s : tie.Start) → toZ w32 (256 * s .args .from + 32) ≡ sample (4 * s .args .from)
+first s = toZ-pos w32 (omega arith) ∙ ap pos (as-sample (s .args .from))
+  where
+    as-sample : (y : ℕ) → 256 * y + 32 ≡ 64 * (4 * y) + 32
+    as-sample y = omega arith
+
+last : (s : tie.Start) → toZ w32 (256 * s .args .end - 32) ≡ sample (4 * s .args .end - 1)
+last s = toZ-pos w32 (omega arith) ∙ ap pos (as-sample (s .args .end) (omega arith))
   where
     as-sample : (y : ℕ) → 0 < y → 256 * y - 32 ≡ 64 * (4 * y - 1) + 32
     as-sample y h = omega arith
 
-told : (s : tie.Start) {t : Bool} → leZ (toZ w32 (ofZ w32 (s .args .low))) (pos 32) ≡ t → leZ (s .args .low) (sample 0) ≡ t
-told s e = rw (toZ-ofZ (s .fits .low)) at e
+told : (s : tie.Start) {t : Bool} → leZ (toZ w32 (ofZ w32 (s .args .low))) (toZ w32 (256 * s .args .from + 32)) ≡ t
+    → leZ (s .args .low) (sample (4 * s .args .from)) ≡ t
+told s e = rw (toZ-ofZ (s .fits .low), first s) at e
 
 returns : tie.Need-returns
 returns c =
@@ -32,4 +39,14 @@ returns-2 : tie.Need-returns-2
 returns-2 c = rw (told (c .before) (c .if1 .left))
 
 pub is-across-spec : {M : Type 1} → statement M
-is-across-spec = tie.close (tie.spec (λ c. search needs) (λ c. search needs) (λ c. search needs) returns returns-2)
+is-across-spec =
+    tie.close
+    (tie.spec
+    (λ c. search needs)
+    (λ c. search needs)
+    (λ c. search needs)
+    (λ c. search needs)
+    (λ c. search needs)
+    (λ c. search needs)
+    returns
+    returns-2)

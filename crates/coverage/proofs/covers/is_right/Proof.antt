@@ -13,14 +13,14 @@ use Rattle.coverage.proofs.covers.is_right.Statement.{statement}
 use Rattle.coverage.proofs.covers.is_right.Tie as tie
 
 -- the right side, as the local holds it, and the first test with it
-right : (s : tie.Start) → toZ w32 (256 * s .args .width) ≡ pos (64 * (4 * s .args .width))
-right s = toZ-pos w32 (omega (arith, s .pre)) ∙ ap pos (in-samples (s .args .width))
+right : (s : tie.Start) → toZ w32 (256 * s .args .end) ≡ pos (64 * (4 * s .args .end))
+right s = toZ-pos w32 (omega (arith, s .pre)) ∙ ap pos (in-samples (s .args .end))
   where
     in-samples : (x : ℕ) → 256 * x ≡ 64 * (4 * x)
     in-samples x = omega arith
 
-told : (s : tie.Start) {t : Bool} → leZ (toZ w32 (256 * s .args .width)) (toZ w32 (ofZ w32 (s .args .x0))) ≡ t
-    → leZ (pos (64 * (4 * s .args .width))) (s .args .x0) ≡ t
+told : (s : tie.Start) {t : Bool} → leZ (toZ w32 (256 * s .args .end)) (toZ w32 (ofZ w32 (s .args .x0))) ≡ t
+    → leZ (pos (64 * (4 * s .args .end))) (s .args .x0) ≡ t
 told s e = rw (toZ-ofZ (s .fits .x0), right s) at e
 
 returns : tie.Need-returns

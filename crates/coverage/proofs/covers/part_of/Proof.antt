@@ -24,12 +24,12 @@ some-needed false e = refl
 -- what the tests of the calls tell
 module _ (c : tie.After-needed) where
   abbrev missing : Bool
-  missing = apart (c .before .args .y0) (c .before .args .y1) 0 (c .before .args .height)
+  missing = apart (c .before .args .y0) (c .before .args .y1) (c .before .args .a .y0) (c .before .args .a .y1)
 
   rows : c .needed .result ≡ cond missing 0 1
   rows =
       let s = c .before in
-      c .needed .ensures .0 ∙ ap₂ (λ (a b : ℤ). cond (apart a b 0 (s .args .height)) 0 1) (toZ-ofZ (s .fits .y0)) (toZ-ofZ (s .fits .y1))
+      c .needed .ensures .0 ∙ ap₂ (λ (a b : ℤ). cond (apart a b (s .args .a .y0) (s .args .a .y1)) 0 1) (toZ-ofZ (s .fits .y0)) (toZ-ofZ (s .fits .y1))
 
 module _ (c : tie.After-is-right) where
   abbrev s : tie.Start
@@ -38,12 +38,12 @@ module _ (c : tie.After-is-right) where
   present : missing (c .before .before) ≡ false
   present = some-needed (missing (c .before .before)) (λ e. c .before .if1 .left (rows (c .before .before) ∙ e))
 
-  right : c .is-right .result ≡ beyond (s .args .x0) (s .args .x1) (4 * s .args .width)
-  right = c .is-right .ensures ∙ ap₂ (λ (a b : ℤ). beyond a b (4 * s .args .width)) (toZ-ofZ (s .fits .x0)) (toZ-ofZ (s .fits .x1))
+  right : c .is-right .result ≡ beyond (s .args .x0) (s .args .x1) (4 * s .args .a .x1)
+  right = c .is-right .ensures ∙ ap₂ (λ (a b : ℤ). beyond a b (4 * s .args .a .x1)) (toZ-ofZ (s .fits .x0)) (toZ-ofZ (s .fits .x1))
 
 along : (c : tie.After-is-alongside) {t : Bool} → c .is-alongside .result ≡ t
     → alongside (edge (s (c .before .before) .args .x0) (s (c .before .before) .args .y0) (s (c .before .before) .args .x1) (s (c .before .before) .args .y1))
-    (s (c .before .before) .args .height) ≡ t
+    (s (c .before .before) .args .a) ≡ t
 along c e =
     let f = s (c .before .before) .fits in
     rw (toZ-ofZ (f .x0), toZ-ofZ (f .y0), toZ-ofZ (f .x1), toZ-ofZ (f .y1)) at (sym (c .is-alongside .ensures) ∙ e)
