@@ -21,5 +21,6 @@ pub mod Steep
 pub mod Outside
 pub mod Rectangles
 pub mod Borders
+pub mod Locals
 pub mod Covered
 pub mod Clipped

@@ -1,5 +1,5 @@
 -- `raster::fill_around` meets its contract: the hole is cut to the rectangle.
-use mathlib.Core.Path.{_≡_, sym, ap, subst, _∙_}
+use mathlib.Core.Path.{sym, ap, subst, _∙_}
 use Rattle.rect.specs.declared.Rect.{Rect}
 use Rattle.rect.specs.Rects.{emptyOf}
 use Rattle.raster.specs.Rows.{Framed, filledAround}

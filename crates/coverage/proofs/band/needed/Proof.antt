@@ -1,30 +1,25 @@
 -- `coverage::band::needed` meets its contract. Assumes nothing.
-use mir.Facts.{toZ-ofZ, toZ-pos}
-use mathlib.Core.Path.{_≡_, ap, _∙_}
+use mir.Facts.{toZ-ofZ}
+use mathlib.Core.Path.{_≡_}
 use mathlib.Core.Bool.{Bool}
-use Prim.Native.Nat.{ℕ, _+_, _-_, _*_, _<_}
+use Prim.Native.Nat.{_+_, _-_, _*_}
 use native.Mathlib.Omega.{arith}
-use lib.IntN.{ℤ, pos}
+use lib.IntN.{ℤ}
 use lib.Signed.{leZ, ltZ}
 use mir.Syntax.{w32}
 use mir.Val.{toZ, ofZ, SFits}
 use Rattle.coverage.specs.Winding.{sample}
+use Rattle.coverage.proofs.Locals.{first-held, last-held}
 use borrow.Author.Needs.{needs}
 use Rattle.coverage.proofs.band.needed.Statement.{statement}
 use Rattle.coverage.proofs.band.needed.Tie as tie
 
 -- the first and the last row of samples, as the locals hold them
 first : (s : tie.Start) → toZ w32 (256 * s .args .from + 32) ≡ sample (4 * s .args .from)
-first s = toZ-pos w32 (omega arith) ∙ ap pos (as-sample (s .args .from))
-  where
-    as-sample : (y : ℕ) → 256 * y + 32 ≡ 64 * (4 * y) + 32
-    as-sample y = omega arith
+first s = first-held (s .args .from) (omega arith)
 
 last : (s : tie.Start) → toZ w32 (256 * s .args .end - 32) ≡ sample (4 * s .args .end - 1)
-last s = toZ-pos w32 (omega arith) ∙ ap pos (as-sample (s .args .end) (omega arith))
-  where
-    as-sample : (y : ℕ) → 0 < y → 256 * y - 32 ≡ 64 * (4 * y - 1) + 32
-    as-sample y h = omega arith
+last s = last-held (s .args .end) (omega arith) (omega arith)
 
 low : (s : tie.Start) (z : ℤ) {t : Bool} → SFits w32 z
     → leZ (toZ w32 (ofZ w32 z)) (toZ w32 (256 * s .args .from + 32)) ≡ t → leZ z (sample (4 * s .args .from)) ≡ t

@@ -1,25 +1,22 @@
 -- `coverage::covers::is_alongside` meets its contract. Assumes nothing.
-use mathlib.Core.Path.{_≡_, sym, ap, ap₂, _∙_}
+use mathlib.Core.Path.{_≡_, sym, ap₂, _∙_}
 use mathlib.Core.Bool.{Bool}
-use Prim.Native.Nat.{ℕ, _+_, _*_}
-use native.Mathlib.Omega.{arith}
-use lib.IntN.{ℤ, pos}
+use Prim.Native.Nat.{_+_, _*_}
+use lib.IntN.{ℤ}
 use lib.Signed.{leZ}
 use mir.Syntax.{w32}
 use mir.Val.{toZ, ofZ, SFits}
-use mir.Facts.{toZ-ofZ, toZ-pos}
+use mir.Facts.{toZ-ofZ}
 use Rattle.coverage.specs.Winding.{sample}
 use Rattle.coverage.specs.Covers.{across}
+use Rattle.coverage.proofs.Locals.{first-held}
 use borrow.Author.Needs.{needs}
 use Rattle.coverage.proofs.covers.is_alongside.Statement.{statement}
 use Rattle.coverage.proofs.covers.is_alongside.Tie as tie
 
 -- the first column of samples, as the local holds it, and whether an end lies left of it
 column : (s : tie.Start) → toZ w32 (256 * s .args .a .x0 + 32) ≡ sample (4 * s .args .a .x0)
-column s = toZ-pos w32 (omega (arith, s .pre .0)) ∙ ap pos (as-sample (s .args .a .x0))
-  where
-    as-sample : (x : ℕ) → 256 * x + 32 ≡ 64 * (4 * x) + 32
-    as-sample x = omega arith
+column s = first-held (s .args .a .x0) (s .pre .0)
 
 told : (s : tie.Start) (z : ℤ) {t : Bool} → SFits w32 z
     → leZ (toZ w32 (ofZ w32 z)) (toZ w32 (256 * s .args .a .x0 + 32)) ≡ t → leZ z (sample (4 * s .args .a .x0)) ≡ t
