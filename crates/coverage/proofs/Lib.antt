@@ -18,6 +18,7 @@ pub mod Limits
 pub mod Telescope
 pub mod Sides
 pub mod Steep
+pub mod Paired
 pub mod Outside
 pub mod Rectangles
 pub mod Borders

@@ -112,7 +112,7 @@ module _ (c k y : ℕ) where
         )
 
 -- an edge that misses the row of pixels begins nothing in it
-missed-weight : (e : Edge) (y r : ℕ) → r < 4 → missed (e .y0) (e .y1) y ≡ true → weight (sample (4 * y + r)) e ≡ pos 0
+pub missed-weight : (e : Edge) (y r : ℕ) → r < 4 → missed (e .y0) (e .y1) y ≡ true → weight (sample (4 * y + r)) e ≡ pos 0
 missed-weight e y r h q = weight-law e Y ∙ by (leZ (e .y0) (sample (4 * y))) refl (is-set q)
   where
     Y : ℤ

@@ -69,7 +69,7 @@ zero-twice : (t : Bool) → cond t (pos 0) (pos 0) ≡ pos 0
 zero-twice true = refl
 zero-twice false = refl
 
-counts-law : (c k : ℕ) (Y : ℤ) (e : Edge) (j : ℕ) → j < k → counts (sample (c + j)) Y e ≡ cond (leb (startAt c k Y e) j) (weight Y e) (pos 0)
+pub counts-law : (c k : ℕ) (Y : ℤ) (e : Edge) (j : ℕ) → j < k → counts (sample (c + j)) Y e ≡ cond (leb (startAt c k Y e) j) (weight Y e) (pos 0)
 unfolding counts weight startAt spans atOrLeft
 counts-law c k Y e j h = by (spansUp (upward e) Y) refl
   where

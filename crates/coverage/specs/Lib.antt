@@ -6,3 +6,4 @@ pub mod Scanline
 pub mod Marks
 pub mod Band
 pub mod Covers
+pub mod Between

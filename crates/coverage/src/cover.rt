@@ -8,6 +8,7 @@
 //      32  . . . . | . . . .
 use crate::GROUP_NUMBERS;
 use crate::Line;
+use crate::between::runs_between;
 use crate::edges::add_listed;
 use crate::walk::take_runs;
 use crate::zero::zero_counts;
@@ -26,6 +27,28 @@ ghost use Rattle.coverage.specs.Band.{Needed};
 // The runs of the pixels from (x, y) on, in one row, of the path whose edges stand in the scratch: as many pixels as there are marks. Only the listed edges
 // are looked at: the others miss the row. Returns how many runs there are.
 pub fn coverage_runs(
+    scratch: &mut [i32],
+    list: &[u32],
+    marks: &mut [u8],
+    runs: &mut [u16],
+    line: Line,
+) -> usize
+    requires { ⌜ Outlined (now scratch) (line .edges) × Needed (now scratch) (line .edges) (line .y) (now list) ⌝ }
+    requires { ⌜ (line .y < 1024) × (line .x + length (now marks) ≤ 1024) × (length (now marks) ≤ length (now runs)) ⌝ }
+    ensures { λ _. ⌜ now (scratch .exit) ≡ now (scratch .entry) ⌝ }
+    ensures { λ r. ⌜ Runs (now (runs .exit)) r (length (now (marks .entry))) ⌝ }
+    ensures { λ r. ⌜ expand (now (runs .exit)) r
+        ≡ tab (length (now (marks .entry))) (λ i. coverage (edgesOf (now (scratch .entry)) (line .edges)) (line .nonzero) (line .x + i) (line .y)) ⌝ }
+{
+    let n = runs_between(scratch, list, runs, line, marks.len());
+    if 0 < n {
+        return n;
+    }
+    summed_runs(scratch, list, marks, runs, line)
+}
+
+// The same by sums, window after window.
+fn summed_runs(
     scratch: &mut [i32],
     list: &[u32],
     marks: &mut [u8],

@@ -208,7 +208,7 @@ fn put_rows(
 }
 
 // Whether an edge counts in two sample rows, and from the same column on.
-fn starts_alike(s: Start, t: Start) -> bool
+pub fn starts_alike(s: Start, t: Start) -> bool
     ensures { λ r. ⌜ r ≡ startsAlike s t ⌝ }
 {
     if s.at != t.at {

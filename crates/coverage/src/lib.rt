@@ -1,5 +1,6 @@
 // Coverage: how many of a pixel's 16 samples lie inside a path.
 pub mod band;
+mod between;
 pub mod clip;
 mod column;
 pub mod cover;
@@ -30,6 +31,23 @@ pub struct Line {
 struct Start {
     at: usize,
     by: i32,
+}
+
+// Where an edge's count begins in the four sample rows of a row of pixels, and whether it goes up (1) or down (2) past all of them.
+struct Crossed {
+    way: usize,
+    a: usize,
+    b: usize,
+    c: usize,
+    d: usize,
+}
+
+// A column in each of four sample rows.
+struct Columns {
+    a: usize,
+    b: usize,
+    c: usize,
+    d: usize,
 }
 
 // The winding numbers of a sample row at the four columns of a pixel, or those of four sample rows at one column.
