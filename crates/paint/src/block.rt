@@ -49,14 +49,14 @@ fn linear_block(g: LinearGradient, ramp: &[u32], x: usize, y: usize, ks: &mut [u
     requires { ⌜ (x + length (now ks) ≤ 1024) × (y ≤ 1024) × (length (now row) ≡ length (now ks) * 4) × (length (now ks) ≤ 128) ⌝ }
     ensures { λ _. ⌜ now (row .exit) ≡ run (length (now (ks .entry))) (λ i. linearAt g (stopsIn (now (ramp .entry)) (g .count)) (x + i) y) ⌝ }
 {
-    if has_ends_only(ramp, g.count) {
-        let l = row_line(g, x, y, ks.len());
-        if l.serves {
+    let l = row_line(g, x, y, ks.len());
+    if l.serves {
+        if has_ends_only(ramp, g.count) {
             line_block(g, l, ramp, x, y, ks, row);
             return;
         }
     }
-    linear_positions(g, x, y, ks);
+    linear_positions(g, l, x, y, ks);
     color_row(g.premultiply, ramp, g.count, ks, row);
 }
 

@@ -54,13 +54,14 @@ const RAMP_END: i32 = 65536;
 
 const RAMP_LAST: i32 = 65535;
 
-// The positions of the pixels from (x, y) on, of two points that do not coincide: t goes from pixel to pixel without a division.
-pub fn linear_positions(g: LinearGradient, x: usize, y: usize, ks: &mut [u32])
+// The positions of the pixels from (x, y) on, of two points that do not coincide, and the line of their t, if there is one: t goes from pixel to pixel
+// without a division.
+pub fn linear_positions(g: LinearGradient, l: RowLine, x: usize, y: usize, ks: &mut [u32])
     requires { ⌜ LimitedPoints (g .points) × (natAbs (squaredLength (g .points)) ≡ 0 → ⊥) ⌝ }
     requires { ⌜ (x + length (now ks) ≤ 1024) × (y ≤ 1024) × (length (now ks) ≤ 128) ⌝ }
+    requires { ⌜ (l .serves ≡ true → Follows g x y (l .first) (l .step)) ⌝ }
     ensures { λ _. ⌜ now (ks .exit) ≡ tab (length (now (ks .entry))) (λ i. positionOf (mapped (g .spread) (linearT (g .points) (x + i) y))) ⌝ }
 {
-    let l = row_line(g, x, y, ks.len());
     if l.serves {
         along_line(l.first, l.step, ks);
         return;

@@ -20,51 +20,50 @@ use Rattle.paint.proofs.positions.linear_positions.Tie as tie
 -- ---- a line serves
 along-line-requires : tie.Need-along-line-requires
 along-line-requires c κs =
-    let f = c .before .before .before .before .row-line .ensures (c .before .before .before .if1 .taken) in
-    let entry = c .before .before .before .before .before .before in
-    rw (clean w64 2305843009213693952 _ tt (f .small), clean w64 18014398509481984 _ tt (f .slow)) (f .small, f .slow, entry .pre .1 .2)
+    let then1 = c .before .before .before in
+    let entry = then1 .before .before in
+    let f = entry .pre .1 .1 (then1 .if1 .taken) in
+    rw (clean w64 2305843009213693952 _ tt (f .small), clean w64 18014398509481984 _ tt (f .slow)) (f .small, f .slow, entry .pre .1 .0 .2)
 
 returns : tie.Need-returns
 returns c =
-    let l = c .before .before .before .before .before .before .before .row-line in
-    let f = l .ensures (c .before .before .before .before .before .before .if1 .taken) in
-    let entry = c .before .before .before .before .before .before .before .before .before in
+    let then1 = c .before .before .before .before .before .before in
+    let entry = then1 .before .before in
+    let f = entry .pre .1 .1 (then1 .if1 .taken) in
     let a = entry .args in
     let n = length (a .ks .now) in
     c .before .before .along-line .ensures
     ∙ ap₂ (λ (first step : ℤ). tab n (λ i. positionOf (floorDiv (first +ℤ step *ℤ pos i) lineParts)))
-    (clean w64 2305843009213693952 (l .result .first) tt (f .small)) (clean w64 18014398509481984 (l .result .step) tt (f .slow))
-    ∙ positions-same n (λ i. floorDiv (l .result .first +ℤ l .result .step *ℤ pos i) lineParts)
-    (λ i. mapped (a .g .spread) (linearT (a .g .points) (a .x + i) (a .y))) (λ i h. f .same i (omega (arith, h, entry .pre .1 .2)))
+    (clean w64 2305843009213693952 (a .l .first) tt (f .small)) (clean w64 18014398509481984 (a .l .step) tt (f .slow))
+    ∙ positions-same n (λ i. floorDiv (a .l .first +ℤ a .l .step *ℤ pos i) lineParts)
+    (λ i. mapped (a .g .spread) (linearT (a .g .points) (a .x + i) (a .y))) (λ i h. f .same i (omega (arith, h, entry .pre .1 .0 .2)))
 
 -- ---- none does
-length-is : (c : tie.After-quotient-at)
-    → toZ w64 (ofZ w64 (c .before .before .squared-length .result)) ≡ squaredLength (c .before .before .before .before .before .before .before .args .g .points)
+length-is : (c : tie.After-quotient-at) → toZ w64 (ofZ w64 (c .before .before .squared-length .result)) ≡ squaredLength (c .before .before .before .before .before .before .args .g .points)
 length-is c =
     let d = c .before .before .squared-length in
     back w64 (d .result) (d .ok) ∙ d .ensures
 
 quotient-at-requires : tie.Need-quotient-at-requires
 quotient-at-requires c κs =
-    let entry = c .before .before .before .before .before .before in
-    (entry .pre .0, (omega (arith, entry .pre .1 .0), entry .pre .1 .1))
+    let entry = c .before .before .before .before .before in
+    (entry .pre .0, (omega (arith, entry .pre .1 .0 .0), entry .pre .1 .0 .1))
 
 along-quotients-requires : tie.Need-along-quotients-requires
 along-quotients-requires c κs =
     let known = c .before in
-    let entry = known .before .before .before .before .before .before .before in
-    (entry .pre .0, ((entry .pre .1 .0, entry .pre .1 .1), (known .quotient-at .ensures, known .before .row-step .ensures, length-is known)))
+    let entry = known .before .before .before .before .before .before in
+    (entry .pre .0, ((entry .pre .1 .0 .0, entry .pre .1 .0 .1), (known .quotient-at .ensures, known .before .row-step .ensures, length-is known)))
 
 pub linear-positions-spec : {M : Type 1} → statement M
 linear-positions-spec =
     tie.close
     (tie.spec
-    (λ c κs. let entry = c .before in (entry .pre .0, (omega (arith, entry .pre .1 .0), entry .pre .1 .1)))
     along-line-requires
     (λ c. search needs)
     returns
-    (λ c κs. c .before .before .before .before .pre .0 .0)
-    (λ c κs. c .before .before .before .before .before .pre .0)
+    (λ c κs. c .before .before .before .pre .0 .0)
+    (λ c κs. c .before .before .before .before .pre .0)
     quotient-at-requires
     along-quotients-requires
     (λ c. search needs)
