@@ -39,7 +39,9 @@ returns c =
     (λ i. mapped (a .g .spread) (linearT (a .g .points) (a .x + i) (a .y))) (λ i h. f .same i (omega (arith, h, entry .pre .1 .0 .2)))
 
 -- ---- none does
-length-is : (c : tie.After-quotient-at) → toZ w64 (ofZ w64 (c .before .before .squared-length .result)) ≡ squaredLength (c .before .before .before .before .before .before .args .g .points)
+length-is : (c : tie.After-quotient-at)
+    → let entry = c .before .before .before .before .before .before in
+    toZ w64 (ofZ w64 (c .before .before .squared-length .result)) ≡ squaredLength (entry .args .g .points)
 length-is c =
     let d = c .before .before .squared-length in
     back w64 (d .result) (d .ok) ∙ d .ensures
