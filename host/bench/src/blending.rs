@@ -16,7 +16,7 @@ const DRAWS: usize = 16;
 /// Bars are measured in quarters of a row, of which each holds four samples.
 const QUARTERS: i16 = 4;
 
-/// The lines of the table. A time is the difference of two drawings, of which one has scissors that hide every pixel: so
+/// The lines of the table. A time is the difference of two drawings, of which one has scissors that hide all but two pixels: so
 /// coverage and the background do not count.
 pub fn print(budget: Duration) {
     println!("{:<22} {:>10} {:>10}", "blended pixels", "k = 16", "k = 8");

@@ -13,7 +13,8 @@ pub struct Versions {
     pub outside: Vec<u8>,
     /// Scissors that hide nothing: all stages, and the scissors' own time.
     pub framed: Vec<u8>,
-    /// Scissors that hide everything, and no gradients: every k is 0, so all but paint and blending, and the scissors' own time.
+    /// Scissors that hide all but two opposite corners, and no gradients: every other k is 0, so all but paint and blending, and the scissors' own time.
+    /// The corners stay, since a draw is gone through only inside the rectangle round its scissors.
     pub hidden: Vec<u8>,
 }
 
@@ -39,8 +40,11 @@ impl Versions {
         for draw in &mut framed.draws {
             draw.scissors[3] = EVERYWHERE;
         }
+        let corner = |x: u16, y: u16| Scissor { x: x.into(), y: y.into(), width: 1, height: 1 };
         for draw in &mut hidden.draws {
             draw.paint = PaintType::Color;
+            draw.scissors[2] = corner(0, 0);
+            draw.scissors[3] = corner(scene.width - 1, scene.height - 1);
         }
         Versions {
             full: scene.bytes(),
