@@ -8,7 +8,7 @@ use native.Mathlib.Omega.{arith}
 use native.Mathlib.Nat.{zero-add, add-zero, add-suc}
 use lib.Dec.{leb}
 use borrow.Author.Tests.{leb-true, leb-false}
-use lib.IntN.{ℤ, pos, negsuc, _+ℤ_, +ℤ-idl, +ℤ-idr}
+use lib.IntN.{ℤ, pos, negsuc, _+ℤ_, +ℤ-idl, +ℤ-idr, +ℤ-comm}
 use lib.ListN.{length, getD}
 use Rattle.lists.specs.Lists.{total}
 use Rattle.lists.proofs.Laws.{total-same}
@@ -20,7 +20,8 @@ use Rattle.coverage.specs.declared.Columns.{Columns}
 use Rattle.coverage.specs.Winding.{upward, spans, weight, atOrLeft, counts, winding, insideBy, oneIf, tally, sample, coverage}
 use Rattle.coverage.specs.Scanline.{firstColumn, place, startAt, startOf, missed}
 use Rattle.coverage.specs.Band.{reach, Needed}
-use Rattle.coverage.specs.Between.{crossedAt, Crosses, Gathered, Opposed, lesserOf, greaterOf, Ordered, firstOf, endOf, reached, reachedAll, levelAt}
+use Rattle.coverage.specs.Between.{crossedAt, countOf, Crosses, Gathered, Opposed, Ordered}
+use Rattle.coverage.specs.Between.{lesserOf, greaterOf, firstOf, endOf, reached, reachedAll, levelAt}
 use Rattle.coverage.proofs.Sums.{sum-more, counts-law}
 use Rattle.coverage.proofs.Starts.{missed-weight}
 use Rattle.coverage.proofs.Listed.{reach-at, reach-end}
@@ -33,7 +34,7 @@ of-start c k Y e s q = (sym (ap (λ (z : Start). z .at) q), sym (ap (λ (z : Sta
 pub gathered-crosses : (c k y : ℕ) (e : Edge) (s u v t : Start) (x : Crossed)
     → s ≡ startOf c k (sample (4 * y + 0)) e → u ≡ startOf c k (sample (4 * y + 1)) e → v ≡ startOf c k (sample (4 * y + 2)) e
     → t ≡ startOf c k (sample (4 * y + 3)) e → Gathered s u v t x → Crosses c k y e x
-gathered-crosses c k y e s u v t x o p q w g = record { begins = begins; up = up; down = down }
+gathered-crosses c k y e s u v t x o p q w g = record { begins = begins; counts = counted }
   where
     at : (r : ℕ) (z : Start) → z ≡ startOf c k (sample (4 * y + r)) e → (startAt c k (sample (4 * y + r)) e ≡ z .at) × (weight (sample (4 * y + r)) e ≡ z .by)
     at r z i = of-start c k (sample (4 * y + r)) e z i
@@ -45,19 +46,12 @@ gathered-crosses c k y e s u v t x o p q w g = record { begins = begins; up = up
     begins (suc (suc (suc zero))) h = at 3 t w .0 ∙ sym (ap (λ (z : Crossed). z .d) (g .begins))
     begins (suc (suc (suc (suc r)))) h = absurd (omega arith)
 
-    up : x .way ≡ 1 → (r : ℕ) → r < 4 → weight (sample (4 * y + r)) e ≡ pos 1
-    up i zero h = at 0 s o .1 ∙ g .up i .0
-    up i (suc zero) h = at 1 u p .1 ∙ g .up i .1
-    up i (suc (suc zero)) h = at 2 v q .1 ∙ g .up i .2
-    up i (suc (suc (suc zero))) h = at 3 t w .1 ∙ g .up i .3
-    up i (suc (suc (suc (suc r)))) h = absurd (omega arith)
-
-    down : x .way ≡ 2 → (r : ℕ) → r < 4 → weight (sample (4 * y + r)) e ≡ negsuc 0
-    down i zero h = at 0 s o .1 ∙ g .down i .0
-    down i (suc zero) h = at 1 u p .1 ∙ g .down i .1
-    down i (suc (suc zero)) h = at 2 v q .1 ∙ g .down i .2
-    down i (suc (suc (suc zero))) h = at 3 t w .1 ∙ g .down i .3
-    down i (suc (suc (suc (suc r)))) h = absurd (omega arith)
+    counted : 0 < x .way → (r : ℕ) → r < 4 → weight (sample (4 * y + r)) e ≡ countOf (x .way)
+    counted i zero h = at 0 s o .1 ∙ g .counts i .0
+    counted i (suc zero) h = at 1 u p .1 ∙ g .counts i .1
+    counted i (suc (suc zero)) h = at 2 v q .1 ∙ g .counts i .2
+    counted i (suc (suc (suc zero))) h = at 3 t w .1 ∙ g .counts i .3
+    counted i (suc (suc (suc (suc r)))) h = absurd (omega arith)
 
 -- ---- of all edges two count
 module _ (l : List ℤ) (y r : ℕ) (h : r < 4) (X : ℤ) where
@@ -113,32 +107,37 @@ module _ (l : List ℤ) (y r : ℕ) (h : r < 4) (X : ℤ) where
       ∙ +ℤ-idl (counts X Y (edgeAt l a)))
 
 -- ---- a sample is inside where one of the two counts and the other does not, whatever the fill rule
-module _ (nonZero : Bool) where
-  one-inside : (s t : Bool) → oneIf (insideBy nonZero (cond s (pos 1) (pos 0) +ℤ cond t (negsuc 0) (pos 0))) ≡ cond s (cond t 0 1) (cond t 1 0)
-  one-inside = by nonZero
-    where
-      by : (z s t : Bool) → oneIf (insideBy z (cond s (pos 1) (pos 0) +ℤ cond t (negsuc 0) (pos 0))) ≡ cond s (cond t 0 1) (cond t 1 0)
-      by true true true = refl
-      by true true false = refl
-      by true false true = refl
-      by true false false = refl
-      by false true true = refl
-      by false true false = refl
-      by false false true = refl
-      by false false false = refl
+abbrev differ : Bool → Bool → ℕ
+differ s t = cond s (cond t 0 1) (cond t 1 0)
 
-  other-inside : (s t : Bool) → oneIf (insideBy nonZero (cond s (negsuc 0) (pos 0) +ℤ cond t (pos 1) (pos 0))) ≡ cond s (cond t 0 1) (cond t 1 0)
-  other-inside = by nonZero
-    where
-      by : (z s t : Bool) → oneIf (insideBy z (cond s (negsuc 0) (pos 0) +ℤ cond t (pos 1) (pos 0))) ≡ cond s (cond t 0 1) (cond t 1 0)
-      by true true true = refl
-      by true true false = refl
-      by true false true = refl
-      by true false false = refl
-      by false true true = refl
-      by false true false = refl
-      by false false true = refl
-      by false false false = refl
+one-inside : (nonZero s t : Bool) → oneIf (insideBy nonZero (cond s (pos 1) (pos 0) +ℤ cond t (negsuc 0) (pos 0))) ≡ differ s t
+one-inside true true true = refl
+one-inside true true false = refl
+one-inside true false true = refl
+one-inside true false false = refl
+one-inside false true true = refl
+one-inside false true false = refl
+one-inside false false true = refl
+one-inside false false false = refl
+
+exchanged : (s t : Bool) → differ t s ≡ differ s t
+exchanged true true = refl
+exchanged true false = refl
+exchanged false true = refl
+exchanged false false = refl
+
+known : (a b : ℕ) → Opposed a b → (0 < a) × (0 < b)
+known a b = ⊎-elim (λ q. (omega (arith, q .0), omega (arith, q .1))) (λ q. (omega (arith, q .0), omega (arith, q .1)))
+
+opposed-inside : (nonZero s t : Bool) (a b : ℕ) → Opposed a b
+    → oneIf (insideBy nonZero (cond s (countOf a) (pos 0) +ℤ cond t (countOf b) (pos 0))) ≡ differ s t
+opposed-inside nonZero s t a b =
+    ⊎-elim (λ q. rw (q .0, q .1) (one-inside nonZero s t))
+    (λ q.
+    rw (q .0, q .1)
+    (ap (λ (z : ℤ). oneIf (insideBy nonZero z)) (+ℤ-comm (cond s (negsuc 0) (pos 0)) (cond t (pos 1) (pos 0)))
+    ∙ one-inside nonZero t s
+    ∙ exchanged s t))
 
 -- it lies before the greater of their columns, and not before the lesser
 module _ (a b j : ℕ) where
@@ -160,10 +159,10 @@ module _ (a b j : ℕ) where
   behind-none : j < a → j < b → min 1 (min a b - j) ≡ 1
   behind-none h k = omega arith
 
-  between-one : cond (leb a j) (cond (leb b j) 0 1) (cond (leb b j) 1 0) ≡ min 1 (max a b - j) - min 1 (min a b - j)
+  between-one : differ (leb a j) (leb b j) ≡ min 1 (max a b - j) - min 1 (min a b - j)
   between-one = by (leb a j) (leb b j) refl refl
     where
-      by : (s t : Bool) → leb a j ≡ s → leb b j ≡ t → cond s (cond t 0 1) (cond t 1 0) ≡ min 1 (max a b - j) - min 1 (min a b - j)
+      by : (s t : Bool) → leb a j ≡ s → leb b j ≡ t → differ s t ≡ min 1 (max a b - j) - min 1 (min a b - j)
       by true true p q = sym (ap₂ _-_ (before-none (leb-true a j p) (leb-true b j q)) (behind-first (leb-true a j p)))
       by true false p q = sym (ap₂ _-_ (before-second (leb-false b j q)) (behind-first (leb-true a j p)))
       by false true p q = sym (ap₂ _-_ (before-first (leb-false a j p)) (behind-second (leb-true b j q)))
@@ -246,17 +245,11 @@ module _ (l : List ℤ) (n y x w : ℕ) (js : List ℕ) (nonZero : Bool) (k : Ne
   sample-inside : (r j : ℕ) → r < 4 → j < w * 4
       → inside r j ≡ min 1 (max (crossedAt s r) (crossedAt t r) - j) - min 1 (min (crossedAt s r) (crossedAt t r) - j)
   sample-inside r j h i =
+      let k = known (s .way) (t .way) o in
       ap (λ (z : ℤ). oneIf (insideBy nonZero z)) (wound r j h i)
-      ∙ ⊎-elim
-      (λ q.
-      ap₂ (λ (u v : ℤ). oneIf (insideBy nonZero (cond (leb (crossedAt s r) j) u (pos 0) +ℤ cond (leb (crossedAt t r) j) v (pos 0))))
-      (cs .up (q .0) r h) (ct .down (q .1) r h)
-      ∙ one-inside nonZero (leb (crossedAt s r) j) (leb (crossedAt t r) j))
-      (λ q.
-      ap₂ (λ (u v : ℤ). oneIf (insideBy nonZero (cond (leb (crossedAt s r) j) u (pos 0) +ℤ cond (leb (crossedAt t r) j) v (pos 0))))
-      (cs .down (q .0) r h) (ct .up (q .1) r h)
-      ∙ other-inside nonZero (leb (crossedAt s r) j) (leb (crossedAt t r) j))
-      o
+      ∙ ap₂ (λ (u v : ℤ). oneIf (insideBy nonZero (cond (leb (crossedAt s r) j) u (pos 0) +ℤ cond (leb (crossedAt t r) j) v (pos 0))))
+      (cs .counts (k .0) r h) (ct .counts (k .1) r h)
+      ∙ opposed-inside nonZero (leb (crossedAt s r) j) (leb (crossedAt t r) j) (s .way) (t .way) o
       ∙ between-one (crossedAt s r) (crossedAt t r) j
 
   row-inside : (r i : ℕ) → r < 4 → i < w

@@ -1,8 +1,10 @@
 -- Rows that two edges cross, one up and one down: what lies between them. A reviewer of the paper need not read it.
 use Prim.Native.Nat.{ℕ, zero, suc, _+_, _-_, _*_, _/_, _≤_, _<_, min, max}
 use mathlib.Core.Path.{_≡_}
+use mathlib.Core.Bool.{cond}
 use mathlib.Core.Logic.{_⊎_}
-use lib.IntN.{pos, negsuc}
+use lib.Dec.{eqb}
+use lib.IntN.{ℤ, pos, negsuc}
 use Rattle.path.specs.declared.Edge.{Edge}
 use Rattle.coverage.specs.declared.Start.{Start}
 use Rattle.coverage.specs.declared.Crossed.{Crossed}
@@ -17,17 +19,19 @@ crossedAt s (suc zero) = s .b
 crossedAt s (suc (suc zero)) = s .c
 crossedAt s (suc (suc (suc r))) = s .d
 
+-- what an edge counts that goes up (1) or down (2)
+abbrev pub countOf : ℕ → ℤ
+countOf way = cond (eqb way 1) (pos 1) (negsuc 0)
+
 -- where an edge's count begins in the sample rows of the pixel row y, and what it counts there, if its way is known
 pub record Crosses (c k y : ℕ) (e : Edge) (s : Crossed) : Type 0 where
   pub begins : (r : ℕ) → r < 4 → startAt c k (sample (4 * y + r)) e ≡ crossedAt s r
-  pub up : s .way ≡ 1 → (r : ℕ) → r < 4 → weight (sample (4 * y + r)) e ≡ pos 1
-  pub down : s .way ≡ 2 → (r : ℕ) → r < 4 → weight (sample (4 * y + r)) e ≡ negsuc 0
+  pub counts : 0 < s .way → (r : ℕ) → r < 4 → weight (sample (4 * y + r)) e ≡ countOf (s .way)
 
 -- four sample rows together
 pub record Gathered (s u v t : Start) (r : Crossed) : Type 0 where
   pub begins : r ≡ record { way = r .way; a = s .at; b = u .at; c = v .at; d = t .at }
-  pub up : r .way ≡ 1 → (s .by ≡ pos 1) × (u .by ≡ pos 1) × (v .by ≡ pos 1) × (t .by ≡ pos 1)
-  pub down : r .way ≡ 2 → (s .by ≡ negsuc 0) × (u .by ≡ negsuc 0) × (v .by ≡ negsuc 0) × (t .by ≡ negsuc 0)
+  pub counts : 0 < r .way → (s .by ≡ countOf (r .way)) × (u .by ≡ countOf (r .way)) × (v .by ≡ countOf (r .way)) × (t .by ≡ countOf (r .way))
 
 -- one up and one down
 abbrev pub Opposed : ℕ → ℕ → Type 0

@@ -11,16 +11,15 @@ use rect::least;
 use rect::most;
 ghost use mathlib.Core.Path.{_≡_};
 ghost use mathlib.Core.Bool.{true};
-ghost use Prim.Native.Nat.{_+_, _*_, _-_, _^_, _<_, _≤_};
-ghost use lib.IntN.{pos, negsuc, natAbs};
-ghost use lib.ListN.{length, getD};
+ghost use Prim.Native.Nat.{_+_, _*_, _^_, _<_, _≤_};
+ghost use lib.ListN.{length};
 ghost use Rattle.lists.specs.Lists.{tab};
 ghost use Rattle.runs.specs.Runs.{expand, Runs};
 ghost use Rattle.path.specs.Stored.{edgesOf, Small};
 ghost use Rattle.coverage.specs.Winding.{sample, coverage};
 ghost use Rattle.coverage.specs.Scanline.{startOf, Outlined};
 ghost use Rattle.coverage.specs.Band.{Needed};
-ghost use Rattle.coverage.specs.Between.{Crosses, Gathered, Opposed, Ordered, lesserOf, greaterOf, firstOf, endOf, reached, reachedAll, levelAt};
+ghost use Rattle.coverage.specs.Between.{countOf, Crosses, Gathered, Opposed, Ordered, lesserOf, greaterOf, firstOf, endOf, reached, reachedAll, levelAt};
 
 // The runs of w pixels of a row, if two edges are listed for it, of which one goes up and one down past all of its sample rows. Returns how many there
 // are, or 0 where that is not so.
@@ -82,7 +81,7 @@ fn gather(s: Start, u: Start, v: Start, t: Start) -> Crossed
 
 // 1 where an edge is seen to count 1, 2 where it is seen to count -1.
 fn way(by: i32) -> usize
-    ensures { λ r. ⌜ (r ≡ 1 → by ≡ pos 1) × (r ≡ 2 → by ≡ negsuc 0) ⌝ }
+    ensures { λ r. ⌜ (0 < r → by ≡ countOf r) ⌝ }
 {
     if by == 1 {
         return 1;

@@ -1,6 +1,5 @@
 -- `coverage::between::cross` meets its contract. Assumes nothing.
-use mathlib.Core.Path.{_≡_, sym, _∙_}
-use Prim.Native.Nat.{ℕ, _<_}
+use mathlib.Core.Path.{sym, _∙_}
 use native.Mathlib.Omega.{arith}
 use Rattle.coverage.proofs.Steep.{starts-same}
 use Rattle.coverage.proofs.Paired.{gathered-crosses}

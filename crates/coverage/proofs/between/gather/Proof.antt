@@ -1,8 +1,9 @@
 -- `coverage::between::gather` meets its contract. Assumes nothing.
-use mathlib.Core.Path.{refl, sym, _∙_}
+use mathlib.Core.Path.{refl, sym, ap, _∙_}
 use native.Mathlib.Omega.{arith}
 use mir.Syntax.{w32}
 use mir.Facts.{toZ-ofZ}
+use Rattle.coverage.specs.Between.{countOf}
 use borrow.Author.Needs.{needs, sfits-of}
 use Rattle.coverage.proofs.between.gather.Statement.{statement}
 use Rattle.coverage.proofs.between.gather.Tie as tie
@@ -25,17 +26,11 @@ returns c =
     let of4 = toZ-ofZ {w = w32} {z = a .t .by} (sfits-of (told4 .given .1 .0 .1)) in
     record {
       begins = refl;
-      up = λ e. let s = same (omega (arith, e)) in (
-        sym of1 ∙ way1 .ensures .0 (sym (s .0) ∙ e),
-        sym of2 ∙ way2 .ensures .0 (sym (s .1) ∙ e),
-        sym of3 ∙ way3 .ensures .0 (sym (s .2) ∙ e),
-        sym of4 ∙ way4 .ensures .0 (sym (s .3) ∙ e),
-      );
-      down = λ e. let s = same (omega (arith, e)) in (
-        sym of1 ∙ way1 .ensures .1 (sym (s .0) ∙ e),
-        sym of2 ∙ way2 .ensures .1 (sym (s .1) ∙ e),
-        sym of3 ∙ way3 .ensures .1 (sym (s .2) ∙ e),
-        sym of4 ∙ way4 .ensures .1 (sym (s .3) ∙ e),
+      counts = λ e. let s = same e in (
+        sym of1 ∙ way1 .ensures (omega (arith, e, s .0)) ∙ ap countOf (sym (s .0)),
+        sym of2 ∙ way2 .ensures (omega (arith, e, s .1)) ∙ ap countOf (sym (s .1)),
+        sym of3 ∙ way3 .ensures (omega (arith, e, s .2)) ∙ ap countOf (sym (s .2)),
+        sym of4 ∙ way4 .ensures (omega (arith, e, s .3)) ∙ ap countOf (sym (s .3)),
       );
     }
 

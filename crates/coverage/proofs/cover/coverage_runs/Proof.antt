@@ -1,6 +1,5 @@
 -- `coverage::cover::coverage_runs` meets its contract. Assumes nothing.
-use mathlib.Core.Path.{refl, sym, _∙_}
-use native.Mathlib.Omega.{arith}
+use mathlib.Core.Path.{refl}
 use borrow.Author.Needs.{needs}
 use Rattle.coverage.proofs.cover.coverage_runs.Statement.{statement}
 use Rattle.coverage.proofs.cover.coverage_runs.Tie as tie
