@@ -59,11 +59,6 @@ is-above-zero {z = negsuc n} h = absurd (h .lt)
 pub focal-inside : (c : Circle) → focalAllowed c ≡ true → pos 0 <ℤ c .r → pos 0 <ℤ radialD c
 focal-inside c e h = record { lt = subst T (sym (rw (is-above-zero h) at e)) tt }
 
--- what a test of D tells
-pub d-at-most : (z : ℤ) (n : ℕ) → pos 0 <ℤ z → leZ z (pos n) ≡ true → natAbs z ≤ n
-d-at-most (pos m) n h e = leb-true m n e
-d-at-most (negsuc m) n h e = absurd (h .lt)
-
 -- D is at most r²
 inside-small : (r f g : ℤ) → pos 0 <ℤ inside r f g → natAbs r ≤ 16384 → natAbs (inside r f g) ≤ 268435456
 inside-small r f g h a =

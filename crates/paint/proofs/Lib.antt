@@ -37,6 +37,7 @@ pub mod Quotients
 pub mod Walk
 pub mod Along
 pub mod Lagrange
+pub mod Floating
 pub mod Focal
 pub mod Differences
 pub mod Onward

@@ -19,6 +19,7 @@ use Rattle.paint.specs.Radial.{radialD, radialT, focalAllowed}
 use Rattle.paint.specs.Circles.{LimitedCircle, ModeratePlace, placeAt, nextPlace}
 use Rattle.paint.specs.declared.Circle.{Circle}
 use Rattle.paint.specs.declared.Place.{Place}
+use Rattle.paint.proofs.Sizes.{still-sized}
 use Rattle.paint.proofs.Focal.{Rooted, at-rooted, at-near, t-at}
 use Rattle.paint.proofs.Differences.{next-place}
 
@@ -89,6 +90,14 @@ module _ (p : Place) (h : Held p) where
   q-is = clean w64 2305843009213693952 (p .q) tt (h .moderate .q)
 
   -- what its root asks, and the root
+  -- what a guess of roots asks
+  pub asks-guess : (natAbs (toZ w64 (ofZ w64 (p .q))) ≤ 2305843009213693952) × (natAbs (toZ w64 (ofZ w64 (p .dq))) ≤ 2305843009213693952)
+      × (natAbs (toZ w64 (ofZ w64 (p .ddq))) ≤ 2305843009213693952)
+  asks-guess =
+      let b : ℕ = 2305843009213693952 in
+      let m = h .moderate in
+      (still-sized b (p .q) tt (m .q), still-sized b (p .dq) tt (m .dq), still-sized b (p .ddq) tt (m .ddq))
+
   pub asks-root : let q = toZ w64 (ofZ w64 (p .q)) in (q ≡ pos (natAbs q)) × (natAbs q < 1152921504606846976)
   asks-root = rw q-is (h .rooted .natural, h .rooted .small)
 

@@ -3,7 +3,7 @@
 use mathlib.Core.Path.{_≡_, refl, ap, ap₂, _∙_}
 use mathlib.Core.Bool.{Bool, true, false}
 use Prim.Native.Nat.{ℕ, suc, _+_, _-_, _*_, _/_, _%_, _≤_, _<_}
-use native.Mathlib.Nat.{mul-le-mul-right, lt-of-mul-lt-mul-right, div-eq-of-lt-le, div-add-mod, div-add-mod', mod-lt}
+use native.Mathlib.Nat.{mul-assoc, mul-div-mul-left, mul-le-mul-right, lt-of-mul-lt-mul-right, div-eq-of-lt-le, div-add-mod, div-add-mod', mod-lt}
 use native.Mathlib.Omega.{arith}
 use borrow.Author.Tests.{ltb-true, ltb-false}
 use lib.Dec.{ltb}
@@ -43,10 +43,9 @@ linear-form s d a h j l near =
     div-eq-of-lt-le s (lower s d a h j u v k l (omega (arith, A, mod-lt (a * s) l)) (omega (arith, H, mod-lt (h * s) l)) (omega (arith, K)))
     (upper s d a h j u v k near (omega (arith, A)) (omega (arith, H)) (omega (arith, K, mod-lt (a * j + h) l)))
 
--- a u / d by one product, where u is below d
-pub by-scale : (s d a u : ℕ) → u < d → d * d < s → u * (a * s / d + 1) / s ≡ a * u / d
-by-scale s d a u l near =
-    let some : 0 < d = omega arith in
+-- a u / d by one product
+pub by-scale : (s d a u : ℕ) → 0 < d → u * d < s → u * (a * s / d + 1) / s ≡ a * u / d
+by-scale s d a u some near =
     let A = div-add-mod (a * s) d in
     let K = div-add-mod (a * u) d in
     let q = a * s / d in
@@ -55,10 +54,15 @@ by-scale s d a u l near =
     let above : q * d ≤ a * s = omega (arith, A) in
     let least : d * k ≤ a * u = omega (arith, K) in
     let most : a * u + 1 ≤ d * k + d = omega (arith, K, mod-lt (a * u) some) in
-    let part : u * d ≤ d * d = mul-le-mul-right d (omega arith) in
     let low : s * k < u * (q + 1) + 1 = lt-of-mul-lt-mul-right d (omega (arith, mul-le-mul-right u below, mul-le-mul-right s least)) in
-    let high : u * (q + 1) < s * (k + 1) = lt-of-mul-lt-mul-right d (omega (arith, near, part, mul-le-mul-right u above, mul-le-mul-right s most)) in
+    let high : u * (q + 1) < s * (k + 1) = lt-of-mul-lt-mul-right d (omega (arith, near, mul-le-mul-right u above, mul-le-mul-right s most)) in
     div-eq-of-lt-le s (omega (arith, low)) (omega (arith, high))
+
+-- the same of numbers with a common factor, which does not matter
+pub by-part : (m s e b u : ℕ) → 0 < m → 0 < e → u * e < s → u * (m * b * s / (m * e) + 1) / s ≡ m * b * u / (m * e)
+by-part m s e b u some some-part near =
+    let cancel : (n : ℕ) → m * b * n / (m * e) ≡ b * n / e = λ n. ap (λ (k : ℕ). k / (m * e)) (mul-assoc m b n) ∙ mul-div-mul-left (b * n) e some in
+    rw (cancel s, cancel u) (by-scale s e b u some-part near)
 
 pub scaled-small : (u d n : ℕ) → u < d → u * (n / d + 1) ≤ n + u
 scaled-small u d n l =

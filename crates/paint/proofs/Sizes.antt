@@ -1,14 +1,15 @@
 -- Signed numbers of 64 bits of which a size is known: parameters, fields and calls' results.
-use mathlib.Core.Path.{_≡_, sym, ap, _∙_, subst}
+use mathlib.Core.Path.{_≡_, refl, sym, ap, _∙_, subst}
 use mathlib.Core.Bool.{true}
-use Prim.Native.Nat.{ℕ, _+_, _≤_, _<_, _^_}
+use Prim.Native.Nat.{ℕ, zero, suc, _+_, _/_, _%_, _≤_, _<_, _^_}
 use native.Mathlib.Omega.{arith}
 use lib.Dec.{T, ltb}
-use lib.IntN.{ℤ, pos, negsuc, natAbs, _-ℤ_}
-use lib.Signed.{ltZ, ltZ-yes}
+use lib.IntN.{ℤ, pos, negsuc, natAbs, negℤ, _-ℤ_}
+use lib.Signed.{ltZ, ltZ-yes, quotZ, remZ}
 use mir.Syntax.{w64}
 use mir.Val.{toZ, ofZ}
 use Rattle.fixed.proofs.Means.{Num}
+use Rattle.fixed.proofs.Within.{Within}
 use Rattle.fixed.proofs.Poly as P
 use Rattle.fixed.proofs.Poly.{_⊖_}
 use Rattle.fixed.proofs.Signed.{clean}
@@ -16,6 +17,9 @@ use Rattle.fixed.proofs.Signed.{clean}
 -- as a `Num` of the laws on signed numbers
 abbrev pub sized : (n : ℕ) (z : ℤ) → T (ltb n (2 ^ 63)) → natAbs z ≤ n → Num
 sized n z t h = record { bound = n; read = toZ w64 (ofZ w64 z); int = z; same = clean w64 n z t h; size = record { size = h } }
+
+pub still-sized : (n : ℕ) (z : ℤ) → T (ltb n (2 ^ 63)) → natAbs z ≤ n → natAbs (toZ w64 (ofZ w64 z)) ≤ n
+still-sized n z t h = rw (clean w64 n z t h) h
 
 -- a test of two such numbers compares their bits
 pub same-bits : (n : ℕ) (a b : ℤ) → T (ltb n (2 ^ 63)) → natAbs a ≤ n → natAbs b ≤ n → ofZ w64 a ≡ ofZ w64 b → a ≡ b
@@ -31,3 +35,16 @@ below-size z n e f =
     by (pos a) (negsuc b) h k = omega arith
     by (negsuc a) (pos b) h k = omega arith
     by (negsuc a) (negsuc b) h k = omega arith
+
+-- the size of a quotient and of a rest
+size-kept : (n : ℕ) → natAbs (negℤ (pos n)) ≡ n
+size-kept zero = refl
+size-kept (suc n) = refl
+
+pub quotient-size : (m b : ℕ) (z : ℤ) → natAbs z / m ≤ b → Within b (quotZ z (pos m))
+quotient-size m b (pos n) h = record { size = h }
+quotient-size m b (negsuc n) h = record { size = rw (size-kept (suc n / m)) h }
+
+pub rest-size : (m b : ℕ) (z : ℤ) → natAbs z % m ≤ b → Within b (remZ z (pos m))
+rest-size m b (pos n) h = record { size = h }
+rest-size m b (negsuc n) h = record { size = rw (size-kept (suc n % m)) h }

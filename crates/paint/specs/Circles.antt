@@ -1,6 +1,7 @@
 -- How the code holds a radial gradient, A and Q along a row, and a gradient of either kind. Only the proofs need it: a reviewer of the paper need not read it.
-use Prim.Native.Nat.{ℕ, _+_, _≤_}
+use Prim.Native.Nat.{ℕ, _+_, _*_, _/_, _%_, _≤_, _<_}
 use mathlib.Core.Path.{_≡_}
+use mathlib.Core.Logic.{_⊎_}
 use mathlib.Core.Bool.{true}
 use mathlib.Core.List.{List}
 use lib.IntN.{ℤ, pos, natAbs, _+ℤ_, _-ℤ_, _*ℤ_}
@@ -22,6 +23,10 @@ pub record LimitedCircle (c : Circle) : Type 0 where
   pub fx : natAbs (c .fx) ≤ 16384
   pub fy : natAbs (c .fy) ≤ 16384
   pub r : natAbs (c .r) ≤ 16384
+
+-- a D of which one product gives t: its square is below 2^47, or 256 divides it and its square is below 256 times that
+abbrev pub ByProduct : ℕ → Type 0
+ByProduct d = (d ≤ 189812480) × ((d * d < 140737488355328) ⊎ ((d % 256 ≡ 0) × (d * (d / 256) < 140737488355328)))
 
 -- ---- A and Q from pixel to pixel, which lie 16 apart: A grows by da, Q by dq, and dq by ddq
 unfoldable pub placeFrom : ℤ → ℤ → ℤ → ℤ → ℤ → Place

@@ -2,6 +2,7 @@
 pub mod block;
 pub mod build;
 pub mod gradient;
+pub mod guesses;
 pub mod opacity;
 pub mod positions;
 pub mod radial;

@@ -103,54 +103,18 @@ pub fn under_root(r: i64, dx: i64, dy: i64, f: i64, g: i64) -> i64
     r * r * (dx * dx + dy * dy) - b * b
 }
 
-// About the root of a Q.
-pub fn root_guess(q: i64) -> u64
-    requires { ⌜ (q ≡ pos (natAbs q)) × (natAbs q < 1152921504606846976) ⌝ }
-{
-    let n = q as u64;
-    closer(n, closer(n, guess_on_line(n)))
-}
-
-// The root of n = 4^k m, with m from 1 to 4, as 2^k (m / 3 + 11 / 16): of a large one at most a twentieth is missing or too much.
-fn guess_on_line(n: u64) -> u64 {
-    let upper = raised(n, raised(n, 0, 16), 8);
-    let k = raised(n, raised(n, raised(n, upper, 4), 2), 1);
-    std::num::wrapping_add_u64((n >> k) / 3, (11 << k) >> 4)
-}
-
-// k raised, if n is at least that power of 4.
-fn raised(n: u64, k: u64, by: u64) -> u64
-    requires { ⌜ k + by ≤ 31 ⌝ }
-    ensures { λ r. ⌜ r ≤ k + by ⌝ }
-{
-    if n >> (2 * (k + by)) == 0 { k } else { k + by }
-}
-
-// A step of Newton's towards the root of n, from a guess.
-fn closer(n: u64, guess: u64) -> u64 {
-    if guess == 0 {
-        return 0;
-    }
-    std::num::wrapping_add_u64(guess, n / guess) / 2
-}
-
-// q of a Q, from a guess, which may be any number: a step of Newton's never ends below the root, and from a near guess it ends there.
-pub fn root_near(q: i64, guess: u64) -> u64
+// q of a Q, from a guess, which may be any number: where it is the root, its square is at most Q, by twice itself at the most.
+pub fn root_near(q: i64, guess: u32) -> u64
     requires { ⌜ (q ≡ pos (natAbs q)) × (natAbs q < 1152921504606846976) ⌝ }
     ensures { λ r. ⌜ r ≡ Roots.isqrt (natAbs q) ⌝ }
 {
     let n = q as u64;
-    if 0 < guess {
-        if guess < 1073741824 {
-            let near = (guess + n / guess) / 2;
-            if near < 1073741824 {
-                if near * near <= n {
-                    return near;
-                }
-            }
-        }
+    let g = guess as u64;
+    let rest = std::num::wrapping_sub_u64(n, g * g);
+    if rest <= 2 * g {
+        return g;
     }
-    fixed::isqrt_near(n, guess)
+    fixed::isqrt_near(n, g)
 }
 
 // 2^47 / D, or 2^33 - 1 if that is less: what t is guessed by.

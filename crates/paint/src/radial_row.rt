@@ -1,78 +1,90 @@
-// The radial gradient's t along a row: A and Q go from pixel to pixel by sums, and each root is corrected from a guess, the next number
-// but one of a parabola through three roots before it. One division a pixel, for the root: t is a product with D's reciprocal.
+// The radial gradient's t along a row: A and Q go from pixel to pixel by sums, roots are guessed and held to be roots, and t is a product with D's
+// reciprocal: no division a pixel.
 use crate::Circle;
 use crate::Place;
 use crate::RadialGradient;
 use crate::gradient;
+use crate::guesses::guess_roots;
 use crate::positions::position;
 use crate::radial;
 use crate::segments::BEHIND;
 ghost use mathlib.Core.Path.{_≡_};
-ghost use mathlib.Core.Bool.{true};
+ghost use mathlib.Core.Bool.{true, not};
 ghost use Prim.Native.Nat.{_+_, _*_, _/_, _≤_, _<_};
+ghost use lib.Dec.{T};
+ghost use lib.Ieee.{isNan};
 ghost use lib.IntN.{pos, natAbs, _+ℤ_, _-ℤ_, _*ℤ_};
 ghost use lib.Signed.{_<ℤ_};
 ghost use lib.ListN.{length};
 ghost use Rattle.lists.specs.Lists.{tab};
 ghost use Rattle.paint.specs.Gradient.{rampUnit, mapped};
 ghost use Rattle.paint.specs.Radial.{inside, radialD, radialT, focalAllowed};
-ghost use Rattle.paint.specs.Circles.{LimitedCircle, ModeratePlace, placeFrom, placeAt, nextPlace};
+ghost use Rattle.paint.specs.Circles.{LimitedCircle, ModeratePlace, ByProduct, placeFrom, placeAt, nextPlace};
 ghost use Rattle.paint.specs.Segments.{positionOf};
 
-// D up to which one product gives t on the ramp: A + q times 2^63 / D, rounded up, is t in parts of 2^47, and right as long as (A + q + 1) D is below
+// D up to which one product gives t on the ramp: A + q times 2^63 / D, rounded up, is t in parts of 2^47, and right as long as (A + q) D is below
 // 2^47. On the ramp A + q is below D, so this is the largest D of which the square is below 2^47; no radius up to 215 pixels has a larger one.
-const PRODUCT_LIMIT: i64 = 11863283;
+const PRODUCT_LIMIT: u64 = 11863283;
+
+// The same of a D that 256 divides, as it does where all of the circle is in whole pixels: t is a fraction over D / 256, and right as long as
+// (A + q) D / 256 is below 2^47.
+const WIDE_LIMIT: u64 = 189812480;
 
 // 65,536 in these parts: 2^63.
 const UNIT_IN_PARTS: u64 = 9223372036854775808;
 
-// The roots of the three pixels before a pixel, and 3c - 8b, where b is the third of them and c the root before it. They serve for guesses
-// alone, so that nothing is asked of them.
-struct Roots {
-    last: u64,
-    before: u64,
-    third: u64,
-    part: u64,
-}
-
 // The positions of the pixels from (x, y) on, of a radius above 0.
 pub fn radial_positions(g: RadialGradient, x: usize, y: usize, ks: &mut [u32])
     requires { ⌜ LimitedCircle (g .circle) × (focalAllowed (g .circle) ≡ true) × (pos 0 <ℤ g .circle .r) ⌝ }
-    requires { ⌜ (x + length (now ks) ≤ 1024) × (y ≤ 1024) ⌝ }
+    requires { ⌜ (x + length (now ks) ≤ 1024) × (y ≤ 1024) × (length (now ks) ≤ 128) ⌝ }
     ensures { λ _. ⌜ now (ks .exit) ≡ tab (length (now (ks .entry))) (λ i. positionOf (mapped (g .spread) (radialT (g .circle) (x + i) y))) ⌝ }
 {
     let c = g.circle;
     let d = radial::circle_d(c);
-    if gradient::pads(g.spread) && d <= PRODUCT_LIMIT {
-        padded_positions(c, d, x, y, ks);
+    let size = d as u64;
+    if gradient::pads(g.spread) && has_product(size) {
+        padded_positions(c, size, x, y, ks);
         return;
     }
     mapped_positions(g, d, x, y, ks);
 }
 
-// The positions of t as it is, which is where the spread pads, of a D up to PRODUCT_LIMIT.
-fn padded_positions(c: Circle, d: i64, x: usize, y: usize, ks: &mut [u32])
-    requires { ⌜ LimitedCircle c × (focalAllowed c ≡ true) × (pos 0 <ℤ c .r) × (d ≡ radialD c) × (natAbs d ≤ 11863283) ⌝ }
-    requires { ⌜ (x + length (now ks) ≤ 1024) × (y ≤ 1024) ⌝ }
+// Whether one product gives t.
+fn has_product(d: u64) -> bool
+    ensures { λ r. ⌜ (r ≡ true → ByProduct d) ⌝ }
+{
+    if d <= PRODUCT_LIMIT {
+        return true;
+    }
+    if d % 256 == 0 {
+        if d <= WIDE_LIMIT {
+            return true;
+        }
+    }
+    false
+}
+
+// The positions of t as it is, which is where the spread pads, of a D of which one product gives t.
+fn padded_positions(c: Circle, d: u64, x: usize, y: usize, ks: &mut [u32])
+    requires { ⌜ LimitedCircle c × (focalAllowed c ≡ true) × (pos 0 <ℤ c .r) × (pos d ≡ radialD c) × ByProduct d ⌝ }
+    requires { ⌜ (x + length (now ks) ≤ 1024) × (y ≤ 1024) × (length (now ks) ≤ 128) ⌝ }
     ensures { λ _. ⌜ now (ks .exit) ≡ tab (length (now (ks .entry))) (λ i. positionOf (radialT c (x + i) y)) ⌝ }
 {
-    let size = d as u64;
-    let scale = UNIT_IN_PARTS / size + 1;
+    let scale = UNIT_IN_PARTS / d + 1;
     let mut p = place_at(c, x, y);
-    let mut roots = first_roots(p.q, p.dq);
+    guess_roots(p.q, p.dq, p.ddq, most_root(c.r), ks);
     let mut i = 0;
     while i < ks.len() {
-        let q = radial::root_near(p.q, next_guess(roots));
-        ks[i] = padded_position(radial::numerator(p.a, q), size, scale);
+        let q = radial::root_near(p.q, ks[i]);
+        ks[i] = padded_position(radial::numerator(p.a, q), d, scale);
         p = next_place(p);
-        roots = next_roots(roots, q);
         i += 1;
     }
 }
 
 // The position of t = 65,536 u / d, where scale is what t grows by with u, in parts of 2^47: a u below d is on the ramp, any other behind it.
 fn padded_position(u: u64, d: u64, scale: u64) -> u32
-    requires { ⌜ (0 < d) × (d ≤ 11863283) × (scale ≡ 9223372036854775808 / d + 1) ⌝ }
+    requires { ⌜ (0 < d) × ByProduct d × (scale ≡ 9223372036854775808 / d + 1) ⌝ }
     ensures { λ k. ⌜ k ≡ positionOf (pos (rampUnit * u / d)) ⌝ }
 {
     if u < d {
@@ -85,18 +97,18 @@ fn padded_position(u: u64, d: u64, scale: u64) -> u32
 // The positions of t as any spread maps it, of any D.
 fn mapped_positions(g: RadialGradient, d: i64, x: usize, y: usize, ks: &mut [u32])
     requires { ⌜ LimitedCircle (g .circle) × (focalAllowed (g .circle) ≡ true) × (pos 0 <ℤ g .circle .r) × (d ≡ radialD (g .circle)) ⌝ }
-    requires { ⌜ (x + length (now ks) ≤ 1024) × (y ≤ 1024) ⌝ }
+    requires { ⌜ (x + length (now ks) ≤ 1024) × (y ≤ 1024) × (length (now ks) ≤ 128) ⌝ }
     ensures { λ _. ⌜ now (ks .exit) ≡ tab (length (now (ks .entry))) (λ i. positionOf (mapped (g .spread) (radialT (g .circle) (x + i) y))) ⌝ }
 {
+    let c = g.circle;
     let reciprocal = radial::reciprocal(d);
-    let mut p = place_at(g.circle, x, y);
-    let mut roots = first_roots(p.q, p.dq);
+    let mut p = place_at(c, x, y);
+    guess_roots(p.q, p.dq, p.ddq, most_root(c.r), ks);
     let mut i = 0;
     while i < ks.len() {
-        let q = radial::root_near(p.q, next_guess(roots));
+        let q = radial::root_near(p.q, ks[i]);
         ks[i] = position_of(g.spread, radial::t_of(p.a, q, d, reciprocal));
         p = next_place(p);
-        roots = next_roots(roots, q);
         i += 1;
     }
 }
@@ -112,63 +124,12 @@ fn position_of(spread: u32, t: u64) -> u32
     position(spread, t as i64)
 }
 
-// The next number but one of a parabola through the roots a, b and c, of which a is the nearest: 6a - 8b + 3c. Right or not, it is only a
-// guess. The last root is not asked for, so that the divisions for two roots can be under way at a time.
-fn next_guess(r: Roots) -> u64 {
-    std::num::wrapping_add_u64(r.part, double(triple(r.before)))
-}
-
-fn next_roots(r: Roots, q: u64) -> Roots {
-    Roots {
-        last: q,
-        before: r.last,
-        third: r.before,
-        part: part_of(r.before, r.third),
-    }
-}
-
-// About the roots before a pixel of which Q is q, and grows by dq to the next pixel: on a line.
-fn first_roots(q: i64, dq: i64) -> Roots
-    requires { ⌜ (q ≡ pos (natAbs q)) × (natAbs q < 1152921504606846976) ⌝ }
+// A number above every root: r, in 1/16 pixel, times a distance that is above all.
+fn most_root(r: i64) -> f64
+    requires { ⌜ natAbs r ≤ 16384 ⌝ }
+    ensures { λ m. ⌜ T (not (isNan m)) ⌝ }
 {
-    let root = radial::root_guess(q);
-    roots_on_line(root, root_step(dq, root))
-}
-
-fn roots_on_line(root: u64, step: u64) -> Roots {
-    let last = std::num::wrapping_sub_u64(root, step);
-    let before = std::num::wrapping_sub_u64(last, step);
-    let third = std::num::wrapping_sub_u64(before, step);
-    Roots {
-        last,
-        before,
-        third,
-        part: part_of(third, std::num::wrapping_sub_u64(third, step)),
-    }
-}
-
-// About what the root grows by where Q grows by dq.
-fn root_step(dq: i64, root: u64) -> u64 {
-    if root == 0 {
-        return 0;
-    }
-    if dq < 0 {
-        return std::num::wrapping_sub_u64(0, ((-1 - dq) as u64) / root / 2);
-    }
-    (dq as u64) / root / 2
-}
-
-// 3c - 8b.
-fn part_of(b: u64, c: u64) -> u64 {
-    std::num::wrapping_sub_u64(triple(c), double(double(double(b))))
-}
-
-fn double(a: u64) -> u64 {
-    std::num::wrapping_add_u64(a, a)
-}
-
-fn triple(a: u64) -> u64 {
-    std::num::wrapping_add_u64(a, double(a))
+    std::num::nearest_i64_to_f64(65536 * r)
 }
 
 // A and Q at the pixel (x, y).

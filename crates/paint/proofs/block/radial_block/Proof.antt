@@ -38,7 +38,9 @@ pub radial-block-spec : {M : Type 1} → statement M
 radial-block-spec =
     tie.close
     (tie.spec
-    (λ c κs. let entry = c .before .before .before .before in ((entry .pre .0 .0, entry .pre .0 .1, entry .pre .0 .3), (entry .pre .1 .0, entry .pre .1 .1)))
+    (λ c κs.
+    let entry = c .before .before .before .before in
+    ((entry .pre .0 .0, entry .pre .0 .1, entry .pre .0 .3), (entry .pre .1 .0, entry .pre .1 .1, entry .pre .1 .3)))
     color-row-requires
     (λ c. search needs)
     (λ c. search needs)

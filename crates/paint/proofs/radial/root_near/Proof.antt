@@ -1,15 +1,14 @@
--- `radial::root_near` meets its contract: a step of Newton's ends at the root or above it, so a square that is not above n tells that it is the root.
-use mathlib.Core.Path.{_≡_, ap, _∙_}
-use Prim.Native.Nat.{ℕ, _+_, _/_, _≤_, _<_}
-use native.Mathlib.Nat.{div-le-self}
+-- `radial::root_near` meets its contract: n is the guess's square and a rest that is at most twice the guess, so below the next square.
+use mathlib.Core.Path.{_≡_, sym, ap, _∙_}
+use Prim.Native.Nat.{ℕ, _+_, _*_, _%_, _≤_, _<_}
+use native.Mathlib.Nat.{mul-le-mul}
 use native.Mathlib.Omega.{arith}
 use lib.IntN.{ℤ, natAbs}
 use mir.Syntax.{w64}
 use mir.Val.{toZ, ofZ}
 use mir.Facts.{toZ-ofZ}
-use borrow.Author.Needs.{needs}
 use Rattle.fixed.specs.Roots.{isqrt}
-use Rattle.fixed.proofs.Roots.{square-mono, newton-above, from-above}
+use Rattle.fixed.proofs.Roots.{only-root}
 use Rattle.paint.proofs.Focal.{natural-cast}
 use Rattle.paint.proofs.radial.root_near.Statement.{statement}
 use Rattle.paint.proofs.radial.root_near.Tie as tie
@@ -27,29 +26,31 @@ n-is s = ap (λ (z : ℤ). isqrt (natAbs z)) (toZ-ofZ (s .fits .q))
 n-small : (s : tie.Start) → n s < 1152921504606846976
 n-small s = rw (toZ-ofZ (s .fits .q)) (s .pre .1)
 
-add-near : tie.Need-add-near
-add-near c = let s = c .before .before in record { fits = omega (arith, c .if2 .taken, n-small s, div-le-self (n s) (s .args .guess)) }
+square-small : (g : ℕ) → g < 4294967296 → (g + 1) * (g + 1) ≤ 18446744073709551616
+square-small g h = let k : g + 1 ≤ 4294967296 = omega (arith, h) in mul-le-mul k k
 
-mul-if4 : tie.Need-mul-if4
-mul-if4 c =
-    let s = c .before .before .before in
-    let h : (s .args .guess + n s / s .args .guess) / 2 ≤ 1073741824 = omega (arith, c .if3 .taken) in
-    record { fits = omega (arith, square-mono h) }
+near-root : (n g rest : ℕ) → g < 4294967296 → (rest + g * g) % 18446744073709551616 ≡ n → rest ≤ 2 * g → g ≡ isqrt n
+near-root n g rest s e h =
+    let k = square-small g s in
+    let f : rest + g * g ≡ n = omega (arith, k, e, h) in
+    only-root n g (omega (arith, f)) (omega (arith, f, h))
 
-returns : tie.Need-returns
-returns c =
-    let s = c .before .before .before .before in
-    let g = s .args .guess in
-    from-above (n s) ((g + n s / g) / 2) (newton-above (n s) g (c .before .before .before .if1 .taken)) (c .if4 .taken) ∙ n-is s
+guess-small : (s : tie.Start) → s .args .guess < 4294967296
+guess-small s = s .fits .guess .fits
+
+mul-rest : (s : tie.Start) → s .args .guess * s .args .guess < 18446744073709551616
+mul-rest s = omega (arith, square-small (s .args .guess) (guess-small s))
 
 pub root-near-spec : {M : Type 1} → statement M
 root-near-spec =
     tie.close
     (tie.spec
     cast-n
-    (λ c. search needs)
-    add-near
-    mul-if4
-    returns
-    (λ c κs. n-small (c .before))
-    (λ c. c .isqrt-near .ensures ∙ n-is (c .before .before)))
+    (λ c. record { fits = mul-rest c })
+    (λ c κs. tt)
+    (λ c. record { fits = omega (arith, guess-small (c .before)) })
+    (λ c.
+    let s = c .before .before in
+    near-root (n s) (s .args .guess) _ (guess-small s) (c .before .wrapping-sub-u64 .ensures) (c .if1 .taken) ∙ n-is s)
+    (λ c κs. n-small (c .before .before))
+    (λ c. c .isqrt-near .ensures ∙ n-is (c .before .before .before)))
