@@ -1,7 +1,5 @@
 -- `guesses::half` does nothing undefined: both parts of n fit 32 bits.
-use native.Mathlib.Nat.{mod-lt}
 use native.Mathlib.Omega.{arith}
-use lib.IntN.{natAbs}
 use mir.Syntax.{w64}
 use Rattle.fixed.proofs.Means.{Num, need, keep, quot, rem, lit, tight}
 use Rattle.paint.proofs.Sizes.{sized, quotient-size, rest-size}

@@ -5,7 +5,6 @@ use native.Mathlib.Nat.{div-le-self}
 use native.Mathlib.Omega.{arith}
 use lib.IntN.{ℤ, pos, natAbs, _*ℤ_}
 use lib.ListN.{length}
-use lib.Signed.{_<ℤ_}
 use Rattle.fixed.specs.Floor.{floorDiv}
 use Rattle.fixed.proofs.Sign.{above-zero}
 use Rattle.lists.specs.Lists.{tab}
