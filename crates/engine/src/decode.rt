@@ -69,7 +69,7 @@ fn tint(d: &[u8]) -> Tint
 }
 
 // A pixel, by the colour transformation.
-fn tinted(tint: Tint, p: Pixel) -> Pixel
+pub fn tinted(tint: Tint, p: Pixel) -> Pixel
     ensures { λ r. ⌜ r ≡ tintedBy tint p ⌝ }
 {
     match tint {

@@ -1,20 +1,23 @@
 // A row of a gradient: its paint is made, and blended, only where the row is covered.
 use crate::Strip;
+use crate::Tint;
 use crate::TintedGradient;
+use crate::decode::tinted;
 use crate::rows::gradient_row;
 use paint::AnyGradient;
+use paint::LinearGradient;
 use raster::Range;
 ghost use mathlib.Core.Path.{_≡_};
-ghost use mathlib.Core.Bool.{true};
 ghost use Prim.Native.Nat.{_+_, _-_, _*_, _≤_, _<_};
 ghost use lib.ListN.{length, getD};
 ghost use Rattle.runs.specs.Runs.{startOf, expand};
 ghost use Rattle.raster.specs.Surface.{run, pixelIn};
+ghost use Rattle.paint.specs.Buffers.{LimitedPoints, HeldRamp, stopsIn, linearAt};
 ghost use Rattle.paint.specs.Circles.{HeldGradient};
 ghost use Rattle.blend.specs.PorterDuff.{compositeOn};
 ghost use Rattle.blend.specs.Rows.{compositeRow};
-ghost use Rattle.engine.specs.Rows.{gradientTinted, OnSurface, RowRoom, RowCoverage, PartOfRow};
-ghost use Rattle.engine.specs.Spans.{Uncovered, Level};
+ghost use Rattle.engine.specs.Rows.{tintedBy, gradientTinted, OnSurface, RowRoom, RowCoverage, PartOfRow};
+ghost use Rattle.engine.specs.Spans.{Uncovered};
 
 // The row, by its runs, so many of them. One colour is blended as a plain one is.
 pub fn shade_gradient(
@@ -37,60 +40,41 @@ pub fn shade_gradient(
         ⌝ }
 {
     let gradient = g.gradient;
-    if 0 < strip.length {
-        if is_level(gradient, ramp) {
-            shade_level(row, ramp, buffer, runs, count, mode, g, strip);
-            return;
+    match gradient {
+        AnyGradient::Linear(l) => {
+            let p = l.points;
+            if p.x0 == p.x1 {
+                let tint = g.tint;
+                shade_level(row, ramp, runs, count, mode, l, tint, strip);
+                return;
+            }
         }
+        AnyGradient::Radial(r) => {}
     }
     shade_parts(row, ramp, buffer, runs, count, mode, g, strip);
 }
 
-// Whether the colour is the same all along a row: a linear gradient straight up or down.
-fn is_level(g: AnyGradient, ramp: &[u32]) -> bool
-    requires { ⌜ HeldGradient g (now ramp) ⌝ }
-    ensures { λ r. ⌜ (r ≡ true → Level g (now (ramp .entry))) ⌝ }
-{
-    match g {
-        AnyGradient::Linear(l) => {
-            let p = l.points;
-            if p.x0 == p.x1 {
-                return true;
-            }
-            false
-        }
-        AnyGradient::Radial(r) => false,
-    }
-}
-
-// The same of one colour along the row: one pixel of paint is made.
+// The same of a linear gradient straight up or down, whose colour is one along the row: a pixel of paint is made, without a row for it.
 fn shade_level(
     row: &mut [u8],
     ramp: &[u32],
-    buffer: &mut [u8],
     runs: &[u16],
     count: usize,
     mode: u16,
-    g: TintedGradient,
+    l: LinearGradient,
+    tint: Tint,
     strip: Strip,
 )
-    requires { ⌜ Level (g .gradient) (now ramp) × (0 < strip .length) ⌝ }
-    requires { ⌜ HeldGradient (g .gradient) (now ramp) ⌝ }
-    requires { ⌜ OnSurface strip × (length (now row) ≡ strip .length * 4) × RowRoom (strip .length) (now buffer) (now runs) ⌝ }
+    requires { ⌜ LimitedPoints (l .points) × HeldRamp (now ramp) (l .count) × (l .points .x0 ≡ l .points .x1) ⌝ }
+    requires { ⌜ OnSurface strip × (length (now row) ≡ strip .length * 4) × (length (now runs) ≡ strip .length) ⌝ }
     requires { ⌜ RowCoverage (strip .length) (now runs) count ⌝ }
     ensures { λ _. ⌜
         now (row .exit)
         ≡ compositeRow mode (expand (now (runs .entry)) count) (λ i. 255)
-        (λ i. gradientTinted g (now (ramp .entry)) (strip .x + i) (strip .y)) (now (row .entry))
+        (λ i. tintedBy tint (linearAt l (stopsIn (now (ramp .entry)) (l .count)) (strip .x + i) (strip .y))) (now (row .entry))
         ⌝ }
 {
-    let first = Strip {
-        x: strip.x,
-        y: strip.y,
-        length: 1,
-    };
-    gradient_row(ramp, &mut buffer[0..4], g, first);
-    let p = raster::pixel(buffer, 0);
+    let p = tinted(tint, paint::row::linear_pixel(l, ramp, strip.x, strip.y));
     blend::composite_runs(mode, runs, count, p, row, strip.length);
 }
 

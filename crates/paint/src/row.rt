@@ -53,8 +53,8 @@ fn linear_row(g: LinearGradient, ramp: &[u32], x: usize, y: usize, n: usize, row
     sloped_row(AnyGradient::Linear(g), ramp, x, y, n, row);
 }
 
-// The pixel (x, y).
-fn linear_pixel(g: LinearGradient, ramp: &[u32], x: usize, y: usize) -> Pixel
+// The pixel (x, y) of a linear gradient.
+pub fn linear_pixel(g: LinearGradient, ramp: &[u32], x: usize, y: usize) -> Pixel
     requires { ⌜ LimitedPoints (g .points) × HeldRamp (now ramp) (g .count) ⌝ }
     requires { ⌜ (x ≤ 1024) × (y ≤ 1024) ⌝ }
     ensures { λ r. ⌜ r ≡ linearAt g (stopsIn (now (ramp .entry)) (g .count)) x y ⌝ }
