@@ -54,7 +54,7 @@ pub fn shade_gradient(
     shade_parts(row, ramp, buffer, runs, count, mode, g, strip);
 }
 
-// The same of a linear gradient straight up or down, whose colour is one along the row: a pixel of paint is made, without a row for it.
+// The same of a linear gradient straight up or down, which has one colour along the row: one pixel of paint is made.
 fn shade_level(
     row: &mut [u8],
     ramp: &[u32],

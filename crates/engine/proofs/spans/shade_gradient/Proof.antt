@@ -1,4 +1,4 @@
--- `spans::shade_gradient` meets its contract, of one colour along the row, as a linear gradient has whose points have one x, or of several.
+-- `spans::shade_gradient` meets its contract: points with one x are one colour along the row, and any other gradient goes part after part.
 use mathlib.Core.Path.{subst}
 use Rattle.paint.specs.declared.AnyGradient.{AnyGradient}
 use Rattle.paint.specs.Circles.{HeldGradient}
