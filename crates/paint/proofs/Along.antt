@@ -85,13 +85,13 @@ module _ (q : Quotient) (d : ℤ) (h : Proper q d) where
       .size)
       (omega (arith, fraction-small))
 
--- ---- the numbers of a line of at most 128 steps
-pub line-size : (first step : ℤ) (i : ℕ) → natAbs first ≤ 2305843009213693952 → natAbs step ≤ 18014398509481984 → i ≤ 128
-    → Within 4611686018427387904 (first +ℤ step *ℤ pos i)
+-- ---- the numbers of a line of at most 256 steps
+pub line-size : (first step : ℤ) (i : ℕ) → natAbs first ≤ 2305843009213693952 → natAbs step ≤ 18014398509481984 → i ≤ 256
+    → Within 6917529027641081856 (first +ℤ step *ℤ pos i)
 line-size first step i h k l =
     within-widen tt
     (within-add {m = 2305843009213693952} {a = first} (record { size = h })
-    (within-mul {m = 18014398509481984} {n = 128} {a = step} {b = pos i} (record { size = k }) (record { size = l })))
+    (within-mul {m = 18014398509481984} {n = 256} {a = step} {b = pos i} (record { size = k }) (record { size = l })))
 
 pub line-first : (first step : ℤ) → first ≡ first +ℤ step *ℤ pos 0
 line-first first step = P.eq (P.var first) (P.var first ⊕ P.var step ⊗ P.num 0) (omega arith)
@@ -129,7 +129,7 @@ inner-is (pos n) h =
 inner-is (negsuc n) h = absurd (h .above .le)
 
 -- ---- t by the high half of its bits
-pub high-half : (z : ℤ) → natAbs z ≤ 4611686018427387904 → Within 1073741824 (floorDiv z 4294967296)
+pub high-half : (z : ℤ) → natAbs z ≤ 6917529027641081856 → Within 1610612736 (floorDiv z 4294967296)
 high-half (pos n) h = record { size = omega arith }
 high-half (negsuc n) h = record { size = omega arith }
 
@@ -138,6 +138,13 @@ floor-twice (pos n) = ap pos (div-div-eq-div-mul n 4294967296 4096)
 floor-twice (negsuc n) = ap negsuc (div-div-eq-div-mul n 4294967296 4096)
 
 -- ---- t along a row
+-- n numbers below a limit that n times is at most what a whole has in parts
+pub below-limit : (n d l : ℕ) → n * l ≤ lineParts → d < l → (i : ℕ) → i < n → (i + 1) * d < lineParts
+below-limit n d l h k i f =
+    let few : i + 1 ≤ n = omega (arith, f) in
+    let less : d + 1 ≤ l = omega (arith, k) in
+    omega (arith, h, mul-le-mul few less)
+
 module _ (p : FixedPoints) (apart : natAbs (squaredLength p) ≡ 0 → ⊥) where
   proper : (z : ℤ) → Proper (quotientOf z (natAbs (squaredLength p))) (squaredLength p)
   proper z = record { rest = refl; divisor = is-positive (above (squared-is p) apart); below = rest-below z (natAbs (squaredLength p)) (positive p apart) }
@@ -159,13 +166,10 @@ module _ (p : FixedPoints) (apart : natAbs (squaredLength p) ≡ 0 → ⊥) wher
       (sym (shifted (p .x1 -ℤ p .x0) (p .x0) ((p .y1 -ℤ p .y0) *ℤ (centre y -ℤ p .y0)) x j))
       ∙ whole-is-t p apart (x + j) y
 
-  pub line-same : (spread x y i : ℕ) → Pads spread → i < 128 → natAbs (squaredLength p) < 137438953472
+  pub line-same : (spread x y i : ℕ) → Pads spread → (i + 1) * natAbs (squaredLength p) < lineParts
       → floorDiv (inParts (quotientAt p x y) (squaredLength p) +ℤ inParts (rowStep p) (squaredLength p) *ℤ pos i) lineParts
       ≡ mapped spread (linearT p (x + i) y)
-  line-same spread x y i pads few small =
-      let few' : i + 1 ≤ 128 = omega arith in
-      let small' : natAbs (squaredLength p) ≤ 137438953471 = omega arith in
-      let near : (i + 1) * natAbs (squaredLength p) < lineParts = omega (arith, mul-le-mul few' small') in
+  line-same spread x y i pads near =
       line-is-t x y i near ∙ sym (pads .same (linearT p (x + i) y))
 
 -- positions of equal t's

@@ -97,7 +97,7 @@ at-position spread premultiply ramp t = painted spread premultiply ramp t _ refl
 
 -- ---- the pixels of a row, whose t are f's
 module _ (n spread : ℕ) (f : ℕ → ℤ) (ks : List ℕ) (e : ks ≡ tab n (λ i. positionOf (mapped spread (f i)))) where
-  pub positions : n ≤ 128 → Positions ks
+  pub positions : n ≤ 256 → Positions ks
   positions h = record {
     few = omega (arith, ap length e ∙ tab-length n _);
     below = λ i l.

@@ -131,18 +131,19 @@ pub record Proper (q : Quotient) (d : ℤ) : Type 0 where
 pub record Pads (spread : ℕ) : Type 0 where
   pub same : (t : ℤ) → mapped spread t ≡ t
 
--- so small that the line has t at 128 pixels from q on, and fits 64 bits
-pub record Lined (spread : ℕ) (q step : Quotient) (d : ℤ) : Type 0 where
+-- so small that the line has t at n pixels from q on, and fits 64 bits
+pub record Lined (spread : ℕ) (q step : Quotient) (d : ℤ) (n : ℕ) : Type 0 where
   pub pads : Pads spread
   pub whole : natAbs (q .whole) < 131072
   pub growth : natAbs (step .whole) < 1024
   pub length : natAbs d < 137438953472
+  pub near : (i : ℕ) → i < n → (i + 1) * natAbs d < lineParts
 
--- t of the 128 pixels from (x, y) on, as the spread mode maps it, lies on the line, whose numbers fit 64 bits
-pub record Follows (g : LinearGradient) (x y : ℕ) (first step : ℤ) : Type 0 where
+-- t of the n pixels from (x, y) on, as the spread mode maps it, lies on the line, whose numbers fit 64 bits
+pub record Follows (g : LinearGradient) (x y n : ℕ) (first step : ℤ) : Type 0 where
   pub small : natAbs first ≤ 2305843009213693952
   pub slow : natAbs step ≤ 18014398509481984
-  pub same : (i : ℕ) → i < 128 → floorDiv (first +ℤ step *ℤ pos i) lineParts ≡ mapped (g .spread) (linearT (g .points) (x + i) y)
+  pub same : (i : ℕ) → i < n → floorDiv (first +ℤ step *ℤ pos i) lineParts ≡ mapped (g .spread) (linearT (g .points) (x + i) y)
 
 -- ---- a linear gradient as it is drawn
 abbrev pub linearAt : LinearGradient → List Stop → ℕ → ℕ → Pixel

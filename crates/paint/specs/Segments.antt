@@ -43,7 +43,7 @@ colorAtPosition premultiply ramp k = finished premultiply (rampAt ramp (tAt k))
 
 -- positions of a block's pixels
 pub record Positions (ks : List ℕ) : Type 0 where
-  pub few : length ks ≤ 128
+  pub few : length ks ≤ 256
   pub below : (i : ℕ) → i < length ks → getD ks i 0 ≤ 65537
 
 -- ---- the pixels of a block, each as one number in place of its position

@@ -35,7 +35,7 @@ const END: u32 = 65536;
 // The pixels from (x, y) on, as many as ks has room for.
 pub fn block(g: AnyGradient, ramp: &[u32], x: usize, y: usize, ks: &mut [u32], row: &mut [u8])
     requires { ⌜ HeldGradient g (now ramp) × Sloped g ⌝ }
-    requires { ⌜ (x + length (now ks) ≤ 1024) × (y ≤ 1024) × (length (now row) ≡ length (now ks) * 4) × (length (now ks) ≤ 128) ⌝ }
+    requires { ⌜ (x + length (now ks) ≤ 1024) × (y ≤ 1024) × (length (now row) ≡ length (now ks) * 4) × (length (now ks) ≤ 256) ⌝ }
     ensures { λ _. ⌜ now (row .exit) ≡ run (length (now (ks .entry))) (λ i. gradientAt g (now (ramp .entry)) (x + i) y) ⌝ }
 {
     match g {
@@ -46,7 +46,7 @@ pub fn block(g: AnyGradient, ramp: &[u32], x: usize, y: usize, ks: &mut [u32], r
 
 fn linear_block(g: LinearGradient, ramp: &[u32], x: usize, y: usize, ks: &mut [u32], row: &mut [u8])
     requires { ⌜ LimitedPoints (g .points) × HeldRamp (now ramp) (g .count) × (natAbs (squaredLength (g .points)) ≡ 0 → ⊥) ⌝ }
-    requires { ⌜ (x + length (now ks) ≤ 1024) × (y ≤ 1024) × (length (now row) ≡ length (now ks) * 4) × (length (now ks) ≤ 128) ⌝ }
+    requires { ⌜ (x + length (now ks) ≤ 1024) × (y ≤ 1024) × (length (now row) ≡ length (now ks) * 4) × (length (now ks) ≤ 256) ⌝ }
     ensures { λ _. ⌜ now (row .exit) ≡ run (length (now (ks .entry))) (λ i. linearAt g (stopsIn (now (ramp .entry)) (g .count)) (x + i) y) ⌝ }
 {
     let l = row_line(g, x, y, ks.len());
@@ -70,8 +70,8 @@ fn line_block(
     ks: &mut [u32],
     row: &mut [u8],
 )
-    requires { ⌜ HeldRamp (now ramp) 2 × (getD (now ramp) 2 0 ≡ 65536) × Follows g x y (l .first) (l .step) ⌝ }
-    requires { ⌜ (length (now row) ≡ length (now ks) * 4) × (length (now ks) ≤ 128) ⌝ }
+    requires { ⌜ HeldRamp (now ramp) 2 × (getD (now ramp) 2 0 ≡ 65536) × Follows g x y (length (now ks)) (l .first) (l .step) ⌝ }
+    requires { ⌜ (length (now row) ≡ length (now ks) * 4) × (length (now ks) ≤ 256) ⌝ }
     ensures { λ _. ⌜ now (row .exit) ≡ run (length (now (ks .entry))) (λ i. linearAt g (stopsIn (now (ramp .entry)) 2) (x + i) y) ⌝ }
 {
     line_words(
@@ -87,7 +87,7 @@ fn line_block(
 
 fn radial_block(g: RadialGradient, ramp: &[u32], x: usize, y: usize, ks: &mut [u32], row: &mut [u8])
     requires { ⌜ LimitedCircle (g .circle) × (focalAllowed (g .circle) ≡ true) × HeldRamp (now ramp) (g .count) × (pos 0 <ℤ g .circle .r) ⌝ }
-    requires { ⌜ (x + length (now ks) ≤ 1024) × (y ≤ 1024) × (length (now row) ≡ length (now ks) * 4) × (length (now ks) ≤ 128) ⌝ }
+    requires { ⌜ (x + length (now ks) ≤ 1024) × (y ≤ 1024) × (length (now row) ≡ length (now ks) * 4) × (length (now ks) ≤ 256) ⌝ }
     ensures { λ _. ⌜ now (row .exit) ≡ run (length (now (ks .entry))) (λ i. radialAt g (stopsIn (now (ramp .entry)) (g .count)) (x + i) y) ⌝ }
 {
     radial_positions(g, x, y, ks);

@@ -23,7 +23,7 @@ const WHOLE: f64 = 4503599627370496.0;
 // About the roots of Q at pixels one after the other, of the first of which it is q, and grows by dq, which grows by ddq; no root is above most.
 pub fn guess_roots(q: i64, dq: i64, ddq: i64, most: f64, ks: &mut [u32])
     requires { ⌜ (natAbs q ≤ 2305843009213693952) × (natAbs dq ≤ 2305843009213693952) × (natAbs ddq ≤ 2305843009213693952) ⌝ }
-    requires { ⌜ T (not (isNan most)) × (length (now ks) ≤ 128) ⌝ }
+    requires { ⌜ T (not (isNan most)) × (length (now ks) ≤ 256) ⌝ }
 {
     let bend = ddq / 2;
     let slope = dq - bend;
@@ -34,7 +34,7 @@ pub fn guess_roots(q: i64, dq: i64, ddq: i64, most: f64, ks: &mut [u32])
 // The same with room for about 1 / √Q, where Q is a parabola.
 fn guess_with(q: i64, slope: i64, bend: i64, most: f64, ks: &mut [u32], inverses: &mut [f32])
     requires { ⌜ (natAbs q < 4611686018427387904) × (natAbs slope < 4611686018427387904) × (natAbs bend < 4611686018427387904) ⌝ }
-    requires { ⌜ T (not (isNan most)) × (length (now ks) ≤ 128) × (length (now inverses) ≡ 128) ⌝ }
+    requires { ⌜ T (not (isNan most)) × (length (now ks) ≤ 256) × (length (now inverses) ≡ 256) ⌝ }
 {
     let n = ks.len();
     guess_inverses(half(q), half(slope), half(bend), &mut inverses[0..n]);
@@ -59,7 +59,7 @@ fn half(n: i64) -> f32
 
 // About 1 / √Q at pixels one after the other, where half of Q is a parabola.
 fn guess_inverses(first: f32, slope: f32, bend: f32, inverses: &mut [f32])
-    requires { ⌜ length (now inverses) ≤ 128 ⌝ }
+    requires { ⌜ length (now inverses) ≤ 256 ⌝ }
 {
     let mut i = 0;
     while i < inverses.len() {
@@ -87,7 +87,7 @@ fn capped(x: f32, most: f32) -> f32
 
 // About √Q at pixels one after the other, where Q times √½ is a parabola: a step of Newton's in twice as many bits, from about 1 / √Q.
 fn correct(first: f64, slope: f64, bend: f64, most: f64, inverses: &[f32], ks: &mut [u32])
-    requires { ⌜ T (not (isNan most)) × (length (now inverses) ≡ length (now ks)) × (length (now ks) ≤ 128) ⌝ }
+    requires { ⌜ T (not (isNan most)) × (length (now inverses) ≡ length (now ks)) × (length (now ks) ≤ 256) ⌝ }
 {
     let mut i = 0;
     while i < ks.len() {

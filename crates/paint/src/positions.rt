@@ -39,12 +39,15 @@ const PARTS_ROOT: u64 = 4194304;
 // How many of them the ramp has.
 const RAMP_PARTS: i64 = 1152921504606846976;
 
-// The line has t at each pixel of a block, and fits 64 bits, if these are below: the gradient's squared length, t at the first pixel, what t grows by.
+// The line has t at each of 128 pixels, and fits 64 bits, if these are below: the gradient's squared length, t at the first pixel, what t grows by.
 const LENGTH_LIMIT: i64 = 137438953472;
 
 const FIRST_LIMIT: i64 = 131072;
 
 const STEP_LIMIT: i64 = 1024;
+
+// The squared length of a gradient, of which it has t at each of 256.
+pub const SHORT_LIMIT: i64 = 68719476736;
 
 // For fewer pixels the divisions that begin a line leave little to save.
 const LINE_LEAST: usize = 16;
@@ -58,8 +61,8 @@ const RAMP_LAST: i32 = 65535;
 // without a division.
 pub fn linear_positions(g: LinearGradient, l: RowLine, x: usize, y: usize, ks: &mut [u32])
     requires { ⌜ LimitedPoints (g .points) × (natAbs (squaredLength (g .points)) ≡ 0 → ⊥) ⌝ }
-    requires { ⌜ (x + length (now ks) ≤ 1024) × (y ≤ 1024) × (length (now ks) ≤ 128) ⌝ }
-    requires { ⌜ (l .serves ≡ true → Follows g x y (l .first) (l .step)) ⌝ }
+    requires { ⌜ (x + length (now ks) ≤ 1024) × (y ≤ 1024) × (length (now ks) ≤ 256) ⌝ }
+    requires { ⌜ (l .serves ≡ true → Follows g x y (length (now ks)) (l .first) (l .step)) ⌝ }
     ensures { λ _. ⌜ now (ks .exit) ≡ tab (length (now (ks .entry))) (λ i. positionOf (mapped (g .spread) (linearT (g .points) (x + i) y))) ⌝ }
 {
     if l.serves {
@@ -76,8 +79,8 @@ pub fn linear_positions(g: LinearGradient, l: RowLine, x: usize, y: usize, ks: &
 // t of the n pixels from (x, y) on as a line, if there is one.
 pub fn row_line(g: LinearGradient, x: usize, y: usize, n: usize) -> RowLine
     requires { ⌜ LimitedPoints (g .points) × (natAbs (squaredLength (g .points)) ≡ 0 → ⊥) ⌝ }
-    requires { ⌜ (x ≤ 1024) × (y ≤ 1024) ⌝ }
-    ensures { λ l. ⌜ (l .serves ≡ true → Follows g x y (l .first) (l .step)) ⌝ }
+    requires { ⌜ (x ≤ 1024) × (y ≤ 1024) × (n ≤ 256) ⌝ }
+    ensures { λ l. ⌜ (l .serves ≡ true → Follows g x y n (l .first) (l .step)) ⌝ }
 {
     if n < LINE_LEAST {
         return no_line();
@@ -86,7 +89,7 @@ pub fn row_line(g: LinearGradient, x: usize, y: usize, n: usize) -> RowLine
     let d = gradient::squared_length(p);
     let step = gradient::row_step(p);
     let q = gradient::quotient_at(p, x, y);
-    if has_line(g.spread, q, step, d) {
+    if has_line(g.spread, q, step, d, n) {
         return RowLine {
             serves: true,
             first: in_parts(q, d),
@@ -106,9 +109,10 @@ fn no_line() -> RowLine
     }
 }
 
-// Whether a line serves.
-fn has_line(spread: u32, q: Quotient, step: Quotient, d: i64) -> bool
-    ensures { λ r. ⌜ (r ≡ true → Lined spread q step d) ⌝ }
+// Whether a line serves for n pixels.
+fn has_line(spread: u32, q: Quotient, step: Quotient, d: i64, n: usize) -> bool
+    requires { ⌜ n ≤ 256 ⌝ }
+    ensures { λ r. ⌜ (r ≡ true → Lined spread q step d n) ⌝ }
 {
     if !gradient::pads(spread) {
         return false;
@@ -119,7 +123,15 @@ fn has_line(spread: u32, q: Quotient, step: Quotient, d: i64) -> bool
     if !is_below(step.whole, STEP_LIMIT) {
         return false;
     }
-    is_below(d, LENGTH_LIMIT)
+    is_below(d, length_limit(n))
+}
+
+// Below which squared length a line has t at n pixels.
+fn length_limit(n: usize) -> i64
+    requires { ⌜ n ≤ 256 ⌝ }
+    ensures { λ r. ⌜ (n * natAbs r ≤ lineParts) × (natAbs r ≤ 137438953472) ⌝ }
+{
+    if n <= 128 { LENGTH_LIMIT } else { SHORT_LIMIT }
 }
 
 // Whether z is below n in size.
@@ -147,10 +159,10 @@ fn fraction(r: u64, d: u64) -> u64
     n / d * PARTS_ROOT + n % d * PARTS_ROOT / d
 }
 
-// The positions of pixels whose t is a line in parts, where the spread pads: plain sums of at most 2^61 + 128 * 2^54, which the compiler does several at
+// The positions of pixels whose t is a line in parts, where the spread pads: plain sums of at most 2^61 + 256 * 2^54, which the compiler does several at
 // a time.
 fn along_line(first: i64, step: i64, ks: &mut [u32])
-    requires { ⌜ (natAbs first ≤ 2305843009213693952) × (natAbs step ≤ 18014398509481984) × (length (now ks) ≤ 128) ⌝ }
+    requires { ⌜ (natAbs first ≤ 2305843009213693952) × (natAbs step ≤ 18014398509481984) × (length (now ks) ≤ 256) ⌝ }
     ensures { λ _. ⌜ now (ks .exit) ≡ tab (length (now (ks .entry))) (λ i. positionOf (floorDiv (first +ℤ step *ℤ pos i) lineParts)) ⌝ }
 {
     let mut t = first;
@@ -164,7 +176,7 @@ fn along_line(first: i64, step: i64, ks: &mut [u32])
 
 // The position of t in parts: t is in the high 32 bits, above 12 of the 44 that parts take.
 fn position_in_parts(t: i64) -> u32
-    requires { ⌜ natAbs t ≤ 4611686018427387904 ⌝ }
+    requires { ⌜ natAbs t ≤ 6917529027641081856 ⌝ }
     ensures { λ k. ⌜ k ≡ positionOf (floorDiv t lineParts) ⌝ }
 {
     padded(((t >> 32) as i32) >> 12)
@@ -182,7 +194,7 @@ fn padded(t: i32) -> u32
 // t of pixels whose t is a line in parts, cut to 0..65,535: twice, for two pairs of channels.
 pub fn line_ts(first: i64, step: i64, left: &mut [u16], right: &mut [u16])
     requires { ⌜ (natAbs first ≤ 2305843009213693952) × (natAbs step ≤ 18014398509481984) ⌝ }
-    requires { ⌜ (length (now right) ≡ length (now left)) × (length (now left) ≤ 128) ⌝ }
+    requires { ⌜ (length (now right) ≡ length (now left)) × (length (now left) ≤ 256) ⌝ }
     ensures { λ _. ⌜
         now (left .exit) ≡ tab (length (now (left .entry))) (λ i. min (positionOf (floorDiv (first +ℤ step *ℤ pos i) lineParts) - 1) 65535)
         ⌝ }
@@ -197,7 +209,7 @@ pub fn line_ts(first: i64, step: i64, left: &mut [u16], right: &mut [u16])
 
 // Whether t in parts lies on the ramp at the first of n pixels and behind the last of them: a line is between its ends, so it does at each of them.
 fn is_on_ramp(first: i64, step: i64, n: usize) -> bool
-    requires { ⌜ (natAbs first ≤ 2305843009213693952) × (natAbs step ≤ 18014398509481984) × (n ≤ 128) ⌝ }
+    requires { ⌜ (natAbs first ≤ 2305843009213693952) × (natAbs step ≤ 18014398509481984) × (n ≤ 256) ⌝ }
     ensures { λ r. ⌜ (r ≡ true → Inner first × Inner (first +ℤ step *ℤ pos n)) ⌝ }
 {
     let end = first + step * (n as i64);
@@ -241,7 +253,7 @@ fn inner_t(t: i64) -> u16
 // The same of any line.
 fn cut_ts(first: i64, step: i64, left: &mut [u16], right: &mut [u16])
     requires { ⌜ (natAbs first ≤ 2305843009213693952) × (natAbs step ≤ 18014398509481984) ⌝ }
-    requires { ⌜ (length (now right) ≡ length (now left)) × (length (now left) ≤ 128) ⌝ }
+    requires { ⌜ (length (now right) ≡ length (now left)) × (length (now left) ≤ 256) ⌝ }
     ensures { λ _. ⌜
         now (left .exit) ≡ tab (length (now (left .entry))) (λ i. min (positionOf (floorDiv (first +ℤ step *ℤ pos i) lineParts) - 1) 65535)
         ⌝ }
@@ -260,7 +272,7 @@ fn cut_ts(first: i64, step: i64, left: &mut [u16], right: &mut [u16])
 
 // t in parts, cut.
 fn cut_in_parts(t: i64) -> u16
-    requires { ⌜ natAbs t ≤ 4611686018427387904 ⌝ }
+    requires { ⌜ natAbs t ≤ 6917529027641081856 ⌝ }
     ensures { λ k. ⌜ k ≡ min (positionOf (floorDiv t lineParts) - 1) 65535 ⌝ }
 {
     cut(((t >> 32) as i32) >> 12)

@@ -36,7 +36,7 @@ const UNIT_IN_PARTS: u64 = 9223372036854775808;
 // The positions of the pixels from (x, y) on, of a radius above 0.
 pub fn radial_positions(g: RadialGradient, x: usize, y: usize, ks: &mut [u32])
     requires { ⌜ LimitedCircle (g .circle) × (focalAllowed (g .circle) ≡ true) × (pos 0 <ℤ g .circle .r) ⌝ }
-    requires { ⌜ (x + length (now ks) ≤ 1024) × (y ≤ 1024) × (length (now ks) ≤ 128) ⌝ }
+    requires { ⌜ (x + length (now ks) ≤ 1024) × (y ≤ 1024) × (length (now ks) ≤ 256) ⌝ }
     ensures { λ _. ⌜ now (ks .exit) ≡ tab (length (now (ks .entry))) (λ i. positionOf (mapped (g .spread) (radialT (g .circle) (x + i) y))) ⌝ }
 {
     let c = g.circle;
@@ -67,7 +67,7 @@ fn has_product(d: u64) -> bool
 // The positions of t as it is, which is where the spread pads, of a D of which one product gives t.
 fn padded_positions(c: Circle, d: u64, x: usize, y: usize, ks: &mut [u32])
     requires { ⌜ LimitedCircle c × (focalAllowed c ≡ true) × (pos 0 <ℤ c .r) × (pos d ≡ radialD c) × ByProduct d ⌝ }
-    requires { ⌜ (x + length (now ks) ≤ 1024) × (y ≤ 1024) × (length (now ks) ≤ 128) ⌝ }
+    requires { ⌜ (x + length (now ks) ≤ 1024) × (y ≤ 1024) × (length (now ks) ≤ 256) ⌝ }
     ensures { λ _. ⌜ now (ks .exit) ≡ tab (length (now (ks .entry))) (λ i. positionOf (radialT c (x + i) y)) ⌝ }
 {
     let scale = UNIT_IN_PARTS / d + 1;
@@ -97,7 +97,7 @@ fn padded_position(u: u64, d: u64, scale: u64) -> u32
 // The positions of t as any spread maps it, of any D.
 fn mapped_positions(g: RadialGradient, d: i64, x: usize, y: usize, ks: &mut [u32])
     requires { ⌜ LimitedCircle (g .circle) × (focalAllowed (g .circle) ≡ true) × (pos 0 <ℤ g .circle .r) × (d ≡ radialD (g .circle)) ⌝ }
-    requires { ⌜ (x + length (now ks) ≤ 1024) × (y ≤ 1024) × (length (now ks) ≤ 128) ⌝ }
+    requires { ⌜ (x + length (now ks) ≤ 1024) × (y ≤ 1024) × (length (now ks) ≤ 256) ⌝ }
     ensures { λ _. ⌜ now (ks .exit) ≡ tab (length (now (ks .entry))) (λ i. positionOf (mapped (g .spread) (radialT (g .circle) (x + i) y))) ⌝ }
 {
     let c = g.circle;

@@ -4,13 +4,14 @@ use crate::LinearGradient;
 use crate::RadialGradient;
 use crate::block::block;
 use crate::gradient;
+use crate::positions::SHORT_LIMIT;
 use crate::shade::gradient_color;
 use crate::words::BLOCK;
 use color::Color;
 use color::Pixel;
 ghost use mathlib.Core.Path.{_≡_};
 ghost use mathlib.Core.Bool.{true};
-ghost use Prim.Native.Nat.{_+_, _*_, _≤_, min};
+ghost use Prim.Native.Nat.{_+_, _*_, _≤_, _<_, min};
 ghost use lib.ListN.{length};
 ghost use Rattle.color.specs.Channels.{bytesOfColor, premultiplied};
 ghost use Rattle.raster.specs.Surface.{run};
@@ -91,26 +92,45 @@ fn sloped_row(g: AnyGradient, ramp: &[u32], x: usize, y: usize, n: usize, row: &
     ensures { λ _. ⌜ now (row .exit) ≡ run n (λ i. gradientAt g (now (ramp .entry)) (x + i) y) ⌝ }
 {
     let mut ks = [0; BLOCK];
-    blocks(g, ramp, x, y, n, row, &mut ks);
+    blocks(g, ramp, x, y, n, block_size(g, ramp), row, &mut ks);
 }
 
-// The same with room for the positions of a block.
+// How many pixels are made at a time: half a block of a long gradient, so that t is a line there too.
+fn block_size(g: AnyGradient, ramp: &[u32]) -> usize
+    requires { ⌜ HeldGradient g (now ramp) ⌝ }
+    ensures { λ r. ⌜ (0 < r) × (r ≤ 256) ⌝ }
+{
+    match g {
+        AnyGradient::Linear(l) => {
+            let p = l.points;
+            if gradient::squared_length(p) < SHORT_LIMIT {
+                BLOCK
+            } else {
+                BLOCK / 2
+            }
+        }
+        AnyGradient::Radial(r) => BLOCK,
+    }
+}
+
+// The same so many pixels at a time, with room for the positions of a block.
 fn blocks(
     g: AnyGradient,
     ramp: &[u32],
     x: usize,
     y: usize,
     n: usize,
+    size: usize,
     row: &mut [u8],
     ks: &mut [u32],
 )
-    requires { ⌜ HeldGradient g (now ramp) × Sloped g × (length (now ks) ≡ 128) ⌝ }
+    requires { ⌜ HeldGradient g (now ramp) × Sloped g × (length (now ks) ≡ 256) × (0 < size) × (size ≤ 256) ⌝ }
     requires { ⌜ (x + n ≤ 1024) × (y ≤ 1024) × (length (now row) ≡ n * 4) ⌝ }
     ensures { λ _. ⌜ now (row .exit) ≡ run n (λ i. gradientAt g (now (ramp .entry)) (x + i) y) ⌝ }
 {
     let mut i = 0;
     while i < n {
-        let e = least(i + BLOCK, n);
+        let e = least(i + size, n);
         let m = e - i;
         let from = i * 4;
         let to = e * 4;

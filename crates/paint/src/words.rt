@@ -18,7 +18,7 @@ ghost use Rattle.paint.specs.Buffers.{unpacked, lineParts};
 ghost use Rattle.paint.specs.Segments.{Words, Planes, Covering, OnRamp, finished, positionOf, twoStops, mixPair, leftPair, rightPair, ofPairs};
 
 // How many pixels are made at a time.
-pub const BLOCK: usize = 128;
+pub const BLOCK: usize = 256;
 
 // A pixel as one number.
 pub fn word(c: Pixel) -> u32
@@ -29,7 +29,7 @@ pub fn word(c: Pixel) -> u32
 
 // The colours between two stops at 0 and 65,536 in place of positions.
 pub fn mix_words(c: Pixel, d: Pixel, ks: &mut [u32])
-    requires { ⌜ length (now ks) ≤ 128 ⌝ }
+    requires { ⌜ length (now ks) ≤ 256 ⌝ }
     ensures { λ _. ⌜ Words (λ i. twoStops c d (getD (now (ks .entry)) i 0)) (length (now (ks .entry))) (now (ks .exit)) ⌝ }
 {
     let mut left = [0u16; BLOCK];
@@ -39,7 +39,7 @@ pub fn mix_words(c: Pixel, d: Pixel, ks: &mut [u32])
 
 // The same with room for the pairs of a block.
 fn mix_in(c: Pixel, d: Pixel, left: &mut [u16], right: &mut [u16], ks: &mut [u32])
-    requires { ⌜ (length (now left) ≡ 128) × (length (now right) ≡ 128) × (length (now ks) ≤ 128) ⌝ }
+    requires { ⌜ (length (now left) ≡ 256) × (length (now right) ≡ 256) × (length (now ks) ≤ 256) ⌝ }
     ensures { λ _. ⌜ Words (λ i. twoStops c d (getD (now (ks .entry)) i 0)) (length (now (ks .entry))) (now (ks .exit)) ⌝ }
 {
     let n = ks.len();
@@ -48,7 +48,7 @@ fn mix_in(c: Pixel, d: Pixel, left: &mut [u16], right: &mut [u16], ks: &mut [u32
 
 // The same with as much room as there are pixels.
 fn mix_planes(c: Pixel, d: Pixel, left: &mut [u16], right: &mut [u16], ks: &mut [u32])
-    requires { ⌜ (length (now left) ≡ length (now ks)) × (length (now right) ≡ length (now ks)) × (length (now ks) ≤ 128) ⌝ }
+    requires { ⌜ (length (now left) ≡ length (now ks)) × (length (now right) ≡ length (now ks)) × (length (now ks) ≤ 256) ⌝ }
     ensures { λ _. ⌜ Words (λ i. twoStops c d (getD (now (ks .entry)) i 0)) (length (now (ks .entry))) (now (ks .exit)) ⌝ }
 {
     take_ts(ks, left, right);
@@ -57,7 +57,7 @@ fn mix_planes(c: Pixel, d: Pixel, left: &mut [u16], right: &mut [u16], ks: &mut 
 
 // The colours between two stops at 0 and 65,536 of pixels whose t is a line, premultiplied if the stops were not.
 pub fn line_words(premultiply: bool, c: Pixel, d: Pixel, first: i64, step: i64, ws: &mut [u32])
-    requires { ⌜ (natAbs first ≤ 2305843009213693952) × (natAbs step ≤ 18014398509481984) × (length (now ws) ≤ 128) ⌝ }
+    requires { ⌜ (natAbs first ≤ 2305843009213693952) × (natAbs step ≤ 18014398509481984) × (length (now ws) ≤ 256) ⌝ }
     ensures { λ _. ⌜
         Words (λ i. finished premultiply (twoStops c d (positionOf (floorDiv (first +ℤ step *ℤ pos i) lineParts))))
         (length (now (ws .entry))) (now (ws .exit))
@@ -80,7 +80,7 @@ fn line_in(
     ws: &mut [u32],
 )
     requires { ⌜ (natAbs first ≤ 2305843009213693952) × (natAbs step ≤ 18014398509481984) ⌝ }
-    requires { ⌜ (length (now left) ≡ 128) × (length (now right) ≡ 128) × (length (now ws) ≤ 128) ⌝ }
+    requires { ⌜ (length (now left) ≡ 256) × (length (now right) ≡ 256) × (length (now ws) ≤ 256) ⌝ }
     ensures { λ _. ⌜
         Words (λ i. finished premultiply (twoStops c d (positionOf (floorDiv (first +ℤ step *ℤ pos i) lineParts))))
         (length (now (ws .entry))) (now (ws .exit))
@@ -111,7 +111,7 @@ fn line_planes(
     ws: &mut [u32],
 )
     requires { ⌜ (natAbs first ≤ 2305843009213693952) × (natAbs step ≤ 18014398509481984) ⌝ }
-    requires { ⌜ (length (now left) ≡ length (now ws)) × (length (now right) ≡ length (now ws)) × (length (now ws) ≤ 128) ⌝ }
+    requires { ⌜ (length (now left) ≡ length (now ws)) × (length (now right) ≡ length (now ws)) × (length (now ws) ≤ 256) ⌝ }
     ensures { λ _. ⌜
         Words (λ i. finished premultiply (twoStops c d (positionOf (floorDiv (first +ℤ step *ℤ pos i) lineParts))))
         (length (now (ws .entry))) (now (ws .exit))
@@ -124,7 +124,7 @@ fn line_planes(
 
 // t at each position, for both pairs.
 fn take_ts(ks: &[u32], left: &mut [u16], right: &mut [u16])
-    requires { ⌜ (length (now left) ≡ length (now ks)) × (length (now right) ≡ length (now ks)) × (length (now ks) ≤ 128) ⌝ }
+    requires { ⌜ (length (now left) ≡ length (now ks)) × (length (now right) ≡ length (now ks)) × (length (now ks) ≤ 256) ⌝ }
     ensures { λ _. ⌜ now (left .exit) ≡ tab (length (now (ks .entry))) (λ i. min (getD (now (ks .entry)) i 0 - 1) 65535) ⌝ }
     ensures { λ _. ⌜ now (right .exit) ≡ now (left .exit) ⌝ }
 {
@@ -153,7 +153,7 @@ fn least(a: u32, b: u32) -> u32
 // The colours at t, which both left and right hold. Equal alphas have no way of their own here: one more loop, built in beside the segments, would leave
 // the compiler too few registers for theirs.
 fn mix_ts(c: Pixel, d: Pixel, left: &mut [u16], right: &mut [u16], ws: &mut [u32])
-    requires { ⌜ OnRamp (now left) × (now right ≡ now left) × (length (now left) ≡ length (now ws)) × (length (now ws) ≤ 128) ⌝ }
+    requires { ⌜ OnRamp (now left) × (now right ≡ now left) × (length (now left) ≡ length (now ws)) × (length (now ws) ≤ 256) ⌝ }
     ensures { λ _. ⌜ Words (λ i. mixPixel 0 65536 (getD (now (left .entry)) i 0) c d) (length (now (ws .entry))) (now (ws .exit)) ⌝ }
 {
     mix_pairs(c.r, d.r, c.g, d.g, left);
@@ -163,7 +163,7 @@ fn mix_ts(c: Pixel, d: Pixel, left: &mut [u16], right: &mut [u16], ws: &mut [u32
 
 // Pairs of the colours at t in place of t, premultiplied if the stops were not. Between two alphas of 255 that changes nothing.
 fn mix_finished(premultiply: bool, c: Pixel, d: Pixel, left: &mut [u16], right: &mut [u16])
-    requires { ⌜ OnRamp (now left) × (now right ≡ now left) × (length (now left) ≤ 128) ⌝ }
+    requires { ⌜ OnRamp (now left) × (now right ≡ now left) × (length (now left) ≤ 256) ⌝ }
     ensures { λ _. ⌜
         Planes (λ i. finished premultiply (mixPixel 0 65536 (getD (now (left .entry)) i 0) c d))
         (length (now (left .entry))) (now (left .exit)) (now (right .exit))
@@ -181,7 +181,7 @@ fn mix_finished(premultiply: bool, c: Pixel, d: Pixel, left: &mut [u16], right: 
 
 // Pairs of the colours at t in place of t: R and G in left, B and A in right. Numbers of 16 bits are multiplied eight at a time.
 fn mix_colors(c: Pixel, d: Pixel, left: &mut [u16], right: &mut [u16])
-    requires { ⌜ OnRamp (now left) × (now right ≡ now left) × (length (now left) ≤ 128) ⌝ }
+    requires { ⌜ OnRamp (now left) × (now right ≡ now left) × (length (now left) ≤ 256) ⌝ }
     ensures { λ _. ⌜
         Planes (λ i. mixPixel 0 65536 (getD (now (left .entry)) i 0) c d) (length (now (left .entry))) (now (left .exit)) (now (right .exit))
         ⌝ }
@@ -192,7 +192,7 @@ fn mix_colors(c: Pixel, d: Pixel, left: &mut [u16], right: &mut [u16])
 
 // Two channels in place of t.
 fn mix_pairs(ci: u8, cj: u8, di: u8, dj: u8, ts: &mut [u16])
-    requires { ⌜ length (now ts) ≤ 128 ⌝ }
+    requires { ⌜ length (now ts) ≤ 256 ⌝ }
     ensures { λ _. ⌜ now (ts .exit) ≡ tab (length (now (ts .entry))) (λ i. mixPair ci cj di dj (getD (now (ts .entry)) i 0)) ⌝ }
 {
     let mut i = 0;
@@ -204,7 +204,7 @@ fn mix_pairs(ci: u8, cj: u8, di: u8, dj: u8, ts: &mut [u16])
 
 // A channel and alpha in place of t. An alpha that both stops have needs no mixing.
 fn mix_with_alpha(ci: u8, cj: u8, ai: u8, aj: u8, ts: &mut [u16])
-    requires { ⌜ length (now ts) ≤ 128 ⌝ }
+    requires { ⌜ length (now ts) ≤ 256 ⌝ }
     ensures { λ _. ⌜ now (ts .exit) ≡ tab (length (now (ts .entry))) (λ i. mixPair ci cj ai aj (getD (now (ts .entry)) i 0)) ⌝ }
 {
     if ai == aj {
@@ -216,7 +216,7 @@ fn mix_with_alpha(ci: u8, cj: u8, ai: u8, aj: u8, ts: &mut [u16])
 
 // The same of two stops with one alpha.
 fn mix_under_alpha(ci: u8, cj: u8, a: u8, ts: &mut [u16])
-    requires { ⌜ length (now ts) ≤ 128 ⌝ }
+    requires { ⌜ length (now ts) ≤ 256 ⌝ }
     ensures { λ _. ⌜ now (ts .exit) ≡ tab (length (now (ts .entry))) (λ i. mixPair ci cj a a (getD (now (ts .entry)) i 0)) ⌝ }
 {
     let mut i = 0;
@@ -272,7 +272,7 @@ fn one_less(a: u16) -> u16
 
 // The pixels of two planes of pairs premultiplied.
 fn premultiply_pairs(left: &mut [u16], right: &mut [u16])
-    requires { ⌜ (length (now right) ≡ length (now left)) × (length (now left) ≤ 128) ⌝ }
+    requires { ⌜ (length (now right) ≡ length (now left)) × (length (now left) ≤ 256) ⌝ }
     ensures { λ _. ⌜
         now (left .exit)
         ≡ tab (length (now (left .entry))) (λ i. leftPair (premultiplied (ofPairs (getD (now (left .entry)) i 0) (getD (now (right .entry)) i 0))))
@@ -320,7 +320,7 @@ fn pair(low: u8, high: u8) -> u16
 
 // Two planes of pairs as one of words.
 fn join(left: &[u16], right: &[u16], ws: &mut [u32])
-    requires { ⌜ (length (now left) ≡ length (now ws)) × (length (now right) ≡ length (now ws)) × (length (now ws) ≤ 128) ⌝ }
+    requires { ⌜ (length (now left) ≡ length (now ws)) × (length (now right) ≡ length (now ws)) × (length (now ws) ≤ 256) ⌝ }
     ensures { λ _. ⌜ now (ws .exit) ≡ tab (length (now (ws .entry))) (λ i. getD (now (left .entry)) i 0 + getD (now (right .entry)) i 0 * 65536) ⌝ }
 {
     let mut i = 0;

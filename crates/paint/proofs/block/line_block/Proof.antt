@@ -40,7 +40,7 @@ colored c i h =
     c .line-words .ensures .color i h
     ∙ ap₂ (λ (u v : ℤ). finished (a .g .premultiply) (twoStops (first .result) (second .result) (positionOf (floorDiv (u +ℤ v *ℤ pos i) lineParts))))
     (clean w64 2305843009213693952 (a .l .first) tt (f .small)) (clean w64 18014398509481984 (a .l .step) tt (f .slow))
-    ∙ ap (λ (u : ℤ). finished (a .g .premultiply) (twoStops (first .result) (second .result) (positionOf u))) (f .same i (omega (arith, h, entry .pre .1 .1)))
+    ∙ ap (λ (u : ℤ). finished (a .g .premultiply) (twoStops (first .result) (second .result) (positionOf u))) (f .same i h)
     ∙ painted (a .g .spread) (a .g .premultiply) (stopsIn (a .ramp .now) 2) t _
     (ap₂ (λ (p q : Pixel). twoStops p q (positionOf u)) (first .ensures) (second .ensures)
     ∙ two-colors (a .ramp .now) (entry .pre .0 .0) (entry .pre .0 .1) (positionOf u) (position-small u))

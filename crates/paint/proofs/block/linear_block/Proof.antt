@@ -19,7 +19,7 @@ t c i = linearT (c .args .g .points) (c .args .x + i) (c .args .y)
 row-line-requires : tie.Need-row-line-requires
 row-line-requires c κs =
     let entry = c .before .before .before in
-    ((entry .pre .0 .0, entry .pre .0 .2), (omega (arith, entry .pre .1 .0), entry .pre .1 .1))
+    ((entry .pre .0 .0, entry .pre .0 .2), (omega (arith, entry .pre .1 .0), entry .pre .1 .1, entry .pre .1 .3))
 
 line-block-requires : tie.Need-line-block-requires
 line-block-requires c κs =

@@ -21,7 +21,7 @@ start c = c .before .before .before .before
 
 -- the position is one of the block
 inside : (c : tie.In-loop Inv-loop μ-loop)
-    → let n = length (start (c .before) .args .ks .now) in (c .before .loop .i < n) × (n ≤ 128) × (length (c .before .loop .ks) ≡ n)
+    → let n = length (start (c .before) .args .ks .now) in (c .before .loop .i < n) × (n ≤ 256) × (length (c .before .loop .ks) ≡ n)
 inside c =
     let l = c .before .loop .inv in
     (omega (arith, c .loop-test .taken, l .2 .long), start (c .before) .pre .1 .few, l .2 .long)

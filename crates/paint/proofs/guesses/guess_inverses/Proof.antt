@@ -1,4 +1,4 @@
--- `guesses::guess_inverses` does nothing undefined: a number below 128 is a float.
+-- `guesses::guess_inverses` does nothing undefined: a number below 256 is a float.
 use mathlib.Core.Path.{_≡_, refl, _∙_}
 use Prim.Native.Nat.{_-_, _≤_, _<_}
 use native.Mathlib.Omega.{arith}
@@ -15,7 +15,7 @@ abbrev μ-loop : tie.MeasureT-loop
 abbrev start : tie.At-loop Inv-loop μ-loop → tie.Start Inv-loop μ-loop
 start c = c .before .before
 
-inside : (c : tie.In-loop Inv-loop μ-loop) → let n = length (start (c .before) .args .inverses .now) in (c .before .loop .i < n) × (n ≤ 128)
+inside : (c : tie.In-loop Inv-loop μ-loop) → let n = length (start (c .before) .args .inverses .now) in (c .before .loop .i < n) × (n ≤ 256)
 inside c = (omega (arith, c .loop-test .taken, c .before .loop .inv), start (c .before) .pre)
 
 pub guess-inverses-spec : {M : Type 1} → statement M

@@ -12,7 +12,7 @@ abbrev first : tie.Start → Num
 first c = sized 2305843009213693952 (c .args .first) tt (c .pre .0)
 
 abbrev growth : tie.Start → Num
-growth c = mul (sized 18014398509481984 (c .args .step) tt (c .pre .1)) (of-nat w64 (c .args .n) 128 (c .pre .2) tt)
+growth c = mul (sized 18014398509481984 (c .args .step) tt (c .pre .1)) (of-nat w64 (c .args .n) 256 (c .pre .2) tt)
 
 abbrev end : tie.Start → Num
 end c = add (first c) (keep w64 (growth c) tt)

@@ -36,7 +36,7 @@ returns c =
     ∙ ap₂ (λ (first step : ℤ). tab n (λ i. positionOf (floorDiv (first +ℤ step *ℤ pos i) lineParts)))
     (clean w64 2305843009213693952 (a .l .first) tt (f .small)) (clean w64 18014398509481984 (a .l .step) tt (f .slow))
     ∙ positions-same n (λ i. floorDiv (a .l .first +ℤ a .l .step *ℤ pos i) lineParts)
-    (λ i. mapped (a .g .spread) (linearT (a .g .points) (a .x + i) (a .y))) (λ i h. f .same i (omega (arith, h, entry .pre .1 .0 .2)))
+    (λ i. mapped (a .g .spread) (linearT (a .g .points) (a .x + i) (a .y))) (λ i h. f .same i h)
 
 -- ---- none does
 length-is : (c : tie.After-quotient-at)

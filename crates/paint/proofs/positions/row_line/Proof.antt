@@ -23,12 +23,12 @@ length-is c =
 quotient-at-requires : tie.Need-quotient-at-requires
 quotient-at-requires c κs =
     let entry = c .before .before .before .before in
-    (entry .pre .0, entry .pre .1)
+    (entry .pre .0, (entry .pre .1 .0, entry .pre .1 .1))
 
 -- ---- a line serves
 lined : (c : tie.Then2)
     → let a = start (c .before .before) .args in
-    let p = a .g .points in Lined (a .g .spread) (quotientAt p (a .x) (a .y)) (rowStep p) (squaredLength p)
+    let p = a .g .points in Lined (a .g .spread) (quotientAt p (a .x) (a .y)) (rowStep p) (squaredLength p) (a .n)
 lined c =
     let known = c .before .before in
     rw (known .quotient-at .ensures, known .before .row-step .ensures, length-is known) at (c .before .has-line .ensures (c .if2 .taken))
@@ -73,7 +73,7 @@ returns-2 c e =
     (record {
       small = parts-small (quotientAt p (a .x) (a .y)) (squaredLength p) (at-proper p apart (a .x) (a .y)) 131072 (lined then2 .whole);
       slow = parts-small (rowStep p) (squaredLength p) (step-proper p apart) 1024 (lined then2 .growth);
-      same = λ i h. line-same p apart (a .g .spread) (a .x) (a .y) i (lined then2 .pads) h (lined then2 .length);
+      same = λ i h. line-same p apart (a .g .spread) (a .x) (a .y) i (lined then2 .pads) (lined then2 .near i h);
     })
 
 pub row-line-spec : {M : Type 1} → statement M
@@ -85,7 +85,7 @@ row-line-spec =
     (λ c κs. c .before .before .pre .0 .0)
     (λ c κs. c .before .before .before .pre .0)
     quotient-at-requires
-    (λ c κs. tt)
+    (λ c κs. start c .pre .1 .2)
     in-parts-requires
     in-parts-requires-2
     returns-2

@@ -14,10 +14,10 @@ use Rattle.paint.proofs.row.blocks.Statement.{statement}
 use Rattle.paint.proofs.row.blocks.Tie as tie
 
 abbrev Inv-loop : tie.InvT-loop
-Inv-loop g ramp x y n row₀ ks₀ i₀ row ks i = (i ≤ n) × (length ks ≡ 128) × Stored (λ k. gradientAt g ramp (x + k) y) row₀ i row
+Inv-loop g ramp x y n size row₀ ks₀ i₀ row ks i = (i ≤ n) × (length ks ≡ 256) × Stored (λ k. gradientAt g ramp (x + k) y) row₀ i row
 
 abbrev μ-loop : tie.MeasureT-loop
-μ-loop g ramp x y n row₀ ks₀ i₀ row ks i = n - i
+μ-loop g ramp x y n size row₀ ks₀ i₀ row ks i = n - i
 
 -- a part given back has the length that it had
 given-back : (s q : List ℕ) (m : ℕ) → length q ≡ m - 0 → m ≤ length s → length (take 0 s ++ (q ++ drop (m - 0) (drop 0 s))) ≡ length s
@@ -28,11 +28,12 @@ start c = c .before .before .before .before
 
 -- where the block ends
 ends : (c : tie.After-least Inv-loop μ-loop)
-    → let l = c .before .before in (l .loop .i < c .least .result) × (c .least .result ≤ l .loop .i + 128) × (c .least .result ≤ start l .args .n)
+    → let l = c .before .before in (l .loop .i < c .least .result) × (c .least .result ≤ l .loop .i + 256) × (c .least .result ≤ start l .args .n)
 ends c =
     let e = c .least .ensures in
     let t = c .before .loop-test .taken in
-    (omega (arith, e, t), omega (arith, e), omega (arith, e))
+    let p = start (c .before .before) .pre .0 in
+    (omega (arith, e, t, p .3), omega (arith, e, p .4), omega (arith, e))
 
 row-long : (c : tie.At-loop Inv-loop μ-loop) → length (c .loop .row) ≡ start c .args .n * 4
 row-long c = c .loop .inv .2 .long ∙ start c .pre .1 .2
@@ -83,7 +84,7 @@ blocks-spec =
     Inv-loop
     μ-loop
     (λ c. (omega arith, c .before .before .before .pre .0 .2, stored-none _ _))
-    (λ c. let l = c .before in record { fits = omega (arith, c .loop-test .taken, start l .pre .1 .0) })
+    (λ c. let l = c .before in record { fits = omega (arith, c .loop-test .taken, start l .pre .1 .0, start l .pre .0 .4) })
     (λ c κs. tt)
     (λ c. let h = ends c in omega (arith, h .0))
     (λ c. let h = ends c in record { fits = omega (arith, h .0, h .2, start (c .before .before) .pre .1 .0) })
