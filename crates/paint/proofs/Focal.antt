@@ -31,7 +31,7 @@ use Rattle.paint.specs.declared.Stop.{Stop}
 use Rattle.paint.proofs.Lagrange.{lagrange}
 
 -- ---- numbers that are not negative
-square-is : (z : ℤ) → z *ℤ z ≡ pos (natAbs z * natAbs z)
+pub square-is : (z : ℤ) → z *ℤ z ≡ pos (natAbs z * natAbs z)
 square-is (pos n) = refl
 square-is (negsuc n) = refl
 
@@ -75,7 +75,7 @@ d-small c a h = inside-small (c .r) (c .fx -ℤ c .cx) (c .fy -ℤ c .cy) h a
 
 -- ---- A, Q and D of plain numbers
 module _ (r u v f g : ℤ) (h : pos 0 <ℤ inside r f g) where
-  q-is : underRoot r u v f g ≡ pos (natAbs (along u v f g) * natAbs (along u v f g) + natAbs (inside r f g) * (natAbs u * natAbs u + natAbs v * natAbs v))
+  pub q-is : underRoot r u v f g ≡ pos (natAbs (along u v f g) * natAbs (along u v f g) + natAbs (inside r f g) * (natAbs u * natAbs u + natAbs v * natAbs v))
   q-is =
       lagrange r u v f g
       ∙ ap₂ _+ℤ_ (square-is (along u v f g)) (ap₂ _*ℤ_ (is-positive h) (ap₂ _+ℤ_ (square-is u) (square-is v)))

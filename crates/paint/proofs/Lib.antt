@@ -11,6 +11,7 @@
 -- Radial gradients:
 --     Lagrange    Q is A² + D (dx² + dy²)
 --     Focal       so Q and t are not negative where the focal point is inside the circle; how large the numbers of t are
+--     Outer       on and outside the circle t is at least 65,536; the pixels of a row that may lie inside
 --     Differences A and Q from pixel to pixel of a row
 --     Onward      what a loop over the pixels of a row keeps
 --
@@ -49,6 +50,7 @@ pub mod Lookup
 pub mod Serving
 pub mod Placing
 pub mod Begins
+pub mod Outer
 pub mod Built
 pub mod Ends
 pub mod Sound

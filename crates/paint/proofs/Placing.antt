@@ -90,7 +90,7 @@ pub painted : (spread : ℕ) (premultiply : Bool) (ramp : List Stop) (t : ℤ) (
 unfolding gradientColor finished
 painted spread premultiply ramp t p e = ap (finished premultiply) (e ∙ same-color ramp (mapped spread t))
 
-at-position : (spread : ℕ) (premultiply : Bool) (ramp : List Stop) (t : ℤ)
+pub at-position : (spread : ℕ) (premultiply : Bool) (ramp : List Stop) (t : ℤ)
     → colorAtPosition premultiply ramp (positionOf (mapped spread t)) ≡ gradientColor spread premultiply ramp t
 unfolding colorAtPosition
 at-position spread premultiply ramp t = painted spread premultiply ramp t _ refl

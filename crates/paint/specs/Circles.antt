@@ -1,17 +1,20 @@
 -- How the code holds a radial gradient, A and Q along a row, and a gradient of either kind. Only the proofs need it: a reviewer of the paper need not read it.
-use Prim.Native.Nat.{ℕ, _+_, _*_, _/_, _%_, _≤_, _<_}
+use Prim.Native.Nat.{ℕ, _+_, _*_, _/_, _%_, _≤_, _<_, min}
 use mathlib.Core.Path.{_≡_}
 use mathlib.Core.Logic.{_⊎_}
 use mathlib.Core.Bool.{true}
 use mathlib.Core.List.{List}
-use lib.IntN.{ℤ, pos, natAbs, _+ℤ_, _-ℤ_, _*ℤ_}
+use lib.IntN.{ℤ, pos, negsuc, natAbs, _+ℤ_, _-ℤ_, _*ℤ_}
+use lib.Signed.{_≤ℤ_}
 use Rattle.color.specs.declared.Pixel.{Pixel}
+use Rattle.paint.specs.Gradient.{rampUnit}
 use Rattle.paint.specs.Radial.{along, underRoot, fromFocus, radialT, focalAllowed}
 use Rattle.paint.specs.Paints.{gradientColor}
 use Rattle.paint.specs.Buffers.{LimitedPoints, HeldRamp, stopsIn, linearAt}
 use Rattle.paint.specs.declared.Circle.{Circle}
 use Rattle.paint.specs.declared.AnyGradient.{AnyGradient}
 use Rattle.paint.specs.declared.AnyGradient.the-variants.{Linear, Radial}
+use Rattle.paint.specs.declared.Columns.{Columns}
 use Rattle.paint.specs.declared.Place.{Place}
 use Rattle.paint.specs.declared.RadialGradient.{RadialGradient}
 use Rattle.paint.specs.declared.Stop.{Stop}
@@ -51,6 +54,30 @@ pub record ModeratePlace (p : Place) : Type 0 where
   pub dq : natAbs (p .dq) ≤ 2305843009213693952
   pub da : natAbs (p .da) ≤ 2305843009213693952
   pub ddq : natAbs (p .ddq) ≤ 2305843009213693952
+
+-- ---- the pixels of a row that may lie inside the circle
+-- the first of n pixels, 16 apart, that lies z or more behind the first of them
+abbrev pub firstFrom : ℤ → ℕ → ℕ
+firstFrom (pos z) n = min ((z + 15) / 16) n
+firstFrom (negsuc z) n = 0
+
+-- the first pixel lies at ex: those from -s to s
+abbrev pub columnsFrom : ℤ → ℕ → ℕ → Columns
+columnsFrom ex s n = record { from = firstFrom (pos 0 -ℤ pos s -ℤ ex) n; to = firstFrom (pos s -ℤ ex +ℤ pos 1) n }
+
+-- the first pixel lies (ex, ey) from the centre: those that are not among the columns lie on or outside the circle
+pub record Enclosing (r ex ey : ℤ) (n : ℕ) (k : Columns) : Type 0 where
+  pub order : k .from ≤ k .to
+  pub few : k .to ≤ n
+  pub before : (i : ℕ) → i < k .from → (r *ℤ r) ≤ℤ ((ex +ℤ pos (16 * i)) *ℤ (ex +ℤ pos (16 * i)) +ℤ ey *ℤ ey)
+  pub behind : (i : ℕ) → k .to ≤ i → i < n → (r *ℤ r) ≤ℤ ((ex +ℤ pos (16 * i)) *ℤ (ex +ℤ pos (16 * i)) +ℤ ey *ℤ ey)
+
+-- the first pixel is (x, y): t of those that are not among the columns is at least 65,536
+pub record RampWithin (c : Circle) (x y n : ℕ) (k : Columns) : Type 0 where
+  pub order : k .from ≤ k .to
+  pub few : k .to ≤ n
+  pub before : (i : ℕ) → i < k .from → pos rampUnit ≤ℤ radialT c (x + i) y
+  pub behind : (i : ℕ) → k .to ≤ i → i < n → pos rampUnit ≤ℤ radialT c (x + i) y
 
 -- ---- a radial gradient as it is drawn
 abbrev pub radialAt : RadialGradient → List Stop → ℕ → ℕ → Pixel

@@ -1,6 +1,7 @@
 // Paint: the colour of a pixel, from a plain colour, a linear gradient or a radial one.
 pub mod block;
 pub mod build;
+pub mod chord;
 pub mod gradient;
 pub mod guesses;
 pub mod opacity;
@@ -93,6 +94,12 @@ pub struct Place {
     pub dq: i64,
     pub da: i64,
     pub ddq: i64,
+}
+
+// Columns of a part of a row, from one to before another.
+pub struct Columns {
+    pub from: usize,
+    pub to: usize,
 }
 
 // A floor division: n / d is whole and rest / d, with rest from 0 to d - 1.

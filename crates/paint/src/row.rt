@@ -3,6 +3,7 @@ use crate::AnyGradient;
 use crate::LinearGradient;
 use crate::RadialGradient;
 use crate::block::block;
+use crate::chord::inner_columns;
 use crate::gradient;
 use crate::positions::SHORT_LIMIT;
 use crate::shade::gradient_color;
@@ -16,9 +17,10 @@ ghost use lib.ListN.{length};
 ghost use Rattle.color.specs.Channels.{bytesOfColor, premultiplied};
 ghost use Rattle.raster.specs.Surface.{run};
 ghost use Rattle.paint.specs.Radial.{focalAllowed};
-ghost use Rattle.paint.specs.Buffers.{LimitedPoints, HeldRamp, stopsIn, linearAt};
-ghost use Rattle.paint.specs.Circles.{LimitedCircle, HeldGradient, gradientAt, radialAt};
+ghost use Rattle.paint.specs.Buffers.{LimitedPoints, HeldRamp, Pads, stopsIn, linearAt};
+ghost use Rattle.paint.specs.Circles.{LimitedCircle, HeldGradient, RampWithin, gradientAt, radialAt};
 ghost use Rattle.paint.specs.Segments.{Sloped};
+ghost use Rattle.paint.specs.declared.AnyGradient.the-variants.{Radial};
 
 // The pixel of a plain colour.
 pub fn solid_pixel(c: Color) -> Pixel
@@ -82,7 +84,56 @@ fn radial_row(g: RadialGradient, ramp: &[u32], x: usize, y: usize, n: usize, row
         raster::fill_row(row, n, p);
         return;
     }
+    if gradient::pads(g.spread) {
+        padded_row(g, ramp, x, y, n, row);
+        return;
+    }
     sloped_row(AnyGradient::Radial(g), ramp, x, y, n, row);
+}
+
+// The same where there is a circle and the spread pads.
+fn padded_row(g: RadialGradient, ramp: &[u32], x: usize, y: usize, n: usize, row: &mut [u8])
+    requires { ⌜ HeldGradient (Radial g) (now ramp) × Sloped (Radial g) × Pads (g .spread) ⌝ }
+    requires { ⌜ (x + n ≤ 1024) × (y ≤ 1024) × (length (now row) ≡ n * 4) ⌝ }
+    ensures { λ _. ⌜ now (row .exit) ≡ run n (λ i. radialAt g (stopsIn (now (ramp .entry)) (g .count)) (x + i) y) ⌝ }
+{
+    let k = inner_columns(g.circle, x, y, n);
+    if k.to - k.from == n {
+        sloped_row(AnyGradient::Radial(g), ramp, x, y, n, row);
+        return;
+    }
+    cut_row(g, ramp, x, y, n, k.from, k.to, row);
+}
+
+// The same, where t is at least 65,536 before a column and from another on: only what lies between them is computed.
+fn cut_row(
+    g: RadialGradient,
+    ramp: &[u32],
+    x: usize,
+    y: usize,
+    n: usize,
+    from: usize,
+    to: usize,
+    row: &mut [u8],
+)
+    requires { ⌜ HeldGradient (Radial g) (now ramp) × Sloped (Radial g) × Pads (g .spread) × RampWithin (g .circle) x y n (record { from = from; to = to }) ⌝ }
+    requires { ⌜ (x + n ≤ 1024) × (y ≤ 1024) × (length (now row) ≡ n * 4) ⌝ }
+    ensures { λ _. ⌜ now (row .exit) ≡ run n (λ i. radialAt g (stopsIn (now (ramp .entry)) (g .count)) (x + i) y) ⌝ }
+{
+    let p = gradient_color(g.spread, g.premultiply, ramp, g.count, gradient::RAMP_UNIT);
+    let start = from * 4;
+    let middle = to * 4;
+    let end = n * 4;
+    raster::fill_row(&mut row[0..start], from, p);
+    sloped_row(
+        AnyGradient::Radial(g),
+        ramp,
+        x + from,
+        y,
+        to - from,
+        &mut row[start..middle],
+    );
+    raster::fill_row(&mut row[middle..end], n - to, p);
 }
 
 // The same of a gradient whose t may differ from pixel to pixel: block after block.
