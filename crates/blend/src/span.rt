@@ -20,6 +20,9 @@ ghost use Rattle.blend.specs.PorterDuff.{modeSrcOver};
 ghost use Rattle.blend.specs.Unmasked.{unmaskedOn};
 ghost use Rattle.blend.specs.Spans.{keepPixel, storedPixel, Hiding};
 
+// Fewer pixels have a smaller buffer, since one that is not used costs time too.
+const FEW: usize = 16;
+
 // A paint of one pixel for all of them.
 pub fn composite_span(mode: u16, coverage: u8, src: Pixel, row: &mut [u8], n: usize)
     requires { ⌜ (coverage ≤ 16) × (length (now row) ≡ n * 4) ⌝ }
@@ -139,8 +142,24 @@ fn over_painted(coverage: u8, src: &[u8], row: &mut [u8], n: usize)
         now (row .exit) ≡ run n (λ i. unmaskedOn modeSrcOver coverage (pixelIn (now (src .entry)) i) (pixelIn (now (row .entry)) i))
         ⌝ }
 {
+    if n <= FEW {
+        let mut keep = [0; 64];
+        over_few(coverage, src, &mut keep, row, n);
+        return;
+    }
     let mut keep = [0; 512];
     over_kept(coverage, src, &mut keep, row, n);
+}
+
+// The same of few pixels, with a buffer for what they keep of what is under them.
+fn over_few(coverage: u8, src: &[u8], keep: &mut [u8], row: &mut [u8], n: usize)
+    requires { ⌜ (coverage ≤ 16) × (length (now src) ≡ n * 4) × (length (now row) ≡ n * 4) × (length (now keep) ≡ 64) × (n ≤ 16) ⌝ }
+    ensures { λ _. ⌜
+        now (row .exit) ≡ run n (λ i. unmaskedOn modeSrcOver coverage (pixelIn (now (src .entry)) i) (pixelIn (now (row .entry)) i))
+        ⌝ }
+{
+    let m = n * 4;
+    over_block(coverage, src, &mut keep[0..m], row, n);
 }
 
 // The same 128 pixels at a time: what they keep of what is under them goes into a buffer.
