@@ -1,26 +1,22 @@
 -- Samples inside, four columns at a time.
 use mathlib.Core.Path.{_≡_, refl, sym, ap, _∙_}
 use mathlib.Core.Bool.{Bool, true, false}
-use Prim.Native.Nat.{ℕ, zero, suc, _+_, _*_, _/_, _%_, _≤_}
+use Prim.Native.Nat.{ℕ, suc, _+_, _*_, _/_, _%_, _≤_}
 use native.Mathlib.Omega.{arith}
 use native.Mathlib.Nat.{zero-add}
 use lib.IntN.{ℤ, pos, negsuc, negℤ, natAbs, _+ℤ_}
 use lib.Signed.{remZ, quotZ, mag-rem}
 use mir.Syntax.{w32}
 use mir.Val.{SFits, ofZ}
-use Rattle.fixed.proofs.Within.{fits}
+use Rattle.fixed.proofs.Within.{abs-neg, fits}
 use Rattle.fixed.proofs.Signed.{zero-yes, zero-no}
 use Rattle.coverage.specs.Winding.{insideBy, oneIf, tally}
 use Rattle.coverage.specs.Scanline.{windingsFrom, insideOf, takenOf, takenFrom, running}
 
 -- ---- an odd number, by its remainder
-abs-neg : (n : ℕ) → natAbs (negℤ (pos n)) ≡ n
-abs-neg zero = refl
-abs-neg (suc n) = refl
-
 abs-rem : (w : ℤ) → natAbs (remZ w (pos 2)) ≡ natAbs w % 2
 abs-rem (pos a) = refl
-abs-rem (negsuc a) = abs-neg (suc a % 2)
+abs-rem (negsuc a) = abs-neg (pos (suc a % 2))
 
 pub odd-yes : (w : ℤ) → (ofZ w32 (remZ w (pos 2)) ≡ 0 → ⊥) → natAbs w % 2 ≡ 1
 odd-yes w h = core (natAbs w) (λ e. zero-no w32 (remZ w (pos 2)) h (abs-rem w ∙ e))
@@ -82,4 +78,5 @@ tally-le nonZero w x =
 -- the halved number, which the remainder's code asks for
 pub half-fits : (z : ℤ) → SFits w32 z → SFits w32 (quotZ z (pos 2))
 half-fits (pos a) f = record { sfits = omega (arith, f .sfits) }
-half-fits (negsuc a) f = fits {w = w32} {n = 1073741824} {z = negℤ (pos (suc a / 2))} tt (record { size = rw (abs-neg (suc a / 2)) (omega (arith, f .sfits)) })
+half-fits (negsuc a) f =
+    fits {w = w32} {n = 1073741824} {z = negℤ (pos (suc a / 2))} tt (record { size = rw (abs-neg (pos (suc a / 2))) (omega (arith, f .sfits)) })

@@ -16,7 +16,7 @@ pub record Within (n : ℕ) (z : ℤ) : Type 0 where
   pub size : natAbs z ≤ n
 
 -- ---- the size of a sum, a product, a negation
-abs-neg : (z : ℤ) → natAbs (negℤ z) ≡ natAbs z
+pub abs-neg : (z : ℤ) → natAbs (negℤ z) ≡ natAbs z
 abs-neg (pos zero) = refl
 abs-neg (pos (suc n)) = refl
 abs-neg (negsuc n) = refl

@@ -14,6 +14,7 @@
 --     Outer       on and outside the circle t is at least 65,536; the pixels of a row that may lie inside
 --     Differences A and Q from pixel to pixel of a row
 --     Onward      what a loop over the pixels of a row keeps
+--     Floating    which floats are numbers
 --
 -- Ramps:
 --     Mix         a channel between two stops

@@ -1,15 +1,15 @@
 -- Signed numbers of 64 bits of which a size is known: parameters, fields and calls' results.
-use mathlib.Core.Path.{_≡_, refl, sym, ap, _∙_, subst}
+use mathlib.Core.Path.{_≡_, sym, ap, _∙_, subst}
 use mathlib.Core.Bool.{true}
-use Prim.Native.Nat.{ℕ, zero, suc, _+_, _/_, _%_, _≤_, _<_, _^_}
+use Prim.Native.Nat.{ℕ, suc, _+_, _/_, _%_, _≤_, _<_, _^_}
 use native.Mathlib.Omega.{arith}
 use lib.Dec.{T, ltb}
-use lib.IntN.{ℤ, pos, negsuc, natAbs, negℤ, _-ℤ_}
+use lib.IntN.{ℤ, pos, negsuc, natAbs, _-ℤ_}
 use lib.Signed.{ltZ, ltZ-yes, quotZ, remZ}
 use mir.Syntax.{w64}
 use mir.Val.{toZ, ofZ}
 use Rattle.fixed.proofs.Means.{Num}
-use Rattle.fixed.proofs.Within.{Within}
+use Rattle.fixed.proofs.Within.{Within, abs-neg}
 use Rattle.fixed.proofs.Poly as P
 use Rattle.fixed.proofs.Poly.{_⊖_}
 use Rattle.fixed.proofs.Signed.{clean}
@@ -37,14 +37,10 @@ below-size z n e f =
     by (negsuc a) (negsuc b) h k = omega arith
 
 -- the size of a quotient and of a rest
-size-kept : (n : ℕ) → natAbs (negℤ (pos n)) ≡ n
-size-kept zero = refl
-size-kept (suc n) = refl
-
 pub quotient-size : (m b : ℕ) (z : ℤ) → natAbs z / m ≤ b → Within b (quotZ z (pos m))
 quotient-size m b (pos n) h = record { size = h }
-quotient-size m b (negsuc n) h = record { size = rw (size-kept (suc n / m)) h }
+quotient-size m b (negsuc n) h = record { size = rw (abs-neg (pos (suc n / m))) h }
 
 pub rest-size : (m b : ℕ) (z : ℤ) → natAbs z % m ≤ b → Within b (remZ z (pos m))
 rest-size m b (pos n) h = record { size = h }
-rest-size m b (negsuc n) h = record { size = rw (size-kept (suc n % m)) h }
+rest-size m b (negsuc n) h = record { size = rw (abs-neg (pos (suc n % m))) h }

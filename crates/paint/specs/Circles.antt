@@ -65,19 +65,20 @@ firstFrom (negsuc z) n = 0
 abbrev pub columnsFrom : ℤ → ℕ → ℕ → Columns
 columnsFrom ex s n = record { from = firstFrom (pos 0 -ℤ pos s -ℤ ex) n; to = firstFrom (pos s -ℤ ex +ℤ pos 1) n }
 
--- the first pixel lies (ex, ey) from the centre: those that are not among the columns lie on or outside the circle
-pub record Enclosing (r ex ey : ℤ) (n : ℕ) (k : Columns) : Type 0 where
+-- what holds of all pixels but those of the columns, which are some of n
+pub record Elsewhere (P : ℕ → Type 0) (n : ℕ) (k : Columns) : Type 0 where
   pub order : k .from ≤ k .to
   pub few : k .to ≤ n
-  pub before : (i : ℕ) → i < k .from → (r *ℤ r) ≤ℤ ((ex +ℤ pos (16 * i)) *ℤ (ex +ℤ pos (16 * i)) +ℤ ey *ℤ ey)
-  pub behind : (i : ℕ) → k .to ≤ i → i < n → (r *ℤ r) ≤ℤ ((ex +ℤ pos (16 * i)) *ℤ (ex +ℤ pos (16 * i)) +ℤ ey *ℤ ey)
+  pub before : (i : ℕ) → i < k .from → P i
+  pub behind : (i : ℕ) → k .to ≤ i → i < n → P i
 
--- the first pixel is (x, y): t of those that are not among the columns is at least 65,536
-pub record RampWithin (c : Circle) (x y n : ℕ) (k : Columns) : Type 0 where
-  pub order : k .from ≤ k .to
-  pub few : k .to ≤ n
-  pub before : (i : ℕ) → i < k .from → pos rampUnit ≤ℤ radialT c (x + i) y
-  pub behind : (i : ℕ) → k .to ≤ i → i < n → pos rampUnit ≤ℤ radialT c (x + i) y
+-- the first pixel lies (ex, ey) from the centre: the others lie on or outside the circle
+abbrev pub Enclosing : ℤ → ℤ → ℤ → ℕ → Columns → Type 0
+Enclosing r ex ey = Elsewhere (λ i. (r *ℤ r) ≤ℤ ((ex +ℤ pos (16 * i)) *ℤ (ex +ℤ pos (16 * i)) +ℤ ey *ℤ ey))
+
+-- the first pixel is (x, y): t of the others is at least 65,536
+abbrev pub RampWithin : Circle → ℕ → ℕ → ℕ → Columns → Type 0
+RampWithin c x y = Elsewhere (λ i. pos rampUnit ≤ℤ radialT c (x + i) y)
 
 -- ---- a radial gradient as it is drawn
 abbrev pub radialAt : RadialGradient → List Stop → ℕ → ℕ → Pixel

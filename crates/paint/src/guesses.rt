@@ -17,6 +17,9 @@ const STEP: f64 = 2.121320343559643;
 // No Q is larger: 2^60.
 const LARGEST: f32 = 1152921504606846976.0;
 
+// Half of the bits of h, taken from this, are those of a number near 1 / √2h.
+const BITS: u32 = 1593268870;
+
 // 2^52: of a sum with it the lowest bits are a whole number.
 const WHOLE: f64 = 4503599627370496.0;
 
@@ -69,10 +72,10 @@ fn guess_inverses(first: f32, slope: f32, bend: f32, inverses: &mut [f32])
     }
 }
 
-// About 1 / √2h: half of the bits of h, taken from a constant, are those of a number near it, and two steps of Newton's follow.
+// About 1 / √2h: a number near it, and two steps of Newton's.
 fn inverse_root(h: f32) -> f32 {
     let v = capped(h, LARGEST);
-    let a = f32::from_bits(1593268870 - (f32::to_bits(v) >> 1) % 1073741824);
+    let a = f32::from_bits(BITS - (f32::to_bits(v) >> 1) % 1073741824);
     let b = a * (1.5 - v * a * a);
     b * (1.5 - v * b * b)
 }

@@ -17,7 +17,7 @@ ghost use Rattle.paint.specs.Ramps.{mixByte, mixPixel};
 ghost use Rattle.paint.specs.Buffers.{unpacked, lineParts};
 ghost use Rattle.paint.specs.Segments.{Words, Planes, Covering, OnRamp, finished, positionOf, twoStops, mixPair, leftPair, rightPair, ofPairs};
 
-// How many pixels are made at a time.
+// How many pixels are made at a time, at most.
 pub const BLOCK: usize = 256;
 
 // A pixel as one number.

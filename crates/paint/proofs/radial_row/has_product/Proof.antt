@@ -1,16 +1,12 @@
 -- `radial_row::has_product` meets its contract: both limits keep the products below 2^47.
-use mathlib.Core.Bool.{true, false}
 use mathlib.Core.Logic.{inl, inr}
-use mathlib.Core.Path.{_≡_, sym, subst}
+use mathlib.Core.Path.{sym, subst}
 use Prim.Native.Nat.{_/_, _≤_}
 use native.Mathlib.Nat.{mul-le-mul}
 use native.Mathlib.Omega.{arith}
 use lib.Dec.{T}
 use Rattle.paint.proofs.radial_row.has_product.Statement.{statement}
 use Rattle.paint.proofs.radial_row.has_product.Tie as tie
-
-no : false ≡ true → ⊥
-no e = subst T (sym e) tt
 
 returns : tie.Need-returns
 returns c = let h = c .if1 .taken in λ t. (omega (arith, h), inl (omega (arith, mul-le-mul h h)))
@@ -23,4 +19,4 @@ returns-2 c =
     λ t. (h, inr (c .before .if2 .taken, omega (arith, mul-le-mul h k)))
 
 pub has-product-spec : {M : Type 1} → statement M
-has-product-spec = tie.close (tie.spec returns returns-2 (λ c. λ e. absurd (no e)) (λ c. λ e. absurd (no e)))
+has-product-spec = tie.close (tie.spec returns returns-2 (λ c e. absurd (subst T (sym e) tt)) (λ c e. absurd (subst T (sym e) tt)))
