@@ -6,31 +6,51 @@ use Prim.Native.Nat.{ℕ, suc, _+_, _*_, _-_, _/_, _≤_, _<_}
 use native.Mathlib.Omega.{arith}
 use lib.Dec.{eqb}
 use borrow.Author.Tests.{eqb-true}
-use lib.IntN.{ℤ, pos, natAbs, +ℤ-idr}
+use lib.IntN.{ℤ, pos, natAbs, _+ℤ_, +ℤ-idr}
 use lib.ListN.{length, getD, take, drop, length-take, length-drop, take-append-drop}
 use lib.Seq.{getD-append-add, getD-drop, getD-take}
 use Rattle.lists.specs.Lists.{over}
 use Rattle.lists.proofs.Laws.{tab-length, tab-ext, over-length, over-part}
+use Rattle.fixed.proofs.Within.{within-add}
 use Rattle.coverage.specs.declared.Cell.{Cell}
+use Rattle.coverage.specs.declared.Windings.{Windings}
 use Rattle.coverage.specs.Winding.{insideBy, oneIf, tally}
-use Rattle.coverage.specs.Scanline.{at, laid, zeros, running, rowOf, Bounded, Marked, Tame}
-use Rattle.coverage.specs.Scanline.{Taken, takenFrom, lineFrom, fullOf, cellOf, cellFrom, cellAfter, pixelOf}
+use Rattle.coverage.specs.Scanline.{at, laid, zeros, running, rowOf, LowFour, Sized, Bounded, Marked, Tame}
+use Rattle.coverage.specs.Scanline.{Taken, takenOf, takenFrom, lineFrom, lastOf, columnFrom, fullOf, cellOf, cellIn, cellFrom, cellAfter, pixelOf}
 use Rattle.coverage.proofs.Tally.{taken-law}
 use Rattle.coverage.proofs.Zeros.{zeros-join}
 
 -- ---- one sample row of a pixel
-pub line-as : (nonZero : Bool) (z : ℤ) (s : List ℤ) (b r i : ℕ) → i ≡ b + r
-    → takenFrom nonZero z (at s i) (at s (i + 4)) (at s (i + 8)) (at s (i + 12)) ≡ lineFrom nonZero z (λ j. at s (b + j)) r
-line-as nonZero z s b r i e = five (at-same e) (at-same (plus 4)) (at-same (plus 8)) (at-same (plus 12))
+line-as : (nonZero : Bool) (z : ℤ) (s : List ℤ) (b r : ℕ) {i j k l : ℕ} → i ≡ b + r → j ≡ b + (r + 4) → k ≡ b + (r + 8) → l ≡ b + (r + 12)
+    → takenFrom nonZero z (at s i) (at s j) (at s k) (at s l) ≡ lineFrom nonZero z (λ j. at s (b + j)) r
+line-as nonZero z s b r e f g h = rw (e, f, g, h)
+
+four-lines : (nonZero : Bool) {t u v w t' u' v' w' : Taken} → t ≡ t' → u ≡ u' → v ≡ v' → w ≡ w' → cellOf nonZero t u v w ≡ cellOf nonZero t' u' v' w'
+four-lines nonZero p q r s = rw (p, q, r, s)
+
+-- ---- the four columns of a pixel
+pub column-sized : {n : ℕ} {z w : Windings} (s : List ℤ) (i : ℕ) → Sized n z → LowFour s i → w ≡ columnFrom z s i → Sized (n + 1000000) w
+unfolding columnFrom
+column-sized {n} {z} s i h l e =
+    subst (λ (v : Windings). Sized (n + 1000000) v) (sym e) (record {
+      a = sum (z .a) i (h .a) (l .0);
+      b = sum (z .b) (i + 1) (h .b) (l .1);
+      c = sum (z .c) (i + 2) (h .c) (l .2);
+      d = sum (z .d) (i + 3) (h .d) (l .3);
+    })
   where
-    at-same : {i j : ℕ} → i ≡ j → at s i ≡ at s j
-    at-same q = ap (at s) q
+    sum : (u : ℤ) (j : ℕ) → natAbs u ≤ n → natAbs (at s j) ≤ 1000000 → natAbs (u +ℤ at s j) ≤ n + 1000000
+    sum u j p q = within-add {a = u} {b = at s j} (record { size = p }) (record { size = q }) .size
 
-    plus : (m : ℕ) → i + m ≡ b + (r + m)
-    plus m = omega arith
-
-    five : {p q u v e f g h : ℤ} → p ≡ e → q ≡ f → u ≡ g → v ≡ h → takenFrom nonZero z p q u v ≡ takenFrom nonZero z e f g h
-    five p q u v = rw (p, q, u, v)
+pub columns-cell : (nonZero : Bool) (z : Cell) (s : List ℤ) (b : ℕ) {t u v w : Windings} → t ≡ columnFrom (lastOf z) s b → u ≡ columnFrom t s (b + 4)
+    → v ≡ columnFrom u s (b + 8) → w ≡ columnFrom v s (b + 12) → cellIn nonZero t u v w ≡ cellFrom nonZero z (λ j. at s (b + j))
+unfolding columnFrom
+columns-cell nonZero z s b e f g h =
+    rw (h, g, f, e)
+    (four-lines nonZero (line-as nonZero (z .a) s b 0 (omega arith) (omega arith) (omega arith) (omega arith))
+    (line-as nonZero (z .b) s b 1 (omega arith) (omega arith) (omega arith) (omega arith))
+    (line-as nonZero (z .c) s b 2 (omega arith) (omega arith) (omega arith) (omega arith))
+    (line-as nonZero (z .d) s b 3 (omega arith) (omega arith) (omega arith) (omega arith)))
 
 module _ (nonZero : Bool) (s : List ℤ) (p : ℕ) where
   -- what a sample row of pixel p comes to
@@ -58,7 +78,7 @@ module _ (nonZero : Bool) (s : List ℤ) (p : ℕ) where
 still-line : (nonZero : Bool) (z : ℤ)
     → takenFrom nonZero z (pos 0) (pos 0) (pos 0) (pos 0)
     ≡ record { sum = z; count = oneIf (insideBy nonZero z) + oneIf (insideBy nonZero z) + oneIf (insideBy nonZero z) + oneIf (insideBy nonZero z) }
-unfolding takenFrom
+unfolding takenOf
 still-line nonZero z = simp +ℤ-idr
 
 -- ---- z stands at the left end of pixel p: its winding numbers are the running sums so far
@@ -87,9 +107,6 @@ stands-bounded {nonZero} {s} {p} {z} n t m h = record {
   where
     size : {v w : ℤ} → v ≡ w → natAbs w ≤ 1000000 → natAbs v ≤ 1000000
     size e k = subst (λ (u : ℤ). natAbs u ≤ 1000000) (sym e) k
-
-pub four-lines : (nonZero : Bool) {t u v w t' u' v' w' : Taken} → t ≡ t' → u ≡ u' → v ≡ v' → w ≡ w' → cellOf nonZero t u v w ≡ cellOf nonZero t' u' v' w'
-four-lines nonZero p q r s = rw (p, q, r, s)
 
 module _ (nonZero : Bool) (s : List ℤ) (p : ℕ) (z : Cell) (st : Stands nonZero s p z) where
   -- its 16 numbers

@@ -10,8 +10,9 @@ use mir.Syntax.{w32}
 use mir.Val.{SFits, ofZ}
 use Rattle.fixed.proofs.Within.{abs-neg, fits}
 use Rattle.fixed.proofs.Signed.{zero-yes, zero-no}
+use Rattle.coverage.specs.declared.Windings.{Windings}
 use Rattle.coverage.specs.Winding.{insideBy, oneIf, tally}
-use Rattle.coverage.specs.Scanline.{windingsFrom, insideOf, takenOf, takenFrom, running}
+use Rattle.coverage.specs.Scanline.{insideOf, takenOf, takenFrom, cellOf, cellIn, running}
 
 -- ---- an odd number, by its remainder
 abs-rem : (w : ℤ) → natAbs (remZ w (pos 2)) ≡ natAbs w % 2
@@ -31,9 +32,20 @@ odd-no w f e = sym (abs-rem w) ∙ zero-yes w32 (remZ w (pos 2)) (omega (arith, 
 pub four-counts : {p q r s e f g h : ℕ} → p ≡ e → q ≡ f → r ≡ g → s ≡ h → p + q + r + s ≡ e + f + g + h
 four-counts a b c d = rw (a, b, c, d)
 
-pub taken-is : (nonZero : Bool) (z a b c d : ℤ) → takenOf nonZero (windingsFrom z a b c d) ≡ takenFrom nonZero z a b c d
-unfolding takenFrom windingsFrom insideOf
-taken-is nonZero z a b c d = refl
+-- counted column by column or row by row
+pub turned-counts : (nonZero : Bool) (t u v w : Windings)
+    → insideOf nonZero t + insideOf nonZero u + insideOf nonZero v + insideOf nonZero w ≡ cellIn nonZero t u v w .count
+unfolding insideOf takenOf cellOf
+turned-counts nonZero t u v w =
+    core (one (t .a)) (one (t .b)) (one (t .c)) (one (t .d)) (one (u .a)) (one (u .b)) (one (u .c)) (one (u .d))
+    (one (v .a)) (one (v .b)) (one (v .c)) (one (v .d)) (one (w .a)) (one (w .b)) (one (w .c)) (one (w .d))
+  where
+    one : ℤ → ℕ
+    one z = oneIf (insideBy nonZero z)
+
+    core : (a b c d e f g h i j k l m n o p : ℕ)
+        → a + b + c + d + (e + f + g + h) + (i + j + k + l) + (m + n + o + p) ≡ a + e + i + m + (b + f + j + n) + (c + g + k + o) + (d + h + l + p)
+    core a b c d e f g h i j k l m n o p = omega arith
 
 step : (f : ℕ → ℤ) (n m : ℕ) → m ≡ suc n → running f n +ℤ f n ≡ running f m
 step f n m e = sym (ap (running f) e)
@@ -41,7 +53,7 @@ step f n m e = sym (ap (running f) e)
 core-four : (nonZero : Bool) (z a b c d A B C D : ℤ) → z +ℤ a ≡ A → A +ℤ b ≡ B → B +ℤ c ≡ C → C +ℤ d ≡ D
     → takenFrom nonZero z a b c d
     ≡ record { sum = D; count = 0 + oneIf (insideBy nonZero A) + oneIf (insideBy nonZero B) + oneIf (insideBy nonZero C) + oneIf (insideBy nonZero D) }
-unfolding takenFrom
+unfolding takenOf
 core-four nonZero z a b c d A B C D p q r s = rw (p, q, r, s, zero-add)
 
 pub taken-law : (nonZero : Bool) (f : ℕ → ℤ) (x : ℕ)

@@ -131,9 +131,9 @@ Fits l b w r s = (natAbs (s .by) ≤ 1) × (s .at / 4 < w → Low (getD l (b + (
 abbrev pub FitRows : List ℤ → ℕ → ℕ → Start → Start → Start → Start → Type 0
 FitRows l b w s u v t = Fits l b w 0 s × Fits l b w 1 u × Fits l b w 2 v × Fits l b w 3 t
 
--- the running sums of four columns from z on
-unfoldable pub windingsFrom : ℤ → ℤ → ℤ → ℤ → ℤ → Windings
-windingsFrom z a b c d = record { a = z +ℤ a; b = z +ℤ a +ℤ b; c = z +ℤ a +ℤ b +ℤ c; d = z +ℤ a +ℤ b +ℤ c +ℤ d }
+-- the winding numbers of four sample rows at the next column, after z, by the four numbers from i on
+unfoldable pub columnFrom : Windings → List ℤ → ℕ → Windings
+columnFrom z s i = record { a = z .a +ℤ at s i; b = z .b +ℤ at s (i + 1); c = z .c +ℤ at s (i + 2); d = z .d +ℤ at s (i + 3) }
 
 -- how many of the four are inside
 unfoldable pub insideOf : Bool → Windings → ℕ
@@ -145,15 +145,14 @@ pub record Taken : Type 0 where
   pub sum : ℤ
   pub count : ℕ
 
-abbrev pub takenOf : Bool → Windings → Taken
-takenOf nonZero w = record { sum = w .d; count = insideOf nonZero w }
-
-unfoldable pub takenFrom : Bool → ℤ → ℤ → ℤ → ℤ → ℤ → Taken
-takenFrom nonZero z a b c d = record {
-  sum = z +ℤ a +ℤ b +ℤ c +ℤ d;
-  count = oneIf (insideBy nonZero (z +ℤ a)) + oneIf (insideBy nonZero (z +ℤ a +ℤ b)) + oneIf (insideBy nonZero (z +ℤ a +ℤ b +ℤ c))
-      + oneIf (insideBy nonZero (z +ℤ a +ℤ b +ℤ c +ℤ d));
+unfoldable pub takenOf : Bool → ℤ → ℤ → ℤ → ℤ → Taken
+takenOf nonZero a b c d = record {
+  sum = d;
+  count = oneIf (insideBy nonZero a) + oneIf (insideBy nonZero b) + oneIf (insideBy nonZero c) + oneIf (insideBy nonZero d);
 }
+
+abbrev pub takenFrom : Bool → ℤ → ℤ → ℤ → ℤ → ℤ → Taken
+takenFrom nonZero z a b c d = takenOf nonZero (z +ℤ a) (z +ℤ a +ℤ b) (z +ℤ a +ℤ b +ℤ c) (z +ℤ a +ℤ b +ℤ c +ℤ d)
 
 -- four columns of sample row r among a pixel's 16 numbers q
 abbrev pub lineFrom : Bool → ℤ → (ℕ → ℤ) → ℕ → Taken
@@ -173,6 +172,15 @@ cellOf nonZero t u v w = record {
   count = t .count + u .count + v .count + w .count;
 }
 
+-- the pixel of four columns, and the winding numbers at the last column of one
+abbrev pub cellIn : Bool → Windings → Windings → Windings → Windings → Cell
+cellIn nonZero t u v w =
+    cellOf nonZero (takenOf nonZero (t .a) (u .a) (v .a) (w .a)) (takenOf nonZero (t .b) (u .b) (v .b) (w .b)) (takenOf nonZero (t .c) (u .c) (v .c) (w .c))
+    (takenOf nonZero (t .d) (u .d) (v .d) (w .d))
+
+abbrev pub lastOf : Cell → Windings
+lastOf z = record { a = z .a; b = z .b; c = z .c; d = z .d }
+
 -- the next pixel after z: its 16 numbers are q, or nothing begins in it
 abbrev pub cellFrom : Bool → Cell → (ℕ → ℤ) → Cell
 cellFrom nonZero z q = cellOf nonZero (lineFrom nonZero (z .a) q 0) (lineFrom nonZero (z .b) q 1) (lineFrom nonZero (z .c) q 2) (lineFrom nonZero (z .d) q 3)
@@ -188,12 +196,18 @@ rowOf s r j = at s (j * 4 + r)
 abbrev pub pixelOf : Bool → List ℤ → ℕ → ℕ
 pixelOf nonZero s p = total 4 (λ r. tally nonZero (λ j. running (rowOf s r) (suc j)) p)
 
--- no sum overflows: of a pixel, and of the running sums over n columns
+-- no sum overflows: of a pixel, of a column, and of the running sums over n columns
 pub record Bounded (z : Cell) : Type 0 where
   pub a : Low (z .a)
   pub b : Low (z .b)
   pub c : Low (z .c)
   pub d : Low (z .d)
+
+pub record Sized (n : ℕ) (w : Windings) : Type 0 where
+  pub a : natAbs (w .a) ≤ n
+  pub b : natAbs (w .b) ≤ n
+  pub c : natAbs (w .c) ≤ n
+  pub d : natAbs (w .d) ≤ n
 
 pub record Tame (s : List ℤ) (n : ℕ) : Type 0 where
   pub each : (j : ℕ) → Low (at s j)

@@ -50,7 +50,7 @@ struct Columns {
     d: usize,
 }
 
-// The winding numbers of a sample row at the four columns of a pixel, or those of four sample rows at one column.
+// The winding numbers of four sample rows at one column.
 struct Windings {
     a: i32,
     b: i32,

@@ -1,4 +1,5 @@
 -- `coverage::samples::count_samples` meets its contract. Assumes nothing.
+use native.Mathlib.Omega.{arith}
 use Rattle.coverage.proofs.Tally.{four-counts}
 use borrow.Author.Needs.{needs}
 use Rattle.coverage.proofs.samples.count_samples.Statement.{statement}
@@ -30,8 +31,11 @@ returns c =
     let third = c .before in
     let second = third .before in
     let first = second .before in
-    rw (first .before .if1 .taken)
-    (four-counts (first .not-zeros .ensures .0) (second .not-zeros2 .ensures .0) (third .not-zeros3 .ensures .0) (c .not-zeros4 .ensures .0))
+    let p = first .not-zeros .ensures in
+    let q = second .not-zeros2 .ensures in
+    let r = third .not-zeros3 .ensures in
+    let s = c .not-zeros4 .ensures in
+    (rw (first .before .if1 .taken) (four-counts (p .0) (q .0) (r .0) (s .0)), omega (arith, p .1, q .1, r .1, s .1))
 
 odds-requires : tie.Need-odds-requires
 odds-requires c κs = search needs
@@ -59,7 +63,11 @@ returns-2 c =
     let third = c .before in
     let second = third .before in
     let first = second .before in
-    rw (first .before .if1 .left) (four-counts (first .odds .ensures .0) (second .odds2 .ensures .0) (third .odds3 .ensures .0) (c .odds4 .ensures .0))
+    let p = first .odds .ensures in
+    let q = second .odds2 .ensures in
+    let r = third .odds3 .ensures in
+    let s = c .odds4 .ensures in
+    (rw (first .before .if1 .left) (four-counts (p .0) (q .0) (r .0) (s .0)), omega (arith, p .1, q .1, r .1, s .1))
 
 pub count-samples-spec : {M : Type 1} → statement M
 count-samples-spec =
