@@ -10,6 +10,8 @@ use Rattle.lists.proofs.Laws.{tab-at, tab-length, upto-same}
 use Rattle.color.specs.declared.Pixel.{Pixel}
 use Rattle.color.specs.Channels.{premultiplied}
 use Rattle.color.proofs.Alpha.{premultiplied-under}
+use Rattle.raster.specs.Surface.{run}
+use Rattle.raster.proofs.Runs.{run-same}
 use Rattle.paint.specs.Ramps.{mixByte, mixPixel}
 use Rattle.paint.specs.Buffers.{packed, unpacked}
 use Rattle.paint.specs.Segments.{Words, Planes, OnRamp, Bytes, mixPair, leftPair, rightPair, ofPairs}
@@ -114,14 +116,24 @@ module _ {f : ℕ → Pixel} {n : ℕ} {left right : List ℕ} (o : Planes f n l
   second-at : (i : ℕ) → i < n → getD right i 0 ≡ rightPair (f i)
   second-at i h = rw (o .second) (tab-at n (λ i. rightPair (f i)) i 0 h)
 
+  first-long : length left ≡ n
+  first-long = ap length (o .first) ∙ tab-length n _
+
+  joined-at : (i : ℕ) → i < n → unpacked (getD left i 0 + getD right i 0 * 65536) ≡ f i
+  joined-at i h = ap₂ (λ (a b : ℕ). unpacked (a + b * 65536)) (first-at i h) (second-at i h) ∙ two-pairs (f i) (o .bytes i h)
+
+  -- as words
   pub joined-words : (m : ℕ) (ws : List ℕ) → n ≡ m → ws ≡ tab m (λ i. getD left i 0 + getD right i 0 * 65536) → Words f m ws
   joined-words m ws e w = record {
     long = ap length w ∙ tab-length m _;
     color = λ i h.
-        let l : i < n = omega (arith, e) in
         let z : getD ws i 0 ≡ getD left i 0 + getD right i 0 * 65536 = rw w (tab-at m (λ i. getD left i 0 + getD right i 0 * 65536) i 0 h) in
-        ap unpacked (z ∙ ap₂ (λ (a b : ℕ). a + b * 65536) (first-at i l) (second-at i l)) ∙ two-pairs (f i) (o .bytes i l);
+        ap unpacked z ∙ joined-at i (omega (arith, e));
   }
+
+  -- as bytes
+  pub joined-run : run (length left) (λ i. unpacked (getD left i 0 + getD right i 0 * 65536)) ≡ run n f
+  joined-run = rw first-long (run-same n _ _ joined-at)
 
   -- under the alpha 255 a colour is the same premultiplied
   pub opaque-planes : ((i : ℕ) → i < n → f i .a ≡ 255) → Planes (λ i. premultiplied (f i)) n left right
@@ -140,13 +152,11 @@ module _ {f : ℕ → Pixel} {n : ℕ} {left right : List ℕ} (o : Planes f n l
       → left' ≡ tab (length left) (λ i. leftPair (premultiplied (ofPairs (getD left i 0) (getD right i 0))))
       → right' ≡ tab (length left) (λ i. rightPair (premultiplied (ofPairs (getD left i 0) (getD right i 0))))
       → Planes (λ i. premultiplied (f i)) n left' right'
-  premultiplied-planes left' right' p q =
-      let long : length left ≡ n = ap length (o .first) ∙ tab-length n _ in
-      record {
-        first = (rw long at p) ∙ upto-same n _ _ (λ i h. ap (λ (p : Pixel). leftPair (premultiplied p) ∷ []) (back-at i h));
-        second = (rw long at q) ∙ upto-same n _ _ (λ i h. ap (λ (p : Pixel). rightPair (premultiplied p) ∷ []) (back-at i h));
-        bytes = λ i h. premultiplied-bytes (f i) (o .bytes i h);
-      }
+  premultiplied-planes left' right' p q = record {
+    first = (rw first-long at p) ∙ upto-same n _ _ (λ i h. ap (λ (p : Pixel). leftPair (premultiplied p) ∷ []) (back-at i h));
+    second = (rw first-long at q) ∙ upto-same n _ _ (λ i h. ap (λ (p : Pixel). rightPair (premultiplied p) ∷ []) (back-at i h));
+    bytes = λ i h. premultiplied-bytes (f i) (o .bytes i h);
+  }
 
 -- ---- t's that were cut
 module _ (n : ℕ) (f : ℕ → ℕ) (ts : List ℕ) (e : ts ≡ tab n (λ i. min (f i) 65535)) where
@@ -162,3 +172,6 @@ module _ (n : ℕ) (f : ℕ → ℕ) (ts : List ℕ) (e : ts ≡ tab n (λ i. mi
   pub cut-words : (color : ℕ → Pixel) (m : ℕ) (ws : List ℕ) → m ≡ n → Words (λ i. color (getD ts i 0)) m ws
       → Words (λ i. color (min (f i) 65535)) n ws
   cut-words color m ws q w = record { long = w .long ∙ q; color = λ i h. w .color i (omega (arith, q)) ∙ ap color (cut-at i h) }
+
+  pub cut-run : (color : ℕ → Pixel) → run (length ts) (λ i. color (getD ts i 0)) ≡ run n (λ i. color (min (f i) 65535))
+  cut-run color = rw cut-long (run-same n _ _ (λ i h. ap color (cut-at i h)))

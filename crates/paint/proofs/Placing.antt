@@ -1,7 +1,7 @@
 -- Positions on a ramp: the colour at a position is the colour at t.
 use mathlib.Core.Path.{_≡_, refl, ap, _∙_}
 use mathlib.Core.Bool.{Bool, true, false, cond}
-use mathlib.Core.List.{List, [], _∷_}
+use mathlib.Core.List.{List, [], _∷_, _++_}
 use Prim.Native.Nat.{ℕ, _+_, _-_, _*_, _/_, _≤_, _<_, min}
 use native.Mathlib.Nat.{div-lt-iff-lt-mul, le-div-iff-mul-le}
 use native.Mathlib.Numerals.{add-one}
@@ -9,10 +9,11 @@ use native.Mathlib.Omega.{arith}
 use borrow.Author.Tests.{lt-ltb, le-ltb, ltb-true, ltb-false}
 use lib.Dec.{ltb}
 use lib.IntN.{ℤ, pos, negsuc, _+ℤ_}
-use lib.ListN.{length, getD}
+use lib.ListN.{length, getD, take, drop}
+use lib.Seq.{take-at}
 use lib.Signed.{ltZ}
 use Rattle.lists.specs.Lists.{tab}
-use Rattle.lists.proofs.Laws.{tab-length, tab-at}
+use Rattle.lists.proofs.Laws.{tab-length, tab-at, part-length}
 use Rattle.color.specs.declared.Pixel.{Pixel}
 use Rattle.raster.specs.Surface.{run}
 use Rattle.raster.proofs.Runs.{run-same}
@@ -94,6 +95,14 @@ pub at-position : (spread : ℕ) (premultiply : Bool) (ramp : List Stop) (t : �
     → colorAtPosition premultiply ramp (positionOf (mapped spread t)) ≡ gradientColor spread premultiply ramp t
 unfolding colorAtPosition
 at-position spread premultiply ramp t = painted spread premultiply ramp t _ refl
+
+-- positions written to the first n places, which are lent once more
+pub lent-again : (s q : List ℕ) (n : ℕ) (f : ℕ → ℕ) → n ≤ length s → q ≡ tab (length (take (n - 0) (drop 0 s))) f
+    → take (n - 0) (drop 0 (take 0 s ++ (q ++ drop (n - 0) (drop 0 s)))) ≡ tab n f
+lent-again s q n f h e =
+    let l : length (take (n - 0) (drop 0 s)) ≡ n = part-length s 0 n (omega arith) h ∙ omega arith in
+    let w : q ≡ tab n f = e ∙ ap (λ (m : ℕ). tab m f) l in
+    take-at q _ (n - 0) (ap length w ∙ tab-length n f ∙ omega arith) ∙ w
 
 -- ---- the pixels of a row, whose t are f's
 module _ (n spread : ℕ) (f : ℕ → ℤ) (ks : List ℕ) (e : ks ≡ tab n (λ i. positionOf (mapped spread (f i)))) where

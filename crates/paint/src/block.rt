@@ -10,14 +10,15 @@ use crate::radial_row::radial_positions;
 use crate::ramp::stop_color;
 use crate::segments::color_in;
 use crate::segments::find;
+use crate::words::BLOCK;
 use crate::words::finish_words;
-use crate::words::line_words;
+use crate::words::line_pixels;
 use crate::words::mix_words;
 use crate::words::put_words;
 use crate::words::word;
 ghost use mathlib.Core.Path.{_≡_};
 ghost use mathlib.Core.Bool.{true};
-ghost use Prim.Native.Nat.{_+_, _*_, _≤_, _<_};
+ghost use Prim.Native.Nat.{_+_, _*_, _/_, _≤_, _<_};
 ghost use lib.IntN.{pos, natAbs};
 ghost use lib.Signed.{_<ℤ_};
 ghost use lib.ListN.{length, getD};
@@ -32,66 +33,115 @@ ghost use Rattle.paint.specs.Segments.{Positions, Serves, Sloped, Words,
 // The offset of a ramp's end.
 const END: u32 = 65536;
 
-// The pixels from (x, y) on, as many as ks has room for.
-pub fn block(g: AnyGradient, ramp: &[u32], x: usize, y: usize, ks: &mut [u32], row: &mut [u8])
+// The n pixels from (x, y) on.
+pub fn block(g: AnyGradient, ramp: &[u32], x: usize, y: usize, n: usize, row: &mut [u8])
     requires { ⌜ HeldGradient g (now ramp) × Sloped g ⌝ }
-    requires { ⌜ (x + length (now ks) ≤ 1024) × (y ≤ 1024) × (length (now row) ≡ length (now ks) * 4) × (length (now ks) ≤ 256) ⌝ }
-    ensures { λ _. ⌜ now (row .exit) ≡ run (length (now (ks .entry))) (λ i. gradientAt g (now (ramp .entry)) (x + i) y) ⌝ }
+    requires { ⌜ (x + n ≤ 1024) × (y ≤ 1024) × (length (now row) ≡ n * 4) × (n ≤ 256) ⌝ }
+    ensures { λ _. ⌜ now (row .exit) ≡ run n (λ i. gradientAt g (now (ramp .entry)) (x + i) y) ⌝ }
 {
     match g {
-        AnyGradient::Linear(l) => linear_block(l, ramp, x, y, ks, row),
-        AnyGradient::Radial(r) => radial_block(r, ramp, x, y, ks, row),
+        AnyGradient::Linear(l) => linear_block(l, ramp, x, y, n, row),
+        AnyGradient::Radial(r) => radial_block(r, ramp, x, y, n, row),
     }
 }
 
-fn linear_block(g: LinearGradient, ramp: &[u32], x: usize, y: usize, ks: &mut [u32], row: &mut [u8])
+fn linear_block(g: LinearGradient, ramp: &[u32], x: usize, y: usize, n: usize, row: &mut [u8])
     requires { ⌜ LimitedPoints (g .points) × HeldRamp (now ramp) (g .count) × (natAbs (squaredLength (g .points)) ≡ 0 → ⊥) ⌝ }
-    requires { ⌜ (x + length (now ks) ≤ 1024) × (y ≤ 1024) × (length (now row) ≡ length (now ks) * 4) × (length (now ks) ≤ 256) ⌝ }
-    ensures { λ _. ⌜ now (row .exit) ≡ run (length (now (ks .entry))) (λ i. linearAt g (stopsIn (now (ramp .entry)) (g .count)) (x + i) y) ⌝ }
+    requires { ⌜ (x + n ≤ 1024) × (y ≤ 1024) × (length (now row) ≡ n * 4) × (n ≤ 256) ⌝ }
+    ensures { λ _. ⌜ now (row .exit) ≡ run n (λ i. linearAt g (stopsIn (now (ramp .entry)) (g .count)) (x + i) y) ⌝ }
 {
-    let l = row_line(g, x, y, ks.len());
+    let l = row_line(g, x, y, n);
     if l.serves {
         if has_ends_only(ramp, g.count) {
-            line_block(g, l, ramp, x, y, ks, row);
+            line_block(g, l, ramp, x, y, row);
             return;
         }
     }
-    linear_positions(g, l, x, y, ks);
-    color_row(g.premultiply, ramp, g.count, ks, row);
+    placed_block(g, l, ramp, x, y, n, row);
 }
 
-// The same of two stops that lie at both ends, where t is a line.
-fn line_block(
+// The same by positions. The array for them is zeroed before it is used, so it is made here: a line needs none.
+fn placed_block(
     g: LinearGradient,
     l: RowLine,
     ramp: &[u32],
     x: usize,
     y: usize,
-    ks: &mut [u32],
+    n: usize,
     row: &mut [u8],
 )
-    requires { ⌜ HeldRamp (now ramp) 2 × (getD (now ramp) 2 0 ≡ 65536) × Follows g x y (length (now ks)) (l .first) (l .step) ⌝ }
-    requires { ⌜ (length (now row) ≡ length (now ks) * 4) × (length (now ks) ≤ 256) ⌝ }
-    ensures { λ _. ⌜ now (row .exit) ≡ run (length (now (ks .entry))) (λ i. linearAt g (stopsIn (now (ramp .entry)) 2) (x + i) y) ⌝ }
+    requires { ⌜ LimitedPoints (g .points) × HeldRamp (now ramp) (g .count) × (natAbs (squaredLength (g .points)) ≡ 0 → ⊥) ⌝ }
+    requires { ⌜ (x + n ≤ 1024) × (y ≤ 1024) × (length (now row) ≡ n * 4) × (n ≤ 256) ⌝ }
+    requires { ⌜ (l .serves ≡ true → Follows g x y n (l .first) (l .step)) ⌝ }
+    ensures { λ _. ⌜ now (row .exit) ≡ run n (λ i. linearAt g (stopsIn (now (ramp .entry)) (g .count)) (x + i) y) ⌝ }
 {
-    line_words(
+    let mut ks = [0; BLOCK];
+    placed_in(g, l, ramp, x, y, n, row, &mut ks);
+}
+
+// The same with room for the positions of a block.
+fn placed_in(
+    g: LinearGradient,
+    l: RowLine,
+    ramp: &[u32],
+    x: usize,
+    y: usize,
+    n: usize,
+    row: &mut [u8],
+    ks: &mut [u32],
+)
+    requires { ⌜ LimitedPoints (g .points) × HeldRamp (now ramp) (g .count) × (natAbs (squaredLength (g .points)) ≡ 0 → ⊥) ⌝ }
+    requires { ⌜ (x + n ≤ 1024) × (y ≤ 1024) × (length (now row) ≡ n * 4) × (n ≤ 256) × (length (now ks) ≡ 256) ⌝ }
+    requires { ⌜ (l .serves ≡ true → Follows g x y n (l .first) (l .step)) ⌝ }
+    ensures { λ _. ⌜ now (row .exit) ≡ run n (λ i. linearAt g (stopsIn (now (ramp .entry)) (g .count)) (x + i) y) ⌝ }
+{
+    linear_positions(g, l, x, y, &mut ks[0..n]);
+    color_row(g.premultiply, ramp, g.count, &mut ks[0..n], row);
+}
+
+// The same of two stops that lie at both ends, where t is a line.
+fn line_block(g: LinearGradient, l: RowLine, ramp: &[u32], x: usize, y: usize, row: &mut [u8])
+    requires { ⌜ HeldRamp (now ramp) 2 × (getD (now ramp) 2 0 ≡ 65536) × Follows g x y (length (now row) / 4) (l .first) (l .step) ⌝ }
+    requires { ⌜ (length (now row) ≡ length (now row) / 4 * 4) × (length (now row) / 4 ≤ 256) ⌝ }
+    ensures { λ _. ⌜
+        now (row .exit) ≡ run (length (now (row .entry)) / 4) (λ i. linearAt g (stopsIn (now (ramp .entry)) 2) (x + i) y)
+        ⌝ }
+{
+    line_pixels(
         g.premultiply,
         stop_color(ramp, 0),
         stop_color(ramp, 1),
         l.first,
         l.step,
-        ks,
+        row,
     );
-    put_words(ks, row);
 }
 
-fn radial_block(g: RadialGradient, ramp: &[u32], x: usize, y: usize, ks: &mut [u32], row: &mut [u8])
+fn radial_block(g: RadialGradient, ramp: &[u32], x: usize, y: usize, n: usize, row: &mut [u8])
     requires { ⌜ LimitedCircle (g .circle) × (focalAllowed (g .circle) ≡ true) × HeldRamp (now ramp) (g .count) × (pos 0 <ℤ g .circle .r) ⌝ }
-    requires { ⌜ (x + length (now ks) ≤ 1024) × (y ≤ 1024) × (length (now row) ≡ length (now ks) * 4) × (length (now ks) ≤ 256) ⌝ }
-    ensures { λ _. ⌜ now (row .exit) ≡ run (length (now (ks .entry))) (λ i. radialAt g (stopsIn (now (ramp .entry)) (g .count)) (x + i) y) ⌝ }
+    requires { ⌜ (x + n ≤ 1024) × (y ≤ 1024) × (length (now row) ≡ n * 4) × (n ≤ 256) ⌝ }
+    ensures { λ _. ⌜ now (row .exit) ≡ run n (λ i. radialAt g (stopsIn (now (ramp .entry)) (g .count)) (x + i) y) ⌝ }
 {
-    radial_positions(g, x, y, ks);
-    color_row(g.premultiply, ramp, g.count, ks, row);
+    let mut ks = [0; BLOCK];
+    radial_in(g, ramp, x, y, n, row, &mut ks);
+}
+
+// The same with room for the positions of a block.
+fn radial_in(
+    g: RadialGradient,
+    ramp: &[u32],
+    x: usize,
+    y: usize,
+    n: usize,
+    row: &mut [u8],
+    ks: &mut [u32],
+)
+    requires { ⌜ LimitedCircle (g .circle) × (focalAllowed (g .circle) ≡ true) × HeldRamp (now ramp) (g .count) × (pos 0 <ℤ g .circle .r) ⌝ }
+    requires { ⌜ (x + n ≤ 1024) × (y ≤ 1024) × (length (now row) ≡ n * 4) × (n ≤ 256) × (length (now ks) ≡ 256) ⌝ }
+    ensures { λ _. ⌜ now (row .exit) ≡ run n (λ i. radialAt g (stopsIn (now (ramp .entry)) (g .count)) (x + i) y) ⌝ }
+{
+    radial_positions(g, x, y, &mut ks[0..n]);
+    color_row(g.premultiply, ramp, g.count, &mut ks[0..n], row);
 }
 
 // The pixels at the positions of ks, which then holds their colours.

@@ -142,8 +142,7 @@ fn sloped_row(g: AnyGradient, ramp: &[u32], x: usize, y: usize, n: usize, row: &
     requires { ⌜ (x + n ≤ 1024) × (y ≤ 1024) × (length (now row) ≡ n * 4) ⌝ }
     ensures { λ _. ⌜ now (row .exit) ≡ run n (λ i. gradientAt g (now (ramp .entry)) (x + i) y) ⌝ }
 {
-    let mut ks = [0; BLOCK];
-    blocks(g, ramp, x, y, n, block_size(g, ramp), row, &mut ks);
+    blocks(g, ramp, x, y, n, block_size(g, ramp), row);
 }
 
 // How many pixels are made at a time: half a block of a long gradient, so that t is a line there too.
@@ -164,18 +163,9 @@ fn block_size(g: AnyGradient, ramp: &[u32]) -> usize
     }
 }
 
-// The same so many pixels at a time, with room for the positions of a block.
-fn blocks(
-    g: AnyGradient,
-    ramp: &[u32],
-    x: usize,
-    y: usize,
-    n: usize,
-    size: usize,
-    row: &mut [u8],
-    ks: &mut [u32],
-)
-    requires { ⌜ HeldGradient g (now ramp) × Sloped g × (length (now ks) ≡ 256) × (0 < size) × (size ≤ 256) ⌝ }
+// The same so many pixels at a time.
+fn blocks(g: AnyGradient, ramp: &[u32], x: usize, y: usize, n: usize, size: usize, row: &mut [u8])
+    requires { ⌜ HeldGradient g (now ramp) × Sloped g × (0 < size) × (size ≤ 256) ⌝ }
     requires { ⌜ (x + n ≤ 1024) × (y ≤ 1024) × (length (now row) ≡ n * 4) ⌝ }
     ensures { λ _. ⌜ now (row .exit) ≡ run n (λ i. gradientAt g (now (ramp .entry)) (x + i) y) ⌝ }
 {
@@ -185,7 +175,7 @@ fn blocks(
         let m = e - i;
         let from = i * 4;
         let to = e * 4;
-        block(g, ramp, x + i, y, &mut ks[0..m], &mut row[from..to]);
+        block(g, ramp, x + i, y, m, &mut row[from..to]);
         i = e;
     }
 }

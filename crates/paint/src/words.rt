@@ -1,4 +1,4 @@
-// The pixels of a block as numbers of 32 bits, R lowest: each loop here is one of plain numbers, which the compiler does several at a time.
+// The pixels of a block as numbers of 32 bits, R lowest, or two of 16: each loop here is one of plain numbers, which the compiler does several at a time.
 use crate::positions::line_ts;
 use crate::ramp::pack;
 use crate::ramp::unpack;
@@ -6,7 +6,7 @@ use crate::segments::greatest;
 use color::Pixel;
 use color::premultiply;
 ghost use mathlib.Core.Path.{_≡_};
-ghost use Prim.Native.Nat.{_+_, _-_, _*_, _≤_, _<_, min};
+ghost use Prim.Native.Nat.{_+_, _-_, _*_, _/_, _≤_, _<_, min};
 ghost use lib.IntN.{pos, natAbs, _+ℤ_, _*ℤ_};
 ghost use lib.ListN.{length, getD};
 ghost use Rattle.fixed.specs.Floor.{floorDiv};
@@ -55,17 +55,18 @@ fn mix_planes(c: Pixel, d: Pixel, left: &mut [u16], right: &mut [u16], ks: &mut 
     mix_ts(c, d, left, right, ks);
 }
 
-// The colours between two stops at 0 and 65,536 of pixels whose t is a line, premultiplied if the stops were not.
-pub fn line_words(premultiply: bool, c: Pixel, d: Pixel, first: i64, step: i64, ws: &mut [u32])
-    requires { ⌜ (natAbs first ≤ 2305843009213693952) × (natAbs step ≤ 18014398509481984) × (length (now ws) ≤ 256) ⌝ }
+// The pixels between two stops at 0 and 65,536 whose t is a line, premultiplied if the stops were not: as many as the row has room for.
+pub fn line_pixels(premultiply: bool, c: Pixel, d: Pixel, first: i64, step: i64, row: &mut [u8])
+    requires { ⌜ (natAbs first ≤ 2305843009213693952) × (natAbs step ≤ 18014398509481984) ⌝ }
+    requires { ⌜ (length (now row) ≡ length (now row) / 4 * 4) × (length (now row) / 4 ≤ 256) ⌝ }
     ensures { λ _. ⌜
-        Words (λ i. finished premultiply (twoStops c d (positionOf (floorDiv (first +ℤ step *ℤ pos i) lineParts))))
-        (length (now (ws .entry))) (now (ws .exit))
+        now (row .exit)
+        ≡ run (length (now (row .entry)) / 4) (λ i. finished premultiply (twoStops c d (positionOf (floorDiv (first +ℤ step *ℤ pos i) lineParts))))
         ⌝ }
 {
     let mut left = [0u16; BLOCK];
     let mut right = [0u16; BLOCK];
-    line_in(premultiply, c, d, first, step, &mut left, &mut right, ws);
+    line_in(premultiply, c, d, first, step, &mut left, &mut right, row);
 }
 
 // The same with room for the pairs of a block.
@@ -77,16 +78,16 @@ fn line_in(
     step: i64,
     left: &mut [u16],
     right: &mut [u16],
-    ws: &mut [u32],
+    row: &mut [u8],
 )
-    requires { ⌜ (natAbs first ≤ 2305843009213693952) × (natAbs step ≤ 18014398509481984) ⌝ }
-    requires { ⌜ (length (now left) ≡ 256) × (length (now right) ≡ 256) × (length (now ws) ≤ 256) ⌝ }
+    requires { ⌜ (natAbs first ≤ 2305843009213693952) × (natAbs step ≤ 18014398509481984) × (length (now left) ≡ 256) × (length (now right) ≡ 256) ⌝ }
+    requires { ⌜ (length (now row) ≡ length (now row) / 4 * 4) × (length (now row) / 4 ≤ 256) ⌝ }
     ensures { λ _. ⌜
-        Words (λ i. finished premultiply (twoStops c d (positionOf (floorDiv (first +ℤ step *ℤ pos i) lineParts))))
-        (length (now (ws .entry))) (now (ws .exit))
+        now (row .exit)
+        ≡ run (length (now (row .entry)) / 4) (λ i. finished premultiply (twoStops c d (positionOf (floorDiv (first +ℤ step *ℤ pos i) lineParts))))
         ⌝ }
 {
-    let n = ws.len();
+    let n = row.len() / 4;
     line_planes(
         premultiply,
         c,
@@ -95,7 +96,7 @@ fn line_in(
         step,
         &mut left[0..n],
         &mut right[0..n],
-        ws,
+        row,
     );
 }
 
@@ -108,18 +109,33 @@ fn line_planes(
     step: i64,
     left: &mut [u16],
     right: &mut [u16],
-    ws: &mut [u32],
+    row: &mut [u8],
 )
     requires { ⌜ (natAbs first ≤ 2305843009213693952) × (natAbs step ≤ 18014398509481984) ⌝ }
-    requires { ⌜ (length (now left) ≡ length (now ws)) × (length (now right) ≡ length (now ws)) × (length (now ws) ≤ 256) ⌝ }
+    requires { ⌜ (length (now row) ≡ length (now left) * 4) × (length (now right) ≡ length (now left)) × (length (now left) ≤ 256) ⌝ }
     ensures { λ _. ⌜
-        Words (λ i. finished premultiply (twoStops c d (positionOf (floorDiv (first +ℤ step *ℤ pos i) lineParts))))
-        (length (now (ws .entry))) (now (ws .exit))
+        now (row .exit)
+        ≡ run (length (now (left .entry))) (λ i. finished premultiply (twoStops c d (positionOf (floorDiv (first +ℤ step *ℤ pos i) lineParts))))
         ⌝ }
 {
     line_ts(first, step, left, right);
     mix_finished(premultiply, c, d, left, right);
-    join(left, right, ws);
+    put_planes(left, right, row);
+}
+
+// The bytes of pixels that are two planes of pairs. A pixel's pairs are joined where they are stored, so that no words are kept between.
+fn put_planes(left: &[u16], right: &[u16], row: &mut [u8])
+    requires { ⌜ (length (now row) ≡ length (now left) * 4) × (length (now right) ≡ length (now left)) × (length (now left) ≤ 256) ⌝ }
+    ensures { λ _. ⌜
+        now (row .exit)
+        ≡ run (length (now (left .entry))) (λ i. unpacked (getD (now (left .entry)) i 0 + getD (now (right .entry)) i 0 * 65536))
+        ⌝ }
+{
+    let mut i = 0;
+    while i < left.len() {
+        raster::put_pixel(row, i, unpack(joined(left[i], right[i])));
+        i += 1;
+    }
 }
 
 // t at each position, for both pairs.

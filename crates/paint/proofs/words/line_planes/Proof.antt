@@ -10,7 +10,7 @@ use Rattle.fixed.specs.Floor.{floorDiv}
 use Rattle.paint.specs.Ramps.{mixPixel}
 use Rattle.paint.specs.Buffers.{lineParts}
 use Rattle.paint.specs.Segments.{finished, positionOf}
-use Rattle.paint.proofs.Pairs.{joined-words, cut-on-ramp, cut-words}
+use Rattle.paint.proofs.Pairs.{joined-run, cut-on-ramp, cut-run}
 use borrow.Author.Needs.{needs}
 use Rattle.paint.proofs.words.line_planes.Statement.{statement}
 use Rattle.paint.proofs.words.line_planes.Tie as tie
@@ -22,10 +22,7 @@ t c i = positionOf (floorDiv (c .args .first +ℤ c .args .step *ℤ pos i) line
 line-ts-requires : tie.Need-line-ts-requires
 line-ts-requires c κs =
     let entry = c .before .before .before .before .before in
-    rw (toZ-ofZ (entry .fits .first), toZ-ofZ (entry .fits .step)) (
-      entry .pre .0,
-      (entry .pre .1 .1 ∙ sym (entry .pre .1 .0), omega (arith, entry .pre .1 .0, entry .pre .1 .2)),
-    )
+    rw (toZ-ofZ (entry .fits .first), toZ-ofZ (entry .fits .step)) (entry .pre .0, (entry .pre .1 .1, entry .pre .1 .2))
 
 -- what it wrote
 written : (c : tie.After-line-ts)
@@ -43,19 +40,18 @@ mix-finished-requires c κs =
     let call = after-ts .line-ts in
     let entry = after-ts .before .before .before .before .before .before in
     let on = cut-on-ramp (length (entry .args .left .now)) (t entry) _ (written after-ts) in
-    (on, call .ensures .1, omega (arith, call .kept .1 .1 .0, entry .pre .1 .0, entry .pre .1 .2))
+    (on, call .ensures .1, omega (arith, call .kept .1 .1 .0, entry .pre .1 .2))
 
-join-requires : tie.Need-join-requires
-join-requires c κs =
+put-planes-requires : tie.Need-put-planes-requires
+put-planes-requires c κs =
     let after-mix = c .before .before .before .before .before .before .before in
     let after-ts = after-mix .before .before .before .before .before .before .before in
     let entry = after-ts .before .before .before .before .before .before in
     let mixed = after-mix .mix-finished .kept in
-    let ts = after-ts .line-ts .kept in (
-      mixed .1 .1 .1 .0 ∙ ts .1 .1 .0 ∙ entry .pre .1 .0,
-      mixed .1 .1 .1 .1 .0 ∙ ts .1 .1 .1 .0 ∙ entry .pre .1 .1,
-      entry .pre .1 .2,
-    )
+    let ts = after-ts .line-ts .kept in
+    let left = mixed .1 .1 .1 .0 ∙ ts .1 .1 .0 in
+    let right = mixed .1 .1 .1 .1 .0 ∙ ts .1 .1 .1 .0 in
+    (omega (arith, left, entry .pre .1 .0), right ∙ entry .pre .1 .1 ∙ sym left, omega (arith, left, entry .pre .1 .2))
 
 returns : tie.Need-returns
 returns c =
@@ -63,12 +59,9 @@ returns c =
     let after-ts = after-mix .before .before .before .before .before .before .before in
     let entry = after-ts .before .before .before .before .before .before in
     let a = entry .args in
-    let n = length (a .ws .now) in
-    let long = after-ts .line-ts .kept .1 .1 .0 ∙ entry .pre .1 .0 in
-    let joined = joined-words (after-mix .mix-finished .ensures) n _ long (c .before .before .join .ensures) in
-    let words = cut-words (length (a .left .now)) (t entry) _ (written after-ts)
-    (λ t. finished (a .premultiply) (mixPixel 0 65536 t (a .c) (a .d))) n _ (sym (entry .pre .1 .0)) joined in
-    record { long = words .long ∙ entry .pre .1 .0; color = λ i h. words .color i (omega (arith, h, entry .pre .1 .0)) }
+    c .before .before .put-planes .ensures
+    ∙ joined-run (after-mix .mix-finished .ensures)
+    ∙ cut-run (length (a .left .now)) (t entry) _ (written after-ts) (λ t. finished (a .premultiply) (mixPixel 0 65536 t (a .c) (a .d)))
 
 pub line-planes-spec : {M : Type 1} → statement M
 line-planes-spec =
@@ -76,7 +69,7 @@ line-planes-spec =
     (tie.spec
     line-ts-requires
     mix-finished-requires
-    join-requires
+    put-planes-requires
     (λ c. search needs)
     (λ c. search needs)
     (λ c. search needs)
