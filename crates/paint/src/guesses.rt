@@ -20,8 +20,8 @@ const LARGEST: f32 = 1152921504606846976.0;
 // Half of the bits of h, taken from this, are those of a number near 1 / √2h.
 const BITS: u32 = 1593268870;
 
-// 2^52: of a sum with it the lowest bits are a whole number.
-const WHOLE: f64 = 4503599627370496.0;
+// 2^52 - 1/2: of a sum with it the lowest bits are what was added, less a half and rounded.
+const WHOLE: f64 = 4503599627370495.5;
 
 // About the roots of Q at pixels one after the other, of the first of which it is q, and grows by dq, which grows by ddq; no root is above most.
 pub fn guess_roots(q: i64, dq: i64, ddq: i64, most: f64, ks: &mut [u32])
@@ -106,10 +106,10 @@ fn root(x: f64, y: f32, most: f64) -> u32
 {
     let w = capped(y, 1.0) as f64;
     let s = x * w;
-    whole(s * (STEP - s * w) - 0.5, most)
+    whole(s * (STEP - s * w), most)
 }
 
-// About the whole number next to r, where it is below most.
+// About the greatest whole number that is not above r, where r is below most.
 fn whole(r: f64, most: f64) -> u32
     requires { ⌜ T (not (isNan most)) ⌝ }
 {
