@@ -4,17 +4,17 @@ use mathlib.Core.Bool.{Bool, true, false, cond, _&&_}
 use mathlib.Core.List.{List, [], _∷_, _++_, foldl}
 use Prim.Native.Nat.{ℕ, zero, suc, min, _≤_}
 use native.Mathlib.Omega.{arith}
-use lib.Dec.{T, lit<}
+use lib.Dec.{T, lit<, eqb}
 use lib.IntN.{ℤ, pos, negsuc, _+ℤ_}
 use lib.Signed.{leZ, _≤ℤ_, ≤ℤ-refl, leZ-yes}
-use borrow.Author.Tests.{lt-leb}
+use borrow.Author.Tests.{lt-leb, eqb-true, eqb-false}
 use Rattle.fixed.specs.Floor.{floorDiv}
 use Rattle.fixed.proofs.Poly.{var, num, _⊕_, eq, le, from-le}
 use Rattle.fixed.proofs.Round.{from-floor}
 use Rattle.fixed.proofs.Tests.{is-true}
 use Rattle.rect.specs.Rects.{Holds}
 use Rattle.rect.specs.Rects as R
-use Rattle.rect.proofs.Laws.{both, empty-out}
+use Rattle.rect.proofs.Laws.{both, either, empty-out}
 use Rattle.path.specs.declared.FixedMatrix.{FixedMatrix}
 use Rattle.path.specs.declared.Point.{Point}
 use Rattle.path.specs.declared.Curve.{Curve}
@@ -23,9 +23,9 @@ use Rattle.path.specs.Boxes.{outer, endOf, outerOf, within, boxOf}
 use Rattle.path.specs.Matrices.{transform}
 use Rattle.path.specs.Curves.{cutPoint, equal, edge, edgeBetween, curveEdges}
 use Rattle.outline.specs.Corners.{grownBy, pixelsOf}
-use Rattle.outline.specs.Around.{Beyond, sideOf, Wider, Around}
+use Rattle.outline.specs.Around.{Beyond, sideOf, Wider, Around, axisOf, Over}
 use Rattle.outline.proofs.Bezier.{curved, cut-side}
-use Rattle.outline.proofs.Counts.{curve-pieces}
+use Rattle.outline.proofs.Counts.{curve-line, curve-pieces}
 use Rattle.outline.proofs.Every.{Every, none, more, every-map, every-append, every-upto}
 use Rattle.outline.proofs.Outermost.{beyond-refl, beyond-trans, outer-first, outer-second, outer-within, within-some}
 
@@ -42,24 +42,17 @@ grown-side true false c e = refl
 grown-side false true c e = refl
 grown-side false false c e = refl
 
-grown-wider : (c e : Edge) → Wider (grownBy c e) c
+pub grown-wider : (c e : Edge) → Wider (grownBy c e) c
 grown-wider c e = record {
   side = λ greater axis. rw (grown-side greater axis c e) (outer-first greater (sideOf greater axis c) (endOf greater axis e));
 }
 
 -- ---- points
-abbrev axisOf : Bool → Point → ℤ
-axisOf axis p = cond axis (p .y) (p .x)
-
--- the box holds a point
-record Over (c : Edge) (p : Point) : Type 0 where
-  side : (greater axis : Bool) → Beyond greater (sideOf greater axis c) (axisOf axis p)
-
 edge-end : (greater axis : Bool) (p q : Point) → endOf greater axis (edge p q) ≡ outer greater (axisOf axis p) (axisOf axis q)
 edge-end greater true p q = refl
 edge-end greater false p q = refl
 
-over-wider : (a b : Edge) (p : Point) → Wider a b → Over b p → Over a p
+pub over-wider : (a b : Edge) (p : Point) → Wider a b → Over b p → Over a p
 over-wider a b p h k = record { side = λ greater axis. beyond-trans greater _ (sideOf greater axis b) _ (h .side greater axis) (k .side greater axis) }
 
 module _ (c : Edge) (p q : Point) where
@@ -67,7 +60,7 @@ module _ (c : Edge) (p q : Point) where
   grown-end greater axis =
       rw (grown-side greater axis c (edge p q), sym (edge-end greater axis p q)) (outer-second greater (sideOf greater axis c) (endOf greater axis (edge p q)))
 
-  grown-from : Over (grownBy c (edge p q)) p
+  pub grown-from : Over (grownBy c (edge p q)) p
   grown-from = record {
     side = λ greater axis. beyond-trans greater _ _ _ (grown-end greater axis) (outer-first greater (axisOf axis p) (axisOf axis q));
   }
@@ -133,24 +126,43 @@ cut-over c o v k l m n h0 h1 h2 h3 = record { side = by }
         cut-side (sideOf greater false c) (o .x) (v .p1 .x) (v .p2 .x) (v .p3 .x) greater (curved (v .degree) l m) k n
         (h0 .side greater false) (h1 .side greater false) (h2 .side greater false) (h3 .side greater false)
 
-pub curve-around : (c d r : Edge) (o : Point) (v : Curve) → (v .degree ≡ 1 → ⊥) → 1 ≤ v .degree → v .degree ≤ 3
+-- the edges of a curve whose points are in the box
+pub points-around : (c : Edge) (o : Point) (v : Curve) → 1 ≤ v .degree → v .degree ≤ 3
+    → Over c o → Over c (v .p1) → Over c (v .p2) → Over c (v .p3) → Around c (curveEdges o v)
+points-around c o v some most h0 h1 h2 h3 = either (eqb (v .degree) 1) line pieced
+  where
+    line : eqb (v .degree) 1 ≡ true → Around c (curveEdges o v)
+    line e = rw (curve-line o v (eqb-true _ _ e)) (edge-around c o (v .p3) h0 h3)
+
+    pieced : eqb (v .degree) 1 ≡ false → Around c (curveEdges o v)
+    pieced e =
+        let n = eqb-false (v .degree) 1 e in
+        let l : 2 ≤ v .degree = omega (arith, some, n) in
+        let at : (k : ℕ) → k ≤ 16 → Over c (cutPoint o v k) = λ k m. cut-over c o v k l most m h0 h1 h2 h3 in
+        rw (curve-pieces o v n)
+        (record {
+          side = λ greater axis.
+              every-upto 16 _
+              (λ k m. edge-around c (cutPoint o v k) (cutPoint o v (suc k)) (at k (omega arith)) (at (suc k) (omega arith)) .side greater axis);
+        })
+
+-- a box grown by two edges holds their four ends
+pub four-over : (c d r : Edge) (p q s t : Point) → d ≡ grownBy c (edge p q) → r ≡ grownBy d (edge s t) → (Over r p × Over r q) × (Over r s × Over r t)
+four-over c d r p q s t e f =
+    let first = grownBy c (edge p q) in
+    let both = grownBy first (edge s t) in
+    let w = grown-wider first (edge s t) in
+    rw (f, e) (
+      (over-wider both first p w (grown-from c p q), over-wider both first q w (grown-to c p q)),
+      (grown-from first s t, grown-to first s t),
+    )
+
+pub curve-around : (c d r : Edge) (o : Point) (v : Curve) → 1 ≤ v .degree → v .degree ≤ 3
     → d ≡ grownBy c (edge o (v .p1)) → r ≡ grownBy d (edge (v .p2) (v .p3)) → Wider r c × Around r (curveEdges o v)
-curve-around c d r o v n some most e f =
-    let first = grownBy c (edge o (v .p1)) in
-    let both = grownBy first (edge (v .p2) (v .p3)) in
-    let w = grown-wider first (edge (v .p2) (v .p3)) in
-    let l : 2 ≤ v .degree = omega (arith, some, n) in
-    let h0 = over-wider both first o w (grown-from c o (v .p1)) in
-    let h1 = over-wider both first (v .p1) w (grown-to c o (v .p1)) in
-    let at : (k : ℕ) → k ≤ 16 → Over both (cutPoint o v k) = λ k m.
-    cut-over both o v k l most m h0 h1 (grown-from first (v .p2) (v .p3)) (grown-to first (v .p2) (v .p3)) in
-    rw (f, e, curve-pieces o v n) (
-      wider-trans both first c w (grown-wider c (edge o (v .p1))),
-      record {
-        side = λ greater axis.
-            every-upto 16 _
-            (λ k m. edge-around both (cutPoint o v k) (cutPoint o v (suc k)) (at k (omega arith)) (at (suc k) (omega arith)) .side greater axis);
-      },
+curve-around c d r o v some most e f =
+    let h = four-over c d r o (v .p1) (v .p2) (v .p3) e f in (
+      wider-trans r d c (rw f (grown-wider d (edge (v .p2) (v .p3)))) (rw e (grown-wider c (edge o (v .p1)))),
+      points-around r o v some most (h .0 .0) (h .0 .1) (h .1 .0) (h .1 .1),
     )
 
 -- ---- its pixels hold the box
@@ -176,7 +188,7 @@ within-order n (pos (suc a)) (pos (suc b)) h =
 within-order n (pos (suc a)) (negsuc b) h = absurd (h .le)
 within-order n (negsuc a) b h = omega arith
 
-floor-order : (a b : ℤ) → a ≤ℤ b → floorDiv a 256 ≤ℤ floorDiv b 256
+pub floor-order : (a b : ℤ) → a ≤ℤ b → floorDiv a 256 ≤ℤ floorDiv b 256
 floor-order a b h =
     let f = from-floor (var a) 256 (lit< tt) in
     let g = from-floor (var b) 256 (lit< tt) in

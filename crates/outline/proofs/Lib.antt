@@ -10,6 +10,7 @@
 --     Outermost   the outer end of edges, and their box
 --     Merged      one edge in place of many, the box the same
 --     Around      edges and curves in a box, and the pixels of the box
+--     Frames      the box of a path's coordinates, taken as x and y in turn
 pub mod Flattened
 pub mod Returns
 pub mod Counts
@@ -21,3 +22,4 @@ mod Bezier
 pub mod Outermost
 mod Merged
 mod Around
+mod Frames

@@ -3,6 +3,7 @@ use mathlib.Core.Bool.{Bool, false, true, cond}
 use mathlib.Core.List.{List}
 use lib.IntN.{ℤ}
 use lib.Signed.{_≤ℤ_}
+use Rattle.path.specs.declared.Point.{Point}
 use Rattle.path.specs.declared.Edge.{Edge}
 use Rattle.path.specs.Boxes.{endOf}
 use Rattle.outline.specs.Every.{Every}
@@ -23,3 +24,10 @@ pub record Wider (c b : Edge) : Type 0 where
 -- it holds every edge of a list
 pub record Around (c : Edge) (es : List Edge) : Type 0 where
   pub side : (greater axis : Bool) → Every (λ e. Beyond greater (sideOf greater axis c) (endOf greater axis e)) es
+
+-- a point's number on an axis, and the box holds the point
+abbrev pub axisOf : Bool → Point → ℤ
+axisOf axis p = cond axis (p .y) (p .x)
+
+pub record Over (c : Edge) (p : Point) : Type 0 where
+  pub side : (greater axis : Bool) → Beyond greater (sideOf greater axis c) (axisOf axis p)

@@ -4,3 +4,4 @@ pub mod Alike
 pub mod Corners
 pub mod Every
 pub mod Around
+pub mod Frames

@@ -1,14 +1,19 @@
 // A rectangle that holds the box of a path, by its control points alone: no curve is cut.
 use crate::bounds::grown;
 use crate::bounds::pixels;
+use crate::frame::FAR;
+use crate::frame::between;
+use crate::frame::frame;
+use crate::frame::is_paired;
 use crate::store::same_point;
 use path::Curve;
 use path::Edge;
 use path::FixedMatrix;
 use path::Pen;
-use path::Point;
 use path::Walk;
 use path::commands::returns;
+use path::plain::is_plain;
+use path::plain::taken_by;
 use path::tracing::trace;
 use rect::Rect;
 ghost use mathlib.Core.Path.{_≡_};
@@ -18,12 +23,9 @@ ghost use Rattle.rect.specs.Rects.{Holds};
 ghost use Rattle.path.specs.Boxes.{boxOf};
 ghost use Rattle.path.specs.Limits.{Limited};
 ghost use Rattle.path.specs.Segments.{lineTo, drawnBy, faultTo};
-ghost use Rattle.path.specs.Curves.{edge, drawnEdges, pathEdges};
+ghost use Rattle.path.specs.Curves.{drawnEdges, pathEdges};
 ghost use Rattle.outline.specs.Asked.{PenPlaced, CurvePlaced};
 ghost use Rattle.outline.specs.Around.{Wider, Around};
-
-// The largest size of a point on the surface: before the first point the least corner lies there, and the greatest on the other side.
-const FAR: i32 = 8388608;
 
 // Pixels of a surface of that size that hold the box of an accepted path of n segments.
 pub fn path_hull(
@@ -39,11 +41,24 @@ pub fn path_hull(
     requires { ⌜ (width ≤ 1024) × (height ≤ 1024) ⌝ }
     ensures { λ r. ⌜ Holds r (boxOf width height (pathEdges m (now (segments .entry)) (now (coordinates .entry)) n)) ⌝ }
 {
-    let c = surround(m, segments, n, coordinates);
+    let c = control_box(m, segments, n, coordinates);
     pixels(c, width, height)
 }
 
-// From a least corner to a greatest: the edges of an accepted path of n segments lie between.
+// From a least corner to a greatest: the edges of an accepted path of n segments lie between. Where the coordinates are x and y in turn, they
+// alone tell.
+fn control_box(m: FixedMatrix, segments: &[u8], n: usize, coordinates: &[u8]) -> Edge
+    requires { ⌜ (n ≤ 128) × (n ≤ length (now segments)) ⌝ }
+    requires { ⌜ Limited m × (faultTo m (now segments) (now coordinates) n .code ≡ 0) ⌝ }
+    ensures { λ r. ⌜ Around r (pathEdges m (now (segments .entry)) (now (coordinates .entry)) n) ⌝ }
+{
+    if is_plain(m, segments, n) && is_paired(segments, n) {
+        return frame(m, coordinates, taken_by(segments, n) / 2);
+    }
+    surround(m, segments, n, coordinates)
+}
+
+// The same for any accepted path, point by point.
 fn surround(m: FixedMatrix, segments: &[u8], n: usize, coordinates: &[u8]) -> Edge
     requires { ⌜ (n ≤ 128) × (n ≤ length (now segments)) ⌝ }
     requires { ⌜ Limited m × (faultTo m (now segments) (now coordinates) n .code ≡ 0) ⌝ }
@@ -102,15 +117,4 @@ fn add_closing(m: FixedMatrix, c: Edge, pen: Pen) -> Edge
     let from = m.apply(pen.current);
     let to = m.apply(pen.start);
     grown(c, between(from, to))
-}
-
-fn between(a: Point, b: Point) -> Edge
-    ensures { λ r. ⌜ r ≡ edge a b ⌝ }
-{
-    Edge {
-        x0: a.x,
-        y0: a.y,
-        x1: b.x,
-        y1: b.y,
-    }
 }

@@ -3,6 +3,7 @@ pub mod bounds;
 pub mod curve;
 pub mod extent;
 pub mod flatten;
+pub mod frame;
 pub mod hull;
 pub mod store;
 

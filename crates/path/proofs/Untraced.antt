@@ -41,11 +41,11 @@ three : (p q r : Point) → T (inRange p) → T (inRange q) → T (inRange r) �
 three p q r h k l = two (inRange p) (inRange q && inRange r) h (two (inRange q) (inRange r) k l)
 
 -- ---- a plain segment by its byte
-record Plain (byte : ℕ) : Type 0 where
+pub record Plain (byte : ℕ) : Type 0 where
   pub absolute : relative byte ≡ false
   pub few : byte ≤ 12
 
-plain : (byte : ℕ) → isPlain byte ≡ true → Plain byte
+pub plain : (byte : ℕ) → isPlain byte ≡ true → Plain byte
 plain byte h =
     let b = both (eqb (byte % 2) 0) (leb byte 12) h in
     let e = eqb-true (byte % 2) 0 (b .0) in
@@ -135,7 +135,7 @@ axis-in a b t p n h =
     le→leb (natAbs (floorDiv z 256)) 8388608 (shifted z (omega (arith, sum .size, leb-true ((natAbs a + natAbs b) * 32768 + natAbs t) 2147483520 h)))
 
 module _ (m : FixedMatrix) (small : isSmall m ≡ true) where
-  point-on : (p : Point) → Near p → T (onSurfaceGrid (transform m p))
+  pub point-on : (p : Point) → Near p → T (onSurfaceGrid (transform m p))
   unfolding isSmall
   point-on p n =
       let b = both (axisSmall (m .sx) (m .shx) (m .tx)) (axisSmall (m .shy) (m .sy) (m .ty)) small in

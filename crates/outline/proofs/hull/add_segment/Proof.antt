@@ -60,8 +60,7 @@ returns-3 c =
     let after-between = half .before in
     let second = after-between .before in
     let first = second .before in
-    let curve = first .before in
-    let to = curve .before .before in
+    let to = first .before .before .before in
     let from = to .before in
     let test = from .before in
     let entry = test .before .before in
@@ -73,7 +72,7 @@ returns-3 c =
     let e = after-between .between2 .ensures ∙ ap (edge o) (first .apply3 .ensures) in
     let f = last .between3 .ensures ∙ ap₂ edge (second .apply4 .ensures) (to .apply2 .ensures) in
     let placed = entry .pre .1 .1 in
-    let h = curve-around (a .c) d r o v (curve .if2 .left) (placed .some) (placed .most)
+    let h = curve-around (a .c) d r o v (placed .some) (placed .most)
     (half .grown2 .ensures ∙ ap (grownBy (a .c)) e) (c .grown3 .ensures ∙ ap (grownBy d) f) in
     let drawn = drawn-curve (a .m) (a .pen) (a .byte) (a .curve) o v (sym (test .before .returns .ensures) ∙ test .if1 .left) (from .apply .ensures) refl in
     (h .0, subst (λ (es : List Edge). Around r es) drawn (h .1))
