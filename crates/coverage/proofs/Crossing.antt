@@ -7,7 +7,7 @@ use native.Mathlib.Omega.{arith}
 use lib.Dec.{T, not-T, leb, leb→le, le→leb, leb·zero}
 use borrow.Author.Tests.{le-leb, lt-leb, leb-true, leb-false}
 use lib.IntN.{ℤ, pos, negsuc, natAbs, _+ℤ_, _-ℤ_, _*ℤ_}
-use lib.Signed.{leZ, ltZ, _≤ℤ_, _<ℤ_, leZ-yes, ltZ-yes, ltZ-no, clashℤ}
+use lib.Signed.{leZ, ltZ, _≤ℤ_, _<ℤ_, leZ-yes, ltZ-yes, ltZ-no, clashℤ, ≤ℤ-refl}
 use Rattle.fixed.specs.Floor.{floorDiv}
 use Rattle.fixed.proofs.Poly.{up, dn, var, num, _⊕_, _⊖_, _⊗_, le, lt, from-le, from-lt}
 use Rattle.fixed.proofs.Round.{from-floor}
@@ -15,7 +15,7 @@ use Rattle.fixed.proofs.Sign.{is-positive, above-zero, zero-or-more}
 use Rattle.path.specs.declared.Edge.{Edge}
 use Rattle.coverage.specs.Winding.{leftUp}
 use Rattle.coverage.specs.Scanline.{ceilDiv, firstColumn, place}
-use Rattle.fixed.proofs.Tests.{same-test, leZ-not}
+use Rattle.fixed.proofs.Tests.{same-test, leZ-not, ≤ℤ-trans}
 
 -- not at or below is above
 pub above : (y Y : ℤ) → ltZ Y y ≡ not (leZ y Y)
@@ -45,6 +45,9 @@ from-it n j D h k =
     let q = ceilDiv n D in
     let l : (up q + dn j) * D ≤ (up j + dn q) * D = mul-le-mul-right D (omega (arith, from-le (var q) (var j) k)) in
     le (var n) (var j ⊗ num D) (omega arith)
+
+pub ceil-rises : (n m : ℤ) (D : ℕ) → 0 < D → n ≤ℤ m → ceilDiv n D ≤ℤ ceilDiv m D
+ceil-rises n m D h k = let q = ceilDiv m D in up-to n q D h (≤ℤ-trans k (from-it m q D h (≤ℤ-refl q)))
 
 ceil-law : (n j : ℤ) (D : ℕ) → 0 < D → leZ n (j *ℤ pos D) ≡ leZ (ceilDiv n D) j
 ceil-law n j D h = same-test (leZ n (j *ℤ pos D)) (leZ (ceilDiv n D) j) (λ t. up-to n j D h (leZ-yes t) .le) (λ t. from-it n j D h (leZ-yes t) .le)

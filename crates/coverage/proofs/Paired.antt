@@ -2,7 +2,7 @@
 use mathlib.Core.Path.{_≡_, refl, sym, ap, ap₂, subst, _∙_}
 use mathlib.Core.List.{List}
 use mathlib.Core.Bool.{Bool, true, false, cond}
-use mathlib.Core.Logic.{_⊎_, ⊎-elim}
+use mathlib.Core.Logic.{⊎-elim}
 use Prim.Native.Nat.{ℕ, zero, suc, _+_, _-_, _*_, _/_, _≤_, _<_, min, max}
 use native.Mathlib.Omega.{arith}
 use native.Mathlib.Nat.{zero-add, add-zero, add-suc}
@@ -18,40 +18,41 @@ use Rattle.coverage.specs.declared.Start.{Start}
 use Rattle.coverage.specs.declared.Crossed.{Crossed}
 use Rattle.coverage.specs.declared.Columns.{Columns}
 use Rattle.coverage.specs.Winding.{upward, spans, weight, atOrLeft, counts, winding, insideBy, oneIf, tally, sample, coverage}
-use Rattle.coverage.specs.Scanline.{firstColumn, place, startAt, startOf, missed}
+use Rattle.coverage.specs.Scanline.{firstColumn, place, startAt, startOf, startWith, missed}
 use Rattle.coverage.specs.Band.{reach, Needed}
-use Rattle.coverage.specs.Between.{crossedAt, countOf, Crosses, Gathered, Opposed, Ordered}
+use Rattle.coverage.specs.Between.{crossedAt, countOf, Crosses, crossedBy, Opposed, Ordered}
 use Rattle.coverage.specs.Between.{lesserOf, greaterOf, firstOf, endOf, reached, reachedAll, levelAt}
 use Rattle.coverage.proofs.Sums.{sum-more, counts-law}
 use Rattle.coverage.proofs.Starts.{missed-weight}
 use Rattle.coverage.proofs.Listed.{reach-at, reach-end}
+use Rattle.coverage.proofs.Steep.{Begins}
 
 -- ---- four sample rows together
-of-start : (c k : ℕ) (Y : ℤ) (e : Edge) (s : Start) → s ≡ startOf c k Y e → (startAt c k Y e ≡ s .at) × (weight Y e ≡ s .by)
+of-start : (c k : ℕ) (Y : ℤ) (e : Edge) (n : ℕ) (v : ℤ) → startWith n v ≡ startOf c k Y e → (startAt c k Y e ≡ n) × (weight Y e ≡ v)
 unfolding startOf
-of-start c k Y e s q = (sym (ap (λ (z : Start). z .at) q), sym (ap (λ (z : Start). z .by) q))
+of-start c k Y e n v q = (sym (ap (λ (z : Start). z .at) q), sym (ap (λ (z : Start). z .by) q))
 
-pub gathered-crosses : (c k y : ℕ) (e : Edge) (s u v t : Start) (x : Crossed)
-    → s ≡ startOf c k (sample (4 * y + 0)) e → u ≡ startOf c k (sample (4 * y + 1)) e → v ≡ startOf c k (sample (4 * y + 2)) e
-    → t ≡ startOf c k (sample (4 * y + 3)) e → Gathered s u v t x → Crosses c k y e x
-gathered-crosses c k y e s u v t x o p q w g = record { begins = begins; counts = counted }
+pub begins-crosses : (c k y : ℕ) (e : Edge) (s : Columns) (way : ℕ) (x : Crossed) → x ≡ crossedBy way s → Begins c k y e s (countOf way) → Crosses c k y e x
+unfolding crossedBy
+begins-crosses c k y e s way x o b = subst (Crosses c k y e) (sym o) (record { begins = λ i. begins; counts = λ i. counted })
   where
-    at : (r : ℕ) (z : Start) → z ≡ startOf c k (sample (4 * y + r)) e → (startAt c k (sample (4 * y + r)) e ≡ z .at) × (weight (sample (4 * y + r)) e ≡ z .by)
-    at r z i = of-start c k (sample (4 * y + r)) e z i
+    at : (r n : ℕ) → startWith n (countOf way) ≡ startOf c k (sample (4 * y + r)) e
+        → (startAt c k (sample (4 * y + r)) e ≡ n) × (weight (sample (4 * y + r)) e ≡ countOf way)
+    at r n q = of-start c k (sample (4 * y + r)) e n (countOf way) q
 
-    begins : (r : ℕ) → r < 4 → startAt c k (sample (4 * y + r)) e ≡ crossedAt x r
-    begins zero h = at 0 s o .0 ∙ sym (ap (λ (z : Crossed). z .a) (g .begins))
-    begins (suc zero) h = at 1 u p .0 ∙ sym (ap (λ (z : Crossed). z .b) (g .begins))
-    begins (suc (suc zero)) h = at 2 v q .0 ∙ sym (ap (λ (z : Crossed). z .c) (g .begins))
-    begins (suc (suc (suc zero))) h = at 3 t w .0 ∙ sym (ap (λ (z : Crossed). z .d) (g .begins))
+    begins : (r : ℕ) → r < 4 → startAt c k (sample (4 * y + r)) e ≡ crossedAt (record { way = way; a = s .a; b = s .b; c = s .c; d = s .d }) r
+    begins zero h = at 0 (s .a) (b .0) .0
+    begins (suc zero) h = at 1 (s .b) (b .1) .0
+    begins (suc (suc zero)) h = at 2 (s .c) (b .2) .0
+    begins (suc (suc (suc zero))) h = at 3 (s .d) (b .3) .0
     begins (suc (suc (suc (suc r)))) h = absurd (omega arith)
 
-    counted : 0 < x .way → (r : ℕ) → r < 4 → weight (sample (4 * y + r)) e ≡ countOf (x .way)
-    counted i zero h = at 0 s o .1 ∙ g .counts i .0
-    counted i (suc zero) h = at 1 u p .1 ∙ g .counts i .1
-    counted i (suc (suc zero)) h = at 2 v q .1 ∙ g .counts i .2
-    counted i (suc (suc (suc zero))) h = at 3 t w .1 ∙ g .counts i .3
-    counted i (suc (suc (suc (suc r)))) h = absurd (omega arith)
+    counted : (r : ℕ) → r < 4 → weight (sample (4 * y + r)) e ≡ countOf way
+    counted zero h = at 0 (s .a) (b .0) .1
+    counted (suc zero) h = at 1 (s .b) (b .1) .1
+    counted (suc (suc zero)) h = at 2 (s .c) (b .2) .1
+    counted (suc (suc (suc zero))) h = at 3 (s .d) (b .3) .1
+    counted (suc (suc (suc (suc r)))) h = absurd (omega arith)
 
 -- ---- of all edges two count
 module _ (l : List ℤ) (y r : ℕ) (h : r < 4) (X : ℤ) where
@@ -126,7 +127,7 @@ exchanged true false = refl
 exchanged false true = refl
 exchanged false false = refl
 
-known : (a b : ℕ) → Opposed a b → (0 < a) × (0 < b)
+pub known : (a b : ℕ) → Opposed a b → (0 < a) × (0 < b)
 known a b = ⊎-elim (λ q. (omega (arith, q .0), omega (arith, q .1))) (λ q. (omega (arith, q .0), omega (arith, q .1)))
 
 opposed-inside : (nonZero s t : Bool) (a b : ℕ) → Opposed a b
@@ -235,12 +236,13 @@ module _ (l : List ℤ) (n y x w : ℕ) (js : List ℕ) (nonZero : Bool) (k : Ne
       → winding (edgesOf l n) (sample (4 * x + j)) (sample (4 * y + r))
       ≡ cond (leb (crossedAt s r) j) (weight (sample (4 * y + r)) first) (pos 0) +ℤ cond (leb (crossedAt t r) j) (weight (sample (4 * y + r)) second) (pos 0)
   wound r j h i =
+      let way = known (s .way) (t .way) o in
       two-wind l y r h (sample (4 * x + j)) n js k two
       ∙ ap₂ _+ℤ_
       (counts-law (4 * x) (w * 4) (sample (4 * y + r)) first j i
-      ∙ ap (λ (m : ℕ). cond (leb m j) (weight (sample (4 * y + r)) first) (pos 0)) (cs .begins r h))
+      ∙ ap (λ (m : ℕ). cond (leb m j) (weight (sample (4 * y + r)) first) (pos 0)) (cs .begins (way .0) r h))
       (counts-law (4 * x) (w * 4) (sample (4 * y + r)) second j i
-      ∙ ap (λ (m : ℕ). cond (leb m j) (weight (sample (4 * y + r)) second) (pos 0)) (ct .begins r h))
+      ∙ ap (λ (m : ℕ). cond (leb m j) (weight (sample (4 * y + r)) second) (pos 0)) (ct .begins (way .1) r h))
 
   sample-inside : (r j : ℕ) → r < 4 → j < w * 4
       → inside r j ≡ min 1 (max (crossedAt s r) (crossedAt t r) - j) - min 1 (min (crossedAt s r) (crossedAt t r) - j)
@@ -404,5 +406,5 @@ start-within c k Y e = by (spans e Y)
     by true = place-within c k (firstColumn (upward e) Y)
     by false = omega arith
 
-pub crossed-within : (c k y : ℕ) (e : Edge) (s : Crossed) → Crosses c k y e s → (r : ℕ) → r < 4 → crossedAt s r ≤ k
-crossed-within c k y e s o r h = subst (λ (m : ℕ). m ≤ k) (o .begins r h) (start-within c k (sample (4 * y + r)) e)
+pub crossed-within : (c k y : ℕ) (e : Edge) (s : Crossed) → Crosses c k y e s → 0 < s .way → (r : ℕ) → r < 4 → crossedAt s r ≤ k
+crossed-within c k y e s o i r h = subst (λ (m : ℕ). m ≤ k) (o .begins i r h) (start-within c k (sample (4 * y + r)) e)

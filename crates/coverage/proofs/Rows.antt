@@ -10,7 +10,8 @@ use lib.ListN.{length, getD, set, length-set}
 use lib.Seq.{getD-set-other}
 use Rattle.coverage.specs.declared.Start.{Start}
 use Rattle.coverage.specs.Marks.{markRows}
-use Rattle.coverage.specs.Scanline.{bumped, putRow, putRows, Low, Fits, FitRows}
+use Rattle.coverage.specs.Scanline.{startWith, bumped, bumpedFour, putRow, putRows, Low, LowFour, Fits, FitRows}
+use Rattle.coverage.proofs.Laid.{set-again}
 
 -- ---- one
 module _ (b w r : ℕ) (s : Start) (l : List ℤ) where
@@ -69,3 +70,40 @@ unfolding markRows
 rows-marked i j k l d o1 o2 o3 o4 =
     o4
     ∙ ap (λ (z : List ℕ). set z l 1) (o3 ∙ ap (λ (z : List ℕ). set z k 1) (o2 ∙ ap (λ (z : List ℕ). set z j 1) o1))
+
+-- ---- four that begin in one column
+module _ (b n : ℕ) (v : ℤ) where
+  -- what is added in the sample row r, if the column is in the window
+  abbrev more : Bool → List ℤ → ℕ → List ℤ
+  more t l r = cond t (bumped l (b + (n * 4 + r)) v) l
+
+  four-rows : (t : Bool) (l : List ℤ) → cond t (bumpedFour l (b + n * 4) v) l ≡ more t (more t (more t (more t l 0) 1) 2) 3
+  unfolding bumpedFour
+  four-rows false l = refl
+  four-rows true l = rw (at-row 1, at-row 2, at-row 3, first)
+    where
+      at-row : (r : ℕ) → b + n * 4 + r ≡ b + (n * 4 + r)
+      at-row r = omega arith
+
+      first : b + n * 4 ≡ b + (n * 4 + 0)
+      first = omega arith
+
+  pub as-rows : (w : ℕ) (l : List ℤ)
+      → cond (ltb (n / 4) w) (bumpedFour l (b + n * 4) v) l ≡ putRows b w (startWith n v) (startWith n v) (startWith n v) (startWith n v) l
+  unfolding putRow putRows
+  as-rows w l = four-rows (ltb (n / 4) w) l
+
+  pub fit-four : (w : ℕ) (l : List ℤ) → FitRows l b w (startWith n v) (startWith n v) (startWith n v) (startWith n v) → n / 4 < w → LowFour l (b + n * 4)
+  fit-four w l f h = (
+    row 0 (b + n * 4) (omega arith) (f .0 .1 h),
+    row 1 (b + n * 4 + 1) (omega arith) (f .1 .1 h),
+    row 2 (b + n * 4 + 2) (omega arith) (f .2 .1 h),
+    row 3 (b + n * 4 + 3) (omega arith) (f .3 .1 h),
+  )
+    where
+      row : (r j : ℕ) → b + (n * 4 + r) ≡ j → Low (getD l (b + (n * 4 + r)) (pos 0)) → Low (getD l j (pos 0))
+      row r j o = subst (λ (i : ℕ). Low (getD l i (pos 0))) o
+
+pub as-marks : (p : ℕ) (d : List ℕ) → set d p 1 ≡ markRows p p p p d
+unfolding markRows
+as-marks p d = sym (set-again (set (set d p 1) p 1) p 1 ∙ set-again (set d p 1) p 1 ∙ set-again d p 1)

@@ -17,12 +17,12 @@ use Rattle.path.specs.declared.Edge.{Edge}
 use Rattle.path.specs.Stored.{edgeAt, edgesOf, Small}
 use Rattle.coverage.specs.declared.Start.{Start}
 use Rattle.coverage.specs.Winding.{sample}
-use Rattle.coverage.specs.Scanline.{laid, zeros, starts, startOf, sumsAt, missed, beyond, bumped, bumpedFour, putRow, putRows, withSums}
-use Rattle.coverage.specs.Scanline.{Low, LowFour, Edges, Marked}
+use Rattle.coverage.specs.Scanline.{laid, zeros, starts, startOf, sumsAt, missed, beyond, bumped, putRow, putRows, withSums}
+use Rattle.coverage.specs.Scanline.{Low, Edges, Marked}
 use Rattle.coverage.specs.Marks.{markRows}
 use Rattle.coverage.proofs.Beyond.{beyond-more}
 use Rattle.coverage.proofs.Laid.{laid-at, laid-before, laid-set, laid-again, tab-bump}
-use Rattle.coverage.proofs.Laid.{tab-same, set-again}
+use Rattle.coverage.proofs.Laid.{tab-same}
 use Rattle.coverage.proofs.Rows.{put-long}
 use Rattle.coverage.proofs.Starts.{partly, partly-none, partly-more, partly-all, partly-small, missed-more}
 
@@ -96,17 +96,6 @@ module _ (n w c y : ℕ) (l : List ℤ) (fit : n * 4 + w * 16 ≤ length l) (es 
     added-low p h =
         subst Low (sym (stands (n * 4) (w * 16) l fit (sumsUpTo r) v (a .sums) p h)) (omega (arith, partly-small c (w * 4) y es e r p, few))
 
-    pub added-low-four : (at : ℕ) → at / 4 < w → LowFour v (n * 4 + at * 4)
-    added-low-four at h = (
-      row 0 (omega arith) (n * 4 + at * 4) (omega arith),
-      row 1 (omega arith) (n * 4 + at * 4 + 1) (omega arith),
-      row 2 (omega arith) (n * 4 + at * 4 + 2) (omega arith),
-      row 3 (omega arith) (n * 4 + at * 4 + 3) (omega arith),
-    )
-      where
-        row : (q : ℕ) → q < 4 → (j : ℕ) → n * 4 + (at * 4 + q) ≡ j → Low (getD v j (pos 0))
-        row q k j o = subst (λ (i : ℕ). Low (getD v i (pos 0))) o (added-low (at * 4 + q) (omega (arith, h, k)))
-
   -- one sample row more
   module _ (r : ℕ) (low : r < 4) (s : Start) (q : s ≡ startOf c (w * 4) (sample (4 * y + r)) e) where
     next : (j : ℕ) → sumsUpTo r j +ℤ cond (eqb (s .at * 4 + r) j) (s .by) (pos 0) ≡ sumsUpTo (r + 1) j
@@ -162,38 +151,6 @@ module _ (n w c y : ℕ) (l : List ℤ) (fit : n * 4 + w * 16 ≤ length l) (es 
       four =
           added-row 3 (omega arith) t q4 (putRow (n * 4) w 2 x (putRow (n * 4) w 1 u (putRow (n * 4) w 0 s v)))
           (set (set (set d (s .at / 4) 1) (u .at / 4) 1) (x .at / 4) 1) three
-
-  -- where they begin in one column
-  module _ (s : Start) where
-    -- what is added in the sample row r, if the column is in the window
-    abbrev more : Bool → List ℤ → ℕ → List ℤ
-    more b v r = cond b (bumped v (n * 4 + (s .at * 4 + r)) (s .by)) v
-
-    four-rows : (b : Bool) (v : List ℤ) → cond b (bumpedFour v (n * 4 + s .at * 4) (s .by)) v ≡ more b (more b (more b (more b v 0) 1) 2) 3
-    unfolding bumpedFour
-    four-rows false v = refl
-    four-rows true v = rw (at-row 1, at-row 2, at-row 3, first)
-      where
-        at-row : (r : ℕ) → n * 4 + s .at * 4 + r ≡ n * 4 + (s .at * 4 + r)
-        at-row r = omega arith
-
-        first : n * 4 + s .at * 4 ≡ n * 4 + (s .at * 4 + 0)
-        first = omega arith
-
-    as-rows : (k : ℕ) (v : List ℤ) → cond (ltb (s .at / 4) k) (bumpedFour v (n * 4 + s .at * 4) (s .by)) v ≡ putRows (n * 4) k s s s s v
-    unfolding putRow putRows
-    as-rows k v = four-rows (ltb (s .at / 4) k) v
-
-    as-marks : (p : ℕ) (d : List ℕ) → set d p 1 ≡ markRows p p p p d
-    unfolding markRows
-    as-marks p d = sym (set-again (set (set d p 1) p 1) p 1 ∙ set-again (set d p 1) p 1 ∙ set-again d p 1)
-
-    pub added-four : ((r : ℕ) → r < 4 → s ≡ startIn r) → (v t : List ℤ) (d m : List ℕ)
-        → t ≡ cond (ltb (s .at / 4) (length d)) (bumpedFour v (n * 4 + s .at * 4) (s .by)) v → m ≡ set d (s .at / 4) 1 → Added n w c y l es e 0 v d
-        → Added n w c y l es e 4 t m
-    added-four q v t d m o p =
-        added-rows s s s s (q 0 (omega arith)) (q 1 (omega arith)) (q 2 (omega arith)) (q 3 (omega arith)) v t d m (o ∙ as-rows (length d) v)
-        (p ∙ as-marks (s .at / 4) d)
 
 -- ---- the ith edge, for w pixels from column c on in the pixel row y
 module _ (n w c y : ℕ) (l : List ℤ) (fit : n * 4 + w * 16 ≤ length l) (i : ℕ) where

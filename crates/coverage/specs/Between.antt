@@ -6,7 +6,6 @@ use mathlib.Core.Logic.{_⊎_}
 use lib.Dec.{eqb}
 use lib.IntN.{ℤ, pos, negsuc}
 use Rattle.path.specs.declared.Edge.{Edge}
-use Rattle.coverage.specs.declared.Start.{Start}
 use Rattle.coverage.specs.declared.Crossed.{Crossed}
 use Rattle.coverage.specs.declared.Columns.{Columns}
 use Rattle.coverage.specs.Winding.{weight, sample}
@@ -25,13 +24,12 @@ countOf way = cond (eqb way 1) (pos 1) (negsuc 0)
 
 -- where an edge's count begins in the sample rows of the pixel row y, and what it counts there, if its way is known
 pub record Crosses (c k y : ℕ) (e : Edge) (s : Crossed) : Type 0 where
-  pub begins : (r : ℕ) → r < 4 → startAt c k (sample (4 * y + r)) e ≡ crossedAt s r
+  pub begins : 0 < s .way → (r : ℕ) → r < 4 → startAt c k (sample (4 * y + r)) e ≡ crossedAt s r
   pub counts : 0 < s .way → (r : ℕ) → r < 4 → weight (sample (4 * y + r)) e ≡ countOf (s .way)
 
--- four sample rows together
-pub record Gathered (s u v t : Start) (r : Crossed) : Type 0 where
-  pub begins : r ≡ record { way = r .way; a = s .at; b = u .at; c = v .at; d = t .at }
-  pub counts : 0 < r .way → (s .by ≡ countOf (r .way)) × (u .by ≡ countOf (r .way)) × (v .by ≡ countOf (r .way)) × (t .by ≡ countOf (r .way))
+-- four columns with the way
+unfoldable pub crossedBy : ℕ → Columns → Crossed
+crossedBy way s = record { way = way; a = s .a; b = s .b; c = s .c; d = s .d }
 
 -- one up and one down
 abbrev pub Opposed : ℕ → ℕ → Type 0

@@ -1,18 +1,20 @@
 -- What the functions behind `coverage_row` and `scissor_row` compute, and what stands in the scratch. A reviewer of the paper need not read it.
-use Prim.Native.Nat.{ℕ, zero, suc, _+_, _*_, _-_, _/_, _%_, _≤_, _<_}
+use Prim.Native.Nat.{ℕ, zero, suc, _+_, _*_, _-_, _/_, _%_, _≤_, _<_, min, max}
 use mathlib.Core.Path.{_≡_}
 use mathlib.Core.List.{List, _++_}
-use mathlib.Core.Bool.{Bool, not, cond, _&&_}
+use mathlib.Core.Bool.{Bool, cond, _&&_}
 use lib.Dec.{eqb, ltb, leb}
 use lib.ListN.{length, getD, set, take, drop}
 use lib.IntN.{ℤ, pos, natAbs, _+ℤ_, _-ℤ_, _*ℤ_}
-use lib.Signed.{leZ, ltZ}
+use lib.Signed.{leZ, ltZ, _<ℤ_}
 use Rattle.lists.specs.Lists.{tab, total}
 use Rattle.fixed.specs.Floor.{floorDiv}
 use Rattle.fixed.specs.Little.{i32At}
 use Rattle.path.specs.declared.Edge.{Edge}
 use Rattle.path.specs.Stored.{edgeAt, edgesOf, Small}
 use Rattle.coverage.specs.declared.Start.{Start}
+use Rattle.coverage.specs.declared.Rise.{Rise}
+use Rattle.coverage.specs.declared.Columns.{Columns}
 use Rattle.coverage.specs.declared.Windings.{Windings}
 use Rattle.coverage.specs.declared.Cell.{Cell}
 use Rattle.coverage.specs.declared.Span.{Span}
@@ -42,9 +44,35 @@ startAt c k Y e = cond (spans e Y) (place c k (firstColumn (upward e) Y)) k
 unfoldable pub startOf : ℕ → ℕ → ℤ → Edge → Start
 startOf c k Y e = record { at = startAt c k Y e; by = weight Y e }
 
--- an edge counts in two rows, and from the same column on
-unfoldable pub startsAlike : Start → Start → Bool
-startsAlike s t = eqb (s .at) (t .at) && (not (eqb (natAbs (s .by)) 0) && not (eqb (natAbs (t .by)) 0))
+abbrev pub startWith : ℕ → ℤ → Start
+startWith n v = record { at = n; by = v }
+
+-- of an edge that goes up: its crossing with the row Y and how far the next sample row's is from it, in parts of 1 / 64 d columns
+unfoldable pub riseOf : Edge → ℤ → Rise
+riseOf u Y = record {
+  n = (Y -ℤ u .y0) *ℤ (u .x1 -ℤ u .x0) +ℤ (u .x0 -ℤ pos 32) *ℤ (u .y1 -ℤ u .y0);
+  d = u .y1 -ℤ u .y0;
+  step = pos 64 *ℤ (u .x1 -ℤ u .x0);
+}
+
+-- it goes up, and no sum of its numbers overflows
+pub record Sloped (r : Rise) : Type 0 where
+  pub up : pos 0 <ℤ r .d
+  pub high : natAbs (r .d) ≤ 16777216
+  pub far : natAbs (r .n) ≤ 450000000000000
+  pub wide : natAbs (r .step) ≤ 1073741824
+
+-- the column of sample row j in such a window, and those of all four
+abbrev pub columnIn : ℕ → ℕ → Rise → ℕ → ℕ
+columnIn c k r j = place c k (ceilDiv (r .n +ℤ pos j *ℤ r .step) (64 * natAbs (r .d)))
+
+unfoldable pub columnsOf : ℕ → ℕ → Rise → Columns
+columnsOf c k r = record { a = columnIn c k r 0; b = columnIn c k r 1; c = columnIn c k r 2; d = columnIn c k r 3 }
+
+-- the two columns between lie between the first and the last
+pub record Straight (s : Columns) : Type 0 where
+  pub second : (min (s .a) (s .d) ≤ s .b) × (s .b ≤ max (s .a) (s .d))
+  pub third : (min (s .a) (s .d) ≤ s .c) × (s .c ≤ max (s .a) (s .d))
 
 -- what begins at column j of the window
 unfoldable pub starts : ℕ → ℕ → ℤ → List Edge → ℕ → ℤ

@@ -2,9 +2,9 @@
 use crate::Columns;
 use crate::Crossed;
 use crate::Line;
-use crate::Start;
-use crate::column::start;
-use crate::edges::starts_alike;
+use crate::column::columns;
+use crate::column::rise;
+use crate::edges::passes;
 use path::Edge;
 use path::edges::load;
 use rect::least;
@@ -16,10 +16,10 @@ ghost use lib.ListN.{length};
 ghost use Rattle.lists.specs.Lists.{tab};
 ghost use Rattle.runs.specs.Runs.{expand, Runs};
 ghost use Rattle.path.specs.Stored.{edgesOf, Small};
-ghost use Rattle.coverage.specs.Winding.{sample, coverage};
-ghost use Rattle.coverage.specs.Scanline.{startOf, Outlined};
+ghost use Rattle.coverage.specs.Winding.{coverage};
+ghost use Rattle.coverage.specs.Scanline.{Outlined};
 ghost use Rattle.coverage.specs.Band.{Needed};
-ghost use Rattle.coverage.specs.Between.{countOf, Crosses, Gathered, Opposed, Ordered, lesserOf, greaterOf, firstOf, endOf, reached, reachedAll, levelAt};
+ghost use Rattle.coverage.specs.Between.{crossedBy, Crosses, Opposed, Ordered, lesserOf, greaterOf, firstOf, endOf, reached, reachedAll, levelAt};
 
 // The runs of w pixels of a row, if two edges are listed for it, of which one goes up and one down past all of its sample rows. Returns how many there
 // are, or 0 where that is not so.
@@ -43,63 +43,44 @@ pub fn runs_between(scratch: &[i32], list: &[u32], runs: &mut [u16], line: Line,
     0
 }
 
-// Where an edge's count begins in each sample row of the pixel row y, among the k columns from c on, and which way it goes.
+// Where the count of an edge that goes past all sample rows of the pixel row y begins in each, among the k columns from c on, and which way it goes.
+// The way is 0 where it does not.
 fn cross(e: Edge, y: usize, c: usize, k: usize) -> Crossed
     requires { ⌜ Small e × (y < 1024) × (c + k < 2 ^ 31) ⌝ }
     ensures { λ r. ⌜ Crosses c k y e r ⌝ }
 {
-    let s = row_start(e, y, 0, c, k);
-    let t = row_start(e, y, 3, c, k);
-    if starts_alike(s, t) {
-        return gather(s, s, s, s);
+    let first = (256 * y + 32) as i32;
+    let last = (256 * y + 224) as i32;
+    let x0 = e.x0;
+    let y0 = e.y0;
+    let x1 = e.x1;
+    let y1 = e.y1;
+    if passes(y0, y1, first, last) {
+        return crossed(1, columns(rise(x0, y0, x1, y1, first), c, k));
     }
-    let u = row_start(e, y, 1, c, k);
-    let v = row_start(e, y, 2, c, k);
-    gather(s, u, v, t)
+    if passes(y1, y0, first, last) {
+        return crossed(2, columns(rise(x1, y1, x0, y0, first), c, k));
+    }
+    Crossed {
+        way: 0,
+        a: 0,
+        b: 0,
+        c: 0,
+        d: 0,
+    }
 }
 
-// The same in the sample row r.
-fn row_start(e: Edge, y: usize, r: usize, c: usize, k: usize) -> Start
-    requires { ⌜ Small e × (y < 1024) × (r < 4) × (c + k < 2 ^ 31) ⌝ }
-    ensures { λ s. ⌜ s ≡ startOf c k (sample (4 * y + r)) e ⌝ }
-{
-    start(e, (64 * (4 * y + r) + 32) as i32, c, k)
-}
-
-// Four sample rows together.
-fn gather(s: Start, u: Start, v: Start, t: Start) -> Crossed
-    ensures { λ r. ⌜ Gathered s u v t r ⌝ }
+// The four columns with the way.
+fn crossed(way: usize, s: Columns) -> Crossed
+    ensures { λ r. ⌜ r ≡ crossedBy way s ⌝ }
 {
     Crossed {
-        way: common(way(s.by), way(u.by), way(v.by), way(t.by)),
-        a: s.at,
-        b: u.at,
-        c: v.at,
-        d: t.at,
+        way: way,
+        a: s.a,
+        b: s.b,
+        c: s.c,
+        d: s.d,
     }
-}
-
-// 1 where an edge is seen to count 1, 2 where it is seen to count -1.
-fn way(by: i32) -> usize
-    ensures { λ r. ⌜ (0 < r → by ≡ countOf r) ⌝ }
-{
-    if by == 1 {
-        return 1;
-    }
-    if by == -1 { 2 } else { 0 }
-}
-
-// What four numbers have in common, or 0.
-fn common(a: usize, b: usize, c: usize, d: usize) -> usize
-    ensures { λ r. ⌜ (0 < r → (r ≡ a) × (r ≡ b) × (r ≡ c) × (r ≡ d)) ⌝ }
-{
-    if a != b {
-        return 0;
-    }
-    if a != c {
-        return 0;
-    }
-    if a == d { a } else { 0 }
 }
 
 // Whether one edge goes up and the other down.

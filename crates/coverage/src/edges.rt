@@ -1,6 +1,9 @@
 // What begins at each column of a window, in the four rows of samples of one row of pixels. Number 4 j + r of the sums is for column j and
 // sample row r, so that the 16 numbers of a pixel stand together.
+use crate::Columns;
 use crate::Start;
+use crate::column::columns;
+use crate::column::rise;
 use crate::column::start;
 use crate::marks::mark;
 use crate::marks::touch;
@@ -13,10 +16,11 @@ ghost use mathlib.Core.Bool.{cond, _&&_};
 ghost use Prim.Native.Nat.{_+_, _*_, _/_, _^_, _<_, _≤_, min, max};
 ghost use lib.Dec.{eqb, ltb};
 ghost use lib.IntN.{pos, natAbs};
+ghost use lib.Signed.{leZ, ltZ};
 ghost use lib.ListN.{length, getD, set};
 ghost use Rattle.path.specs.Stored.{edgeAt, edgesOf};
-ghost use Rattle.coverage.specs.Scanline.{laid, zeros, missed, beyond, startsAlike, bumped, bumpedFour, putRow, putRows, sumsAt, withSums};
-ghost use Rattle.coverage.specs.Scanline.{Low, LowFour, Fits, FitRows, Edges, Marked};
+ghost use Rattle.coverage.specs.Scanline.{laid, zeros, missed, beyond, startWith, bumped, bumpedFour, putRow, putRows, sumsAt, withSums};
+ghost use Rattle.coverage.specs.Scanline.{Low, LowFour, Fits, FitRows, Straight, Edges, Marked};
 ghost use Rattle.coverage.specs.Marks.{markRows, Grouped};
 ghost use Rattle.coverage.specs.Band.{Needed};
 
@@ -207,21 +211,53 @@ fn put_rows(
     put_far(scratch, base, cover, groups, s, u, v, t);
 }
 
-// Whether an edge counts in two sample rows, and from the same column on.
-pub fn starts_alike(s: Start, t: Start) -> bool
-    ensures { λ r. ⌜ r ≡ startsAlike s t ⌝ }
+// Whether an edge from lo up to hi goes past all sample rows from the first to the last.
+pub fn passes(lo: i32, hi: i32, first: i32, last: i32) -> bool
+    ensures { λ r. ⌜ r ≡ leZ lo first && ltZ last hi ⌝ }
 {
-    if s.at != t.at {
-        return false;
-    }
-    if s.by == 0 {
-        return false;
-    }
-    t.by != 0
+    if lo <= first { last < hi } else { false }
 }
 
-// Adds what the ith edge, e, begins in the pixel row y, in the window from column c on. Where it counts from one column on in the first and in the last
-// of the four sample rows, it does so in those between.
+// Adds what an edge begins that goes past all four sample rows. Its columns between lie between the first and the last, so that these two tell the
+// group of all, and where they are one, all four are.
+fn put_columns(
+    scratch: &mut [i32],
+    base: usize,
+    cover: &mut [u8],
+    groups: &mut [u16],
+    s: Columns,
+    by: i32,
+)
+    requires { ⌜ (base + length (now cover) * 16 ≤ length (now scratch)) × Grouped (now cover) (now groups) × Straight s ⌝ }
+    requires { ⌜ FitRows (now scratch) base (length (now cover)) (startWith (s .a) by) (startWith (s .b) by) (startWith (s .c) by) (startWith (s .d) by) ⌝ }
+    ensures { λ _. ⌜ now (scratch .exit)
+        ≡ putRows base (length (now (cover .entry))) (startWith (s .a) by) (startWith (s .b) by) (startWith (s .c) by) (startWith (s .d) by)
+        (now (scratch .entry)) ⌝ }
+    ensures { λ _. ⌜ now (cover .exit) ≡ markRows (s .a / 4) (s .b / 4) (s .c / 4) (s .d / 4) (now (cover .entry)) ⌝ }
+    ensures { λ _. ⌜ Grouped (now (cover .exit)) (now (groups .exit)) ⌝ }
+{
+    let p = s.a;
+    let q = s.d;
+    if p == q {
+        put_four(scratch, base, cover, groups, p, by);
+        return;
+    }
+    let first = Start { at: p, by: by };
+    let second = Start { at: s.b, by: by };
+    let third = Start { at: s.c, by: by };
+    let last = Start { at: q, by: by };
+    let lo = least(p, q) / 4;
+    let hi = most(p, q) / 4;
+    if is_near(lo, hi, cover.len()) {
+        touch(groups, lo, hi);
+        put_near(scratch, base, cover, first, second, third, last);
+        return;
+    }
+    put_far(scratch, base, cover, groups, first, second, third, last);
+}
+
+// Adds what the ith edge, e, begins in the pixel row y, in the window from column c on. Most edges go past all four sample rows, up or down; one that
+// begins or ends among them is asked in each.
 fn add_rows(
     scratch: &mut [i32],
     n: usize,
@@ -242,12 +278,36 @@ fn add_rows(
 {
     let base = n * 4;
     let k = cover.len() * 4;
-    let s = start(e, (256 * y + 32) as i32, c, k);
-    let t = start(e, (256 * y + 224) as i32, c, k);
-    if starts_alike(s, t) {
-        put_four(scratch, base, cover, groups, s.at, s.by);
+    let first = (256 * y + 32) as i32;
+    let last = (256 * y + 224) as i32;
+    let x0 = e.x0;
+    let y0 = e.y0;
+    let x1 = e.x1;
+    let y1 = e.y1;
+    if passes(y0, y1, first, last) {
+        put_columns(
+            scratch,
+            base,
+            cover,
+            groups,
+            columns(rise(x0, y0, x1, y1, first), c, k),
+            1,
+        );
         return;
     }
+    if passes(y1, y0, first, last) {
+        put_columns(
+            scratch,
+            base,
+            cover,
+            groups,
+            columns(rise(x1, y1, x0, y0, first), c, k),
+            -1,
+        );
+        return;
+    }
+    let s = start(e, first, c, k);
+    let t = start(e, last, c, k);
     let u = start(e, (256 * y + 96) as i32, c, k);
     let v = start(e, (256 * y + 160) as i32, c, k);
     put_rows(scratch, base, cover, groups, s, u, v, t);

@@ -50,6 +50,13 @@ struct Columns {
     d: usize,
 }
 
+// An edge that goes up: it crosses the first sample row of a row of pixels at n / 64 d, in columns, and each next one step / 64 d further.
+struct Rise {
+    n: i64,
+    d: i64,
+    step: i64,
+}
+
 // The winding numbers of four sample rows at one column.
 struct Windings {
     a: i32,

@@ -9,9 +9,9 @@ use Rattle.path.specs.Stored.{edgeAt, edgesOf, Small}
 use Rattle.coverage.specs.declared.Crossed.{Crossed}
 use Rattle.coverage.specs.declared.Columns.{Columns}
 use Rattle.coverage.specs.Winding.{coverage}
-use Rattle.coverage.specs.Between.{Crosses, Ordered, lesserOf, greaterOf, levelAt}
+use Rattle.coverage.specs.Between.{Crosses, Opposed, Ordered, lesserOf, greaterOf, levelAt}
 use Rattle.coverage.proofs.Laid.{tab-same}
-use Rattle.coverage.proofs.Paired.{covered-between, ordered, crossed-within}
+use Rattle.coverage.proofs.Paired.{covered-between, known, ordered, crossed-within}
 use borrow.Author.Needs.{needs}
 use Rattle.coverage.proofs.between.runs_between.Statement.{statement}
 use Rattle.coverage.proofs.between.runs_between.Tie as tie
@@ -88,18 +88,21 @@ module _ (c : tie.After-cross2) where
   second : Crossing other (own 1)
   second = subst (Crossing other) (c .before .load2 .ensures) (c .cross2 .ensures)
 
-  in-order : Ordered (lesserOf one other) (greaterOf one other) (entry-of .args .w * 4)
-  in-order =
+  in-order : Opposed (one .way) (other .way) → Ordered (lesserOf one other) (greaterOf one other) (entry-of .args .w * 4)
+  in-order opposed =
       let a = entry-of .args in
-      ordered one other (a .w * 4) (crossed-within (4 * a .line .x) (a .w * 4) (a .line .y) (own 0) one first)
-      (crossed-within (4 * a .line .x) (a .w * 4) (a .line .y) (own 1) other second)
+      let way = known (one .way) (other .way) opposed in
+      ordered one other (a .w * 4) (crossed-within (4 * a .line .x) (a .w * 4) (a .line .y) (own 0) one first (way .0))
+      (crossed-within (4 * a .line .x) (a .w * 4) (a .line .y) (own 1) other second (way .1))
 
 fill-between-requires : tie.Need-fill-between-requires
 fill-between-requires c κs =
-    let crossed = c .before .before .before .before .before in
+    let then2 = c .before .before .before in
+    let crossed = then2 .before .before in
+    let order = in-order crossed (then2 .before .is-opposed .ensures (then2 .if2 .taken)) in
     let w = entry-of crossed .args .w in
     let p = entry-of crossed .pre .1 in
-    let upper = subst (λ (z : Columns). Ordered (lesserOf (one crossed) (other crossed)) z (w * 4)) (sym (c .greater .ensures)) (in-order crossed) in
+    let upper = subst (λ (z : Columns). Ordered (lesserOf (one crossed) (other crossed)) z (w * 4)) (sym (c .greater .ensures)) order in
     (subst (λ (z : Columns). Ordered z (c .greater .result) (w * 4)) (sym (c .before .lesser .ensures)) upper, omega (arith, p .1), p .2)
 
 returns-2 : tie.Need-returns-2
