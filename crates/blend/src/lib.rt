@@ -1,4 +1,6 @@
 // Porter-Duff blending of premultiplied bytes under a coverage of 0 to 16 samples.
+#![tactic(auto)]
+
 pub mod bytewise;
 pub mod factor;
 pub mod masked;
@@ -13,7 +15,7 @@ use color::Pixel;
 
 // What the step on one pixel answers: 0 and the new pixel, or a refusal and the old one.
 #[repr(C)]
-#[derive(Drop)]
+#[derive(Clone, Copy)]
 pub struct Composited {
     pub code: u32,
     pub pixel: Pixel,

@@ -1,4 +1,5 @@
 // The codes of the table: OpenVG's names where it has one, and two of our own for a file that is cut or spoiled.
+#![tactic(auto)]
 
 // Nothing is refused.
 pub const ACCEPTED: u32 = 0;

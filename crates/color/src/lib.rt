@@ -1,10 +1,12 @@
 // Colours as floats and pixels as bytes: a channel's byte and back, and bytes premultiplied by their alpha.
+#![tactic(auto)]
+
 ghost use Rattle.std.specs.Prelude.{◌≡◌, ◌/◌, ◌≤◌};
 ghost use Rattle.std.specs.Float.Ieee as Ieee;
 ghost use Rattle.color.specs.Channels.{clamped, channel_byte, byte_channel, bytes_of_color, color_of_bytes, premultiply, premultiplied};
 
 // A colour before conversion, not premultiplied.
-#[derive(Drop)]
+#[derive(Clone, Copy)]
 pub struct Color {
     pub r: f32,
     pub g: f32,
@@ -14,7 +16,7 @@ pub struct Color {
 
 // Four bytes of a surface, or of a colour.
 #[repr(C)]
-#[derive(Drop)]
+#[derive(Clone, Copy)]
 pub struct Pixel {
     pub r: u8,
     pub g: u8,

@@ -5,6 +5,8 @@
 //     refused CODE                               a picture has a size that no picture has, or the two have different ones
 //
 // A text that is not a picture's is told on standard error, by its file and line. Both are read row by row, so no picture is too large.
+#![tactic(auto)]
+
 mod files;
 mod texts;
 
@@ -19,21 +21,21 @@ use console::usage::is_called;
 use difference::{Comparison, Found};
 
 // A picture's file: which argument names it, and its descriptor.
-#[derive(Drop)]
+#[derive(Clone, Copy)]
 pub struct Picture {
     pub argument: usize,
     pub fd: i32,
 }
 
 // A picture's size as its first line has it.
-#[derive(Drop)]
+#[derive(Clone, Copy)]
 pub struct Size {
     pub width: u32,
     pub height: u32,
 }
 
 // What became of a line: so many bytes were read, or the file ends before, or it cannot be read.
-#[derive(Drop)]
+#[derive(Clone, Copy)]
 pub enum Read {
     Bytes(usize),
     Ended,

@@ -1,5 +1,7 @@
 // What the programs share: how they are called, files named by arguments, the size of a picture, lines of output, and the picture as text.
 // No contract can say what is read or written.
+#![tactic(auto)]
+
 pub mod files;
 pub mod lines;
 mod output;
@@ -9,21 +11,21 @@ pub mod usage;
 pub mod words;
 
 // What became of a file: whether it could be read, and how many of its bytes stand in the buffer. One that fills the buffer is too long.
-#[derive(Drop)]
+#[derive(Clone, Copy)]
 pub struct Loaded {
     pub readable: bool,
     pub length: usize,
 }
 
 // A picture's width and height, or 0 and 0.
-#[derive(Drop)]
+#[derive(Clone, Copy)]
 pub struct Size {
     pub width: usize,
     pub height: usize,
 }
 
 // A line of output that is put together from left to right. What does not fit is left out.
-#[derive(Drop)]
+#[derive(Clone, Copy)]
 pub struct Line {
     pub bytes: [u8; 160],
     pub length: usize,

@@ -1,10 +1,12 @@
 // The error context: a number that each call may change, and that keeps the first code other than 0 until it is asked for.
+#![tactic(auto)]
+
 ghost use Rattle.std.specs.Prelude.{◌≡◌};
 ghost use Rattle.context.specs.Context.{keep, noted, fresh};
 
 // What a caller lends to each call; a fresh one has the code 0.
 #[repr(C)]
-#[derive(Drop)]
+#[derive(Clone, Copy)]
 pub struct Context {
     pub code: u32,
 }

@@ -1,4 +1,6 @@
 // Coverage: how many of a pixel's 16 samples lie inside a path.
+#![tactic(auto)]
+
 pub mod band;
 mod between;
 pub mod clip;
@@ -20,7 +22,7 @@ pub use crate::scissors::scissor_row;
 const GROUP_NUMBERS: usize = 32;
 
 // A row of pixels from (x, y) on, how many edges its path has, and the path's fill rule.
-#[derive(Drop)]
+#[derive(Clone, Copy)]
 pub struct Line {
     pub edges: usize,
     pub x: usize,
@@ -29,14 +31,14 @@ pub struct Line {
 }
 
 // Where an edge's count begins in a row of columns, and what it counts.
-#[derive(Drop)]
+#[derive(Clone, Copy)]
 struct Start {
     at: usize,
     by: i32,
 }
 
 // Where an edge's count begins in the four sample rows of a row of pixels, and whether it goes up (1) or down (2) past all of them.
-#[derive(Drop)]
+#[derive(Clone, Copy)]
 struct Crossed {
     way: usize,
     a: usize,
@@ -46,7 +48,7 @@ struct Crossed {
 }
 
 // A column in each of four sample rows.
-#[derive(Drop)]
+#[derive(Clone, Copy)]
 struct Columns {
     a: usize,
     b: usize,
@@ -55,7 +57,7 @@ struct Columns {
 }
 
 // An edge that goes up: it crosses the first sample row of a row of pixels at n / 64 d, in columns, and each next one step / 64 d further.
-#[derive(Drop)]
+#[derive(Clone, Copy)]
 struct Rise {
     n: i64,
     d: i64,
@@ -63,7 +65,7 @@ struct Rise {
 }
 
 // The winding numbers of four sample rows at one column.
-#[derive(Drop)]
+#[derive(Clone, Copy)]
 struct Windings {
     a: i32,
     b: i32,
@@ -72,7 +74,7 @@ struct Windings {
 }
 
 // A pixel: the winding numbers of its four sample rows at its right end, k of the pixels after it as long as nothing begins, and its own k.
-#[derive(Drop)]
+#[derive(Clone, Copy)]
 struct Cell {
     a: i32,
     b: i32,
@@ -83,7 +85,7 @@ struct Cell {
 }
 
 // A rectangle's columns in a row: from start up to end, which is left out.
-#[derive(Drop)]
+#[derive(Clone, Copy)]
 struct Span {
     start: i64,
     end: i64,

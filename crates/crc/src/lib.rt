@@ -1,4 +1,6 @@
 // The checksum of a picture: CRC-32, by which a panel tests itself.
+#![tactic(auto)]
+
 ghost use Rattle.std.specs.Prelude.{◌≡◌};
 ghost use Rattle.crc.specs.Crc.{crc_of, crc_byte, crc_bit};
 

@@ -1,4 +1,6 @@
 // The redrawn area of a change from one scene to another.
+#![tactic(auto)]
+
 ghost use Rattle.std.specs.Prelude.{◌≡◌, ◌≤◌, max};
 ghost use mathlib.Core.List.{foldl};
 ghost use Rattle.rect.specs.Rects.{On, join_of, smallest};

@@ -1,4 +1,6 @@
 // Two pictures compared: how many pixels differ, where, and by how much.
+#![tactic(auto)]
+
 pub mod rows;
 
 ghost use Rattle.std.specs.Prelude.{◌≡◌, cond, ◌&&◌, ◌*◌, ◌≤◌, ◌<◌, length, eqb};
@@ -14,7 +16,7 @@ const SIDE_LIMIT: u32 = 1024;
 // The answer: a code, 0 if the pictures were compared; 1 if they are equal; the number of differing pixels; the smallest rectangle that holds
 // them; the largest difference of any channel; the least y * width + x of a differing pixel.
 #[repr(C)]
-#[derive(Drop)]
+#[derive(Clone, Copy)]
 pub struct Comparison {
     pub code: u32,
     pub equal: u32,
@@ -29,7 +31,7 @@ pub struct Comparison {
 
 // What is found of the rows so far: the number of differing pixels, the smallest rectangle that holds them, the largest difference of any
 // channel, and the least number of a differing pixel.
-#[derive(Drop)]
+#[derive(Clone, Copy)]
 pub struct Found {
     pub count: usize,
     pub area: Rect,

@@ -1,4 +1,6 @@
 // Draws the scene file that its argument names, and prints the picture.
+#![tactic(auto)]
+
 ghost use Rattle.std.specs.Prelude.{◌≤◌, length};
 ghost use Rattle.console.specs.Sizes.{most_bytes, Surface};
 

@@ -9,6 +9,8 @@
 //
 // What a stage computes is in a crate of its own: `scene` reads the fields, `outline` makes the edges and their box, `coverage` counts a
 // row's samples, `paint` colours a row, `transform` gives it other colours, `blend` stores it.
+#![tactic(auto)]
+
 mod background;
 pub mod decode;
 pub mod draws;
@@ -23,7 +25,7 @@ use transform::FixedTransform;
 
 // How a draw is filled: the number of its edges, its fill rule, whether scissoring is on and by how many scissors, whether it is drawn through the
 // mask, its blend mode, its paint.
-#[derive(Drop)]
+#[derive(Clone, Copy)]
 pub struct Style {
     pub edges: usize,
     pub nonzero: bool,
@@ -35,7 +37,7 @@ pub struct Style {
 }
 
 // A draw on a rectangle of the surface, and how many of its edges are listed as those that the rectangle's rows meet.
-#[derive(Drop)]
+#[derive(Clone, Copy)]
 pub struct Fill {
     pub style: Style,
     pub target: Target,
@@ -43,7 +45,7 @@ pub struct Fill {
 }
 
 // The same on a row.
-#[derive(Drop)]
+#[derive(Clone, Copy)]
 pub struct FillRow {
     pub style: Style,
     pub strip: Strip,
@@ -51,28 +53,28 @@ pub struct FillRow {
 }
 
 // What a draw paints with, ready for its rows: a premultiplied pixel, already transformed, or a gradient.
-#[derive(Drop)]
+#[derive(Clone, Copy)]
 pub enum Shade {
     Solid(Pixel),
     Gradient(TintedGradient),
 }
 
 // A gradient, whose ramp lies in a lent run of numbers, and what becomes of its pixels.
-#[derive(Drop)]
+#[derive(Clone, Copy)]
 pub struct TintedGradient {
     pub gradient: AnyGradient,
     pub tint: Tint,
 }
 
 // Whether premultiplied pixels go through a colour transformation, and through which.
-#[derive(Drop)]
+#[derive(Clone, Copy)]
 pub enum Tint {
     Plain,
     Transformed(FixedTransform),
 }
 
 // The pixels (x, y) to (x + length - 1, y).
-#[derive(Drop)]
+#[derive(Clone, Copy)]
 pub struct Strip {
     pub x: usize,
     pub y: usize,

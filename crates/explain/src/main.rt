@@ -1,5 +1,7 @@
 // Explains a pixel of the scene file that its first argument names, under the mask file that its last argument names, if there is one: prints a line
 // for each draw, and then the pixel.
+#![tactic(auto)]
+
 mod numbers;
 mod printing;
 
@@ -15,7 +17,7 @@ use console::usage::is_called;
 const MASK_BUFFER: usize = 1048577;
 
 // A pixel's coordinate: whether the argument is a number, and the number. One outside every picture stands for all larger ones and for all below 0.
-#[derive(Drop)]
+#[derive(Clone, Copy)]
 pub struct Coordinate {
     pub given: bool,
     pub value: usize,

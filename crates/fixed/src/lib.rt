@@ -1,4 +1,6 @@
 // Whole numbers: floor division, square roots, little-endian reads, and the exact whole number that a float becomes.
+#![tactic(auto)]
+
 pub mod convert;
 pub mod floats;
 pub mod floor;
@@ -12,14 +14,14 @@ pub use crate::little::{i16_at, i32_at, u16_at, u32_at};
 pub use crate::root::isqrt_near;
 
 // What four bytes are as an f32.
-#[derive(Drop)]
+#[derive(Clone, Copy)]
 pub enum Real {
     Number(f32),
     Nan,
 }
 
 // What the offset of a stop becomes, in 65,536ths.
-#[derive(Drop)]
+#[derive(Clone, Copy)]
 pub enum Offset {
     At(u32),
     Outside,

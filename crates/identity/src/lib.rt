@@ -1,10 +1,12 @@
 // Version and source hash of the library: written by tests/identity, which says of what the hash is.
+#![tactic(auto)]
+
 ghost use Rattle.std.specs.Prelude.{◌≡◌};
 ghost use Rattle.identity.specs.Identity.{identity_of};
 
 // The version's three numbers, and the 32 bytes of the source hash.
 #[repr(C)]
-#[derive(Drop)]
+#[derive(Clone, Copy)]
 pub struct Identity {
     pub major: u32,
     pub minor: u32,

@@ -5,6 +5,8 @@
 //     redraw OLD NEW SURFACE ROOM     a redraw, on a surface that shows the old scene where that can be drawn
 //
 // Kept: every byte or number is as before. Drawn: every byte is as after a full drawing on another pattern. Zero: every number is 0.
+#![tactic(auto)]
+
 mod arguments;
 mod calls;
 mod patterns;
@@ -18,7 +20,7 @@ use console::usage::is_called;
 
 // A call: where its arguments end, the lengths of its files, and the sizes of what it is lent. One that ends at 0 is none. A drawing has
 // no old file.
-#[derive(Drop)]
+#[derive(Clone, Copy)]
 pub struct Call {
     pub end: usize,
     pub old: usize,

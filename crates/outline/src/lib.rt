@@ -1,4 +1,6 @@
 // Outlines: the edges of a path, written to a lent run of numbers, and their bounds.
+#![tactic(auto)]
+
 pub mod bounds;
 pub mod curve;
 pub mod extent;
@@ -8,7 +10,7 @@ pub mod hull;
 pub mod store;
 
 // The weights of a curve's four points, over 16 to the power of its degree.
-#[derive(Drop)]
+#[derive(Clone, Copy)]
 pub struct Weights {
     pub w0: u32,
     pub w1: u32,

@@ -1,4 +1,6 @@
 // Paint: the colour of a pixel, from a plain colour, a linear gradient or a radial one.
+#![tactic(auto)]
+
 pub mod block;
 pub mod build;
 pub mod chord;
@@ -18,7 +20,7 @@ pub mod words;
 use color::{Color, Pixel};
 
 // The linear gradient's points in pixels, before conversion.
-#[derive(Drop)]
+#[derive(Clone, Copy)]
 pub struct LinearPoints {
     pub x0: f32,
     pub y0: f32,
@@ -27,7 +29,7 @@ pub struct LinearPoints {
 }
 
 // The same in 1/256 pixel.
-#[derive(Drop)]
+#[derive(Clone, Copy)]
 pub struct FixedPoints {
     pub x0: i64,
     pub y0: i64,
@@ -36,7 +38,7 @@ pub struct FixedPoints {
 }
 
 // The radial gradient's circle in pixels, before conversion: its centre, its focal point and its radius.
-#[derive(Drop)]
+#[derive(Clone, Copy)]
 pub struct RadialPoints {
     pub cx: f32,
     pub cy: f32,
@@ -46,7 +48,7 @@ pub struct RadialPoints {
 }
 
 // The same in 1/16 pixel.
-#[derive(Drop)]
+#[derive(Clone, Copy)]
 pub struct Circle {
     pub cx: i64,
     pub cy: i64,
@@ -56,7 +58,7 @@ pub struct Circle {
 }
 
 // What a draw paints with.
-#[derive(Drop)]
+#[derive(Clone, Copy)]
 pub enum Paint {
     Solid(Color),
     Linear(LinearPoints),
@@ -64,14 +66,14 @@ pub enum Paint {
 }
 
 // A stop of a ramp: its offset in 1/65,536, and its colour.
-#[derive(Drop)]
+#[derive(Clone, Copy)]
 pub struct Stop {
     pub offset: u32,
     pub color: Pixel,
 }
 
 // A linear gradient as drawing needs it: its points, its spread mode, whether its stops are premultiplied, and how many stops its ramp has.
-#[derive(Drop)]
+#[derive(Clone, Copy)]
 pub struct LinearGradient {
     pub points: FixedPoints,
     pub spread: u32,
@@ -80,7 +82,7 @@ pub struct LinearGradient {
 }
 
 // A radial gradient as drawing needs it.
-#[derive(Drop)]
+#[derive(Clone, Copy)]
 pub struct RadialGradient {
     pub circle: Circle,
     pub spread: u32,
@@ -89,14 +91,14 @@ pub struct RadialGradient {
 }
 
 // A gradient of either kind.
-#[derive(Drop)]
+#[derive(Clone, Copy)]
 pub enum AnyGradient {
     Linear(LinearGradient),
     Radial(RadialGradient),
 }
 
 // A and Q of a radial gradient at a pixel, and how they go on along the row: A grows by da, Q by dq, and dq by ddq.
-#[derive(Drop)]
+#[derive(Clone, Copy)]
 pub struct Place {
     pub a: i64,
     pub q: i64,
@@ -106,28 +108,28 @@ pub struct Place {
 }
 
 // Columns of a part of a row, from one to before another.
-#[derive(Drop)]
+#[derive(Clone, Copy)]
 pub struct Columns {
     pub from: usize,
     pub to: usize,
 }
 
 // A floor division: n / d is whole and rest / d, with rest from 0 to d - 1.
-#[derive(Drop)]
+#[derive(Clone, Copy)]
 pub struct Quotient {
     pub whole: i64,
     pub rest: i64,
 }
 
 // A channel between two stops: what it is at the first of them, and what it grows by from one position to the next, in parts of 2^40.
-#[derive(Drop)]
+#[derive(Clone, Copy)]
 pub struct Line {
     pub first: i64,
     pub step: i64,
 }
 
 // t along a row as a line, if it serves: what t is at the first pixel, and what it grows by from one to the next, in parts of 2^44.
-#[derive(Drop)]
+#[derive(Clone, Copy)]
 pub struct RowLine {
     pub serves: bool,
     pub first: i64,
@@ -135,7 +137,7 @@ pub struct RowLine {
 }
 
 // A part of a ramp, from one position to before another, between two colours, with a line for each channel. It serves the positions from low on.
-#[derive(Drop)]
+#[derive(Clone, Copy)]
 pub struct Segment {
     pub low: u32,
     pub from: u32,

@@ -1,4 +1,6 @@
 // Paths: the matrix, the pen's walk over segments, and their rules.
+#![tactic(auto)]
+
 pub mod commands;
 pub mod curves;
 pub mod edges;
@@ -9,7 +11,7 @@ pub mod tracing;
 pub mod transform;
 
 // The matrix before conversion.
-#[derive(Drop)]
+#[derive(Clone, Copy)]
 pub struct Matrix {
     pub sx: f32,
     pub shy: f32,
@@ -20,7 +22,7 @@ pub struct Matrix {
 }
 
 // The matrix in 1/65,536.
-#[derive(Drop)]
+#[derive(Clone, Copy)]
 pub struct FixedMatrix {
     pub sx: i64,
     pub shy: i64,
@@ -31,21 +33,21 @@ pub struct FixedMatrix {
 }
 
 // What a matrix of floats becomes.
-#[derive(Drop)]
+#[derive(Clone, Copy)]
 pub enum Converted {
     Within(FixedMatrix),
     OutOfLimits,
 }
 
 // A point: of a path in its own units, or on the surface in 1/256 pixel.
-#[derive(Drop)]
+#[derive(Clone, Copy)]
 pub struct Point {
     pub x: i32,
     pub y: i32,
 }
 
 // The pen of document 003: start of the subpath, current point, last control point.
-#[derive(Drop)]
+#[derive(Clone, Copy)]
 pub struct Pen {
     pub start: Point,
     pub current: Point,
@@ -53,7 +55,7 @@ pub struct Pen {
 }
 
 // What a segment draws from the current point: a line (degree 1), a quad (2) or a cubic (3).
-#[derive(Drop)]
+#[derive(Clone, Copy)]
 pub struct Curve {
     pub degree: usize,
     pub p1: Point,
@@ -62,7 +64,7 @@ pub struct Curve {
 }
 
 // A straight piece of outline on the surface, in 1/256 pixel.
-#[derive(Drop)]
+#[derive(Clone, Copy)]
 pub struct Edge {
     pub x0: i32,
     pub y0: i32,
@@ -71,42 +73,42 @@ pub struct Edge {
 }
 
 // A segment byte, split: the command, and whether the coordinates are relative.
-#[derive(Drop)]
+#[derive(Clone, Copy)]
 pub struct Segment {
     pub command: u8,
     pub relative: bool,
 }
 
 // How far a walk over segments has come: the pen, and the number of coordinates used.
-#[derive(Drop)]
+#[derive(Clone, Copy)]
 pub struct Walk {
     pub pen: Pen,
     pub used: usize,
 }
 
 // The walk after a segment, and the segment's points.
-#[derive(Drop)]
+#[derive(Clone, Copy)]
 pub struct Traced {
     pub walk: Walk,
     pub curve: Curve,
 }
 
 // The same, or the code of the segment's refusal.
-#[derive(Drop)]
+#[derive(Clone, Copy)]
 pub enum Step {
     Drawn(Traced),
     Refused(u32),
 }
 
 // A path's first refused segment and its code; code 0 where every segment is accepted.
-#[derive(Drop)]
+#[derive(Clone, Copy)]
 pub struct PathFault {
     pub code: u32,
     pub segment: usize,
 }
 
 // A path's fault, and the number of coordinates used where there is none.
-#[derive(Drop)]
+#[derive(Clone, Copy)]
 pub struct Checked {
     pub fault: PathFault,
     pub used: usize,

@@ -5,6 +5,8 @@
 //     scissors   k of a pixel with scissoring on
 //     pixels     a draw at each pixel of the surface
 //     draws      the draws of a scene, in order
+#![tactic(auto)]
+
 pub mod crossing;
 pub mod draws;
 pub mod pixels;

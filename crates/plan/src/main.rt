@@ -1,4 +1,6 @@
 // Prints the rectangles that the planner proposes for a redraw from the first scene file to the second.
+#![tactic(auto)]
+
 ghost use Rattle.std.specs.Prelude.{◌≤◌, length};
 
 use codes::ACCEPTED;

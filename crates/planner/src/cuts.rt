@@ -11,7 +11,7 @@ use crate::runs::rect_at;
 use rect::Rect;
 
 // The line at which that part of a plan is cut, and how many pixels it saves; or none.
-#[derive(Drop)]
+#[derive(Clone, Copy)]
 pub struct Cut {
     pub found: bool,
     pub part: usize,

@@ -1,4 +1,6 @@
 // Rectangles planned for a redraw: the area of the changed draws' boxes, cut where most pixels are saved, in up to four.
+#![tactic(auto)]
+
 pub mod boxes;
 pub mod cuts;
 pub mod planning;

@@ -12,7 +12,7 @@ use scene::layout::{BLOCK_BYTES, NO_DRAW};
 
 // What a plan answers: why it is refused, as a redraw says it, or code 0 and how many rectangles were written.
 #[repr(C)]
-#[derive(Drop)]
+#[derive(Clone, Copy)]
 pub struct Planning {
     pub code: u32,
     pub draw: u32,

@@ -1,4 +1,6 @@
 // A replay: scenes one behind another in one run, each redrawn from the one accepted last, or drawn in full while there is none.
+#![tactic(auto)]
+
 pub mod judge;
 pub mod scenes;
 
@@ -11,14 +13,14 @@ use crate::scenes::play;
 use codes::ACCEPTED;
 
 // What a replay answers: its code, and the code that it notes, its own or else the first other than 0 of its scenes'.
-#[derive(Drop)]
+#[derive(Clone, Copy)]
 pub struct Replayed {
     pub code: u32,
     pub first: u32,
 }
 
 // What is carried from scene to scene: whether one was accepted, where the last such lies, and the first code other than 0.
-#[derive(Drop)]
+#[derive(Clone, Copy)]
 pub struct Carried {
     pub any: bool,
     pub at: usize,
@@ -27,7 +29,7 @@ pub struct Carried {
 }
 
 // Where a scene lies in the run, and where its answer goes.
-#[derive(Drop)]
+#[derive(Clone, Copy)]
 pub struct Place {
     pub at: usize,
     pub end: usize,

@@ -1,4 +1,6 @@
 // Pixels in bytes, rows of pixels, and rectangles of a surface.
+#![tactic(auto)]
+
 ghost use Rattle.std.specs.Prelude.{◌≡◌, ◌+◌, ◌*◌, ◌<◌, length};
 ghost use Rattle.raster.specs.Surface.{run, pixel_in, overlay};
 ghost use Rattle.raster.specs.Rows.{put_pixel, Placed, Part, cut, Framed, filled_around};
@@ -7,7 +9,7 @@ use color::Pixel;
 use rect::Rect;
 
 // Where is drawn: the surface's width and height, and the rectangle of it.
-#[derive(Drop)]
+#[derive(Clone, Copy)]
 pub struct Target {
     pub width: usize,
     pub height: usize,
@@ -15,7 +17,7 @@ pub struct Target {
 }
 
 // Bytes from one place to before another.
-#[derive(Drop)]
+#[derive(Clone, Copy)]
 pub struct Range {
     pub from: usize,
     pub to: usize,

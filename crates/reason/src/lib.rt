@@ -6,6 +6,8 @@
 //     samples   the scissors and k at one pixel
 //     windings  the winding numbers of its samples
 //     paints    the paint at one pixel
+#![tactic(auto)]
+
 pub mod judge;
 mod lines;
 mod paints;
@@ -34,7 +36,7 @@ pub const COVERED: u32 = 3;
 // What a draw does at a pixel: the kind of the line, the pixel before the draw and after it. Where it is covered also k, 1 if the draw uses the mask and 0
 // if not, the mask's byte, which is 255 where it does not, and the paint's premultiplied bytes as blended.
 #[repr(C)]
-#[derive(Drop)]
+#[derive(Clone, Copy)]
 pub struct Line {
     pub kind: u32,
     pub before: Pixel,
@@ -47,7 +49,7 @@ pub struct Line {
 
 // How an explanation begins: a refusal's code, 0 for none, its draw number and its offset in the file; the number of draws, and the pixel before the first.
 #[repr(C)]
-#[derive(Drop)]
+#[derive(Clone, Copy)]
 pub struct Start {
     pub code: u32,
     pub draw: u32,

@@ -1,4 +1,6 @@
 // Draws the first scene file in full, redraws to the second, and prints the redrawn area and the picture.
+#![tactic(auto)]
+
 ghost use Rattle.std.specs.Prelude.{◌≤◌, length};
 ghost use Rattle.console.specs.Sizes.{most_bytes, Surface};
 

@@ -1,4 +1,6 @@
 // Redrawing by several rectangles that anyone proposes.
+#![tactic(auto)]
+
 pub mod accept;
 pub mod cover;
 pub mod paint;

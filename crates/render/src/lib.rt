@@ -1,4 +1,6 @@
 // Rendering: the full drawing of a scene, and the quick redraw from one scene to another.
+#![tactic(auto)]
+
 pub mod judge;
 
 ghost use Rattle.std.specs.Prelude.{◌≡◌, cond, length};
@@ -12,7 +14,7 @@ use rect::Rect;
 use scene::layout::NO_DRAW;
 
 // Why a call is refused: its code, 0 for none, the draw number and the scene number.
-#[derive(Drop)]
+#[derive(Clone, Copy)]
 pub struct Refusal {
     pub code: u32,
     pub draw: u32,
@@ -21,7 +23,7 @@ pub struct Refusal {
 
 // What a call answers: code, draw number, scene number, and the area.
 #[repr(C)]
-#[derive(Drop)]
+#[derive(Clone, Copy)]
 pub struct Answer {
     pub code: u32,
     pub draw: u32,

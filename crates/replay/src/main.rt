@@ -7,6 +7,8 @@
 //     limit                           in place of all: the files are too long together
 //
 // The surface has the size of the first scene that passes the scene rules. No mask is lent.
+#![tactic(auto)]
+
 ghost use Rattle.std.specs.Prelude.{◌≡◌, ◌≤◌, ◌<◌, ◌+◌, ◌*◌, length};
 ghost use Rattle.console.specs.Sizes.{most_bytes, Surface, Allowed};
 

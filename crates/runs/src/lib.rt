@@ -1,4 +1,6 @@
 // A row of coverage as runs: pixels that are covered alike, taken together. A run is one number: 32 times the pixel before which it ends, and its k.
+#![tactic(auto)]
+
 ghost use Rattle.std.specs.Prelude.{◌≡◌, true, ◌++◌, ℕ, ◌+◌, ◌-◌, ◌*◌, ◌≤◌, ◌<◌, length, get_or, replicate};
 ghost use Rattle.lists.specs.Lists.{tab};
 ghost use Rattle.runs.specs.Runs.{start_of, level_of, expand, Runs};

@@ -5,6 +5,8 @@
 //     refused CODE        block 0 or the length is wrong, and no file is written
 //
 // The file is written under another name first, which must be free, and then renamed, so that one that was there is replaced whole or not at all.
+#![tactic(auto)]
+
 ghost use Rattle.std.specs.Prelude.{◌≡◌, ◌+◌, ◌≤◌, length};
 
 use codes::ACCEPTED;

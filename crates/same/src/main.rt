@@ -4,6 +4,8 @@
 //     X Y                   the differing pixel with the least y·width + x
 //     refused CODE DRAW     the scene is refused
 //     limit                 the file is too long, or the picture too large for two of it
+#![tactic(auto)]
+
 ghost use Rattle.std.specs.Prelude.{◌≤◌, length};
 
 use codes::ACCEPTED;

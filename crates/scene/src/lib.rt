@@ -1,4 +1,6 @@
 // The scene file: its blocks, its rules in their order, and its fields.
+#![tactic(auto)]
+
 pub mod blocks;
 pub mod faults;
 pub mod fields;
@@ -8,28 +10,28 @@ pub mod rules;
 pub mod verdict;
 
 // The two sums of a block's check.
-#[derive(Drop)]
+#[derive(Clone, Copy)]
 pub struct Checksum {
     pub plain: u16,
     pub weighted: u16,
 }
 
 // The words of a block's strips at one place: their sum, and the sum of each times its strip's number.
-#[derive(Drop)]
+#[derive(Clone, Copy)]
 pub struct Column {
     pub all: u32,
     pub late: u32,
 }
 
 // The first fault among fields: its code, 0 for none, and the place that the rules met, in the bytes that are judged.
-#[derive(Drop)]
+#[derive(Clone, Copy)]
 pub struct FieldFault {
     pub code: u32,
     pub place: u16,
 }
 
 // A scene's first fault: its code, 0 for none, the draw number, and the offset in the file.
-#[derive(Drop)]
+#[derive(Clone, Copy)]
 pub struct Fault {
     pub code: u32,
     pub draw: usize,

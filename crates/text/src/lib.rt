@@ -1,4 +1,6 @@
 // The text of a picture.
+#![tactic(auto)]
+
 ghost use Rattle.std.specs.Prelude.{◌≡◌, [], ◌∷◌, ◌++◌, ◌+◌, ◌*◌, ◌<◌, length, take};
 ghost use Rattle.text.specs.Text.{hex_digit, byte_text, pixel_text, after_pixel, row_text};
 

@@ -4,6 +4,8 @@
 //     reciprocals   bytes out of premultiplied form by a table, without a division
 //     bytewise      rows byte by byte, where each channel is to be transformed as it stands
 //     pixels        premultiplied bytes transformed: a pixel, and the pixels of a row
+#![tactic(auto)]
+
 pub mod bytewise;
 pub mod convert;
 pub mod pixels;
@@ -13,7 +15,7 @@ pub use crate::convert::fixed_transform;
 pub use crate::pixels::{transform_pixel, transform_row};
 
 // The scales and biases before conversion, by the names that document 001 gives them.
-#[derive(Drop)]
+#[derive(Clone, Copy)]
 pub struct ColorTransform {
     pub sr: f32,
     pub sg: f32,
@@ -26,7 +28,7 @@ pub struct ColorTransform {
 }
 
 // The same in 1/256.
-#[derive(Drop)]
+#[derive(Clone, Copy)]
 pub struct FixedTransform {
     pub sr: i32,
     pub sg: i32,

@@ -1,4 +1,6 @@
 // The C interface: include/wayramesh.h tells a C caller what these functions take and answer. Each draw, redraw and replay notes its code in the context.
+#![tactic(auto)]
+
 pub mod calls;
 pub mod explain;
 pub mod planned;
