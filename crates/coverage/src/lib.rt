@@ -86,7 +86,7 @@ struct Cell {
 
 // A rectangle's columns in a row: from start up to end, which is left out.
 #[derive(Clone, Copy)]
-struct Span {
+pub struct Span {
     start: i64,
     end: i64,
 }
