@@ -1,0 +1,19 @@
+-- `blend::is_opaque` meets its contract: up to i every pixel has all bits that are left. Assumes nothing.
+use Prim.Native.Nat.{ℕ, ◌+◌, ◌-◌, ◌*◌, ◌≤◌, ◌<◌}
+use native.Mathlib.Omega.{arith}
+use native.Mathlib.Nat.{le_trans}
+use lib.Bits.{bit_and, and_le_l, and_le_r}
+use borrow.Author.Count.{below_more}
+use borrow.Author.Tests.{leb-true}
+use Rattle.raster.specs.Surface.{pixel_in}
+use Rattle.blend.specs.Spans.{word_of}
+use Rattle.blend.proofs.Bytes.{word_opaque}
+use borrow.Author.Rules.{rules}
+use Rattle.blend.proofs.bytewise.is_opaque.Given as goal
+
+-- `blend::is_opaque` meets its contract: up to i every pixel has all bits that are left. Assumes nothing.
+abbrev pub invariant-loop-i : goal.invariant-loop-i
+invariant-loop-i l = (l.i ≤ l.n) × ((j : ℕ) → j < l.i → l.all ≤ word_of (pixel_in l.src j))
+
+abbrev pub decreases-loop-i : goal.decreases-loop-i
+decreases-loop-i l = l.n - l.i

@@ -1,0 +1,19 @@
+-- `blend::masked_row` meets its contract: the bytes before i are stored, and the others are as they were. Assumes nothing.
+use mathlib.Core.Path.{◌≡◌, ap, ◌∙◌}
+use Prim.Native.Nat.{ℕ, ◌-◌, ◌*◌, ◌≤◌}
+use native.Mathlib.Omega.{arith}
+use lib.ListN.{length, get_or, length-set}
+use Rattle.lists.specs.Lists.{tab, over}
+use Rattle.lists.proofs.Laws.{tab_turn, tab_all, tab_read}
+use Rattle.blend.specs.PorterDuff.{stored}
+use Rattle.blend.proofs.Bytes.{masked_at, masked_bytes}
+use borrow.Author.Rules.{rules}
+use Rattle.blend.proofs.bytewise.masked_row.Given as goal
+
+-- `blend::masked_row` meets its contract: the bytes before i are stored, and the others are as they were. Assumes nothing.
+abbrev pub invariant-loop-i : goal.invariant-loop-i
+invariant-loop-i l =
+    (l.i ≤ l.n * 4) × (length l.row ≡ l.n * 4) × (l.row ≡ over (tab l.i (masked_at l.coverage l.wide l.src l.initial.row)) l.initial.row)
+
+abbrev pub decreases-loop-i : goal.decreases-loop-i
+decreases-loop-i l = l.n * 4 - l.i

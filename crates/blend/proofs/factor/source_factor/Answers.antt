@@ -1,0 +1,25 @@
+-- `blend::source_factor` meets its contract: each way of its tests is a case of the definition. Assumes nothing.
+use borrow.Author.Rules.{rules}
+use borrow.Author.Tests.{eq-eqb, ne_eqb}
+use Rattle.blend.specs.PorterDuff.{source_factor}
+use Rattle.blend.proofs.factor.source_factor.Goals as goal
+
+pub returns-then-mode-eq-DST_OVER : goal.returns-then-mode-eq-DST_OVER
+unfolding source_factor
+returns-then-mode-eq-DST_OVER c =
+    rw (eq-eqb _ _ c.if-mode-eq-DST_OVER.true)
+
+pub returns-then-mode-eq-SRC_IN : goal.returns-then-mode-eq-SRC_IN
+unfolding source_factor
+returns-then-mode-eq-SRC_IN c =
+    rw (ne_eqb _ _ c.if-mode-eq-DST_OVER.false, eq-eqb _ _ c.if-mode-eq-SRC_IN.true)
+
+pub returns-then-mode-eq-DST_IN : goal.returns-then-mode-eq-DST_IN
+unfolding source_factor
+returns-then-mode-eq-DST_IN c =
+    rw (ne_eqb _ _ c.if-mode-eq-DST_OVER.false, ne_eqb _ _ c.if-mode-eq-SRC_IN.false, eq-eqb _ _ c.if-mode-eq-DST_IN.true)
+
+pub returns : goal.returns
+unfolding source_factor
+returns c =
+    rw (ne_eqb _ _ c.if-mode-eq-DST_OVER.false, ne_eqb _ _ c.if-mode-eq-SRC_IN.false, ne_eqb _ _ c.if-mode-eq-DST_IN.false)

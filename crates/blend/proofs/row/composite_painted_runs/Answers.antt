@@ -1,0 +1,164 @@
+-- `blend::composite_painted_runs` meets its contract: the runs before j are stored, and the other pixels are as they were. Assumes nothing.
+use mathlib.Core.Path.{◌≡◌, sym, ap, ap₂, ◌∙◌}
+use Prim.Native.Nat.{ℕ, ◌+◌, ◌-◌, ◌*◌, ◌≤◌, ◌<◌}
+use native.Mathlib.Omega.{arith}
+use lib.ListN.{length, get_or, take, drop}
+use Rattle.lists.proofs.Laws.{part_length}
+use Rattle.runs.specs.Runs.{end_of, start_of, level_of, expand}
+use Rattle.runs.proofs.Expand.{starts_rise, runs_at, runs_length}
+use Rattle.color.specs.declared.Pixel.{Pixel}
+use Rattle.raster.specs.Surface.{pixel_in}
+use Rattle.raster.specs.Rows.{Stored}
+use Rattle.raster.proofs.Runs.{run_same, stored_none, stored_all}
+use Rattle.blend.specs.PorterDuff.{composite_on}
+use Rattle.blend.specs.Unmasked.{unmasked_on}
+use Rattle.blend.specs.Spans.{length_of}
+use Rattle.blend.proofs.Spans.{part_turn, part_paint, run_covered, next_start, LentRun, run_lent}
+use Rattle.blend.proofs.Masks.{whole_mask_step}
+use borrow.Author.Rules.{rules}
+use Rattle.blend.proofs.row.composite_painted_runs.Goals as goal
+use Rattle.blend.proofs.row.composite_painted_runs.Tie as tie
+use Rattle.blend.proofs.row.composite_painted_runs.Lts as lts
+use Rattle.blend.proofs.row.composite_painted_runs.Reads as reads
+
+-- the run of the turn
+turn : (c : lts.In-loop tie.the-claims reads.Pre reads.Post goal.the-invariant-loop-j goal.the-decreases-loop-j tie.handed_clauses) → let l = c.loop-j in let a = c.args in
+    LentRun a.runs.now l.j c.start-first.result l.a (length a.src.now)
+turn c =
+    let l = c.loop-j in
+    let first = c.start-first in
+    let a = c.args in
+    let p = c.requires in
+    run_lent a.runs.now a.n a.w p.0.0 l.j a.some.to first.result l.a (length a.src.now)
+    c.loop-j-test.true p.0.2 p.0.3 l.invariant.1
+    (p.1.0.0 ∙ ap (λ (f : ℕ). (start_of a.runs.now a.some.to - f) * 4) (sym first.ensures))
+
+-- the row is as long as the paint
+long : (c : lts.In-loop tie.the-claims reads.Pre reads.Post goal.the-invariant-loop-j goal.the-decreases-loop-j tie.handed_clauses) → length c.loop-j.row ≡ length c.args.src.now
+long c = c.loop-j.invariant.2.long ∙ c.requires.src_len.1 ∙ sym c.requires.src_len.0
+
+pub start-first-requires : goal.start-first-requires
+start-first-requires c =
+    omega (arith, c.requires.runs.1, c.requires.runs.2, c.requires.runs.3)
+
+pub loop-j-init : goal.loop-j-init
+loop-j-init c =
+    (c.requires.runs.1, omega (arith, c.start-first.ensures), stored_none _ _)
+
+pub offset_bounds-runs-j : goal.offset_bounds-runs-j
+offset_bounds-runs-j c =
+    omega (arith, (turn c.before).there)
+
+pub bounds-runs-j : goal.bounds-runs-j
+bounds-runs-j c =
+    (turn c.before.before).there
+
+pub overflow_cast-e : goal.overflow_cast-e
+overflow_cast-e c =
+    omega (arith, c.shared_slice_known-in-loop-j-1.given c.loop-j.j)
+
+pub overflow_sub-e : goal.overflow_sub-e
+overflow_sub-e c =
+    (turn c.before.before).low
+
+pub overflow_mul-from : goal.overflow_mul-from
+overflow_mul-from c =
+    omega (arith, (turn c.before.before).some, (turn c.before.before).within)
+
+pub overflow_mul-to : goal.overflow_mul-to
+overflow_mul-to c =
+    omega (arith, (turn c.before.before).within)
+
+pub offset_bounds-runs-j-in-loop-j : goal.offset_bounds-runs-j-in-loop-j
+offset_bounds-runs-j-in-loop-j c =
+    omega (arith, (turn c.before.before).there)
+
+pub bounds-runs-j-in-loop-j : goal.bounds-runs-j-in-loop-j
+bounds-runs-j-in-loop-j c =
+    (turn c.before.before.before).there
+
+pub overflow_cast-runs : goal.overflow_cast-runs
+overflow_cast-runs c =
+    omega arith
+
+pub slice_bounds-composite_painted-count : goal.slice_bounds-composite_painted-count
+slice_bounds-composite_painted-count c =
+    omega (arith, (turn c.before.before.before).some)
+
+pub slice_bounds-composite_painted-start : goal.slice_bounds-composite_painted-start
+slice_bounds-composite_painted-start c =
+    omega (arith, (turn c.before.before.before).some)
+
+pub slice_bounds-composite_painted-end : goal.slice_bounds-composite_painted-end
+slice_bounds-composite_painted-end c =
+    (turn c.before.before.before).within
+
+pub slice_bounds-composite_painted-count-in-loop-j : goal.slice_bounds-composite_painted-count-in-loop-j
+slice_bounds-composite_painted-count-in-loop-j c =
+    omega (arith, (turn c.before.before.before.before).some)
+
+pub slice_bounds-composite_painted-start-in-loop-j : goal.slice_bounds-composite_painted-start-in-loop-j
+slice_bounds-composite_painted-start-in-loop-j c =
+    omega (arith, (turn c.before.before.before.before).some)
+
+pub slice_bounds-composite_painted-end-in-loop-j : goal.slice_bounds-composite_painted-end-in-loop-j
+slice_bounds-composite_painted-end-in-loop-j c =
+    omega (arith, (turn c.before.before.before.before).within, long c.before.before.before.before)
+
+pub overflow_sub-e-in-loop-j : goal.overflow_sub-e-in-loop-j
+overflow_sub-e-in-loop-j c =
+    (turn c.before.before.before.before.before).some
+
+pub composite_painted-requires : goal.composite_painted-requires
+composite_painted-requires c =
+    let a = c.args in
+    let l = c.loop-j in
+    let e = end_of a.runs.now l.j - c.start-first.result in
+    let t = turn c.before.before.before.before.before in
+    let low : l.a * 4 ≤ e * 4 = omega (arith, t.some) in
+    let size : e * 4 - l.a * 4 ≡ (e - l.a) * 4 = omega arith in (
+      run_covered a.runs.now a.n a.w c.requires.runs.0 c.requires.coverage l.j (omega (arith, c.loop-j-test.true, c.requires.runs.2)),
+      part_length a.src.now (l.a * 4) (e * 4) low t.within ∙ size,
+      part_length l.row (l.a * 4) (e * 4) low (omega (arith, t.within, long c.before.before.before.before.before)) ∙ size,
+    )
+
+pub loop-j-preserved : goal.loop-j-preserved
+loop-j-preserved c =
+    let a = c.args in
+    let l = c.loop-j in
+    let runs = a.runs.now in
+    let first = c.start-first.result in
+    let e = end_of runs l.j - first in
+    let t = turn c.before.before.before.before.before.before.before.before in
+    let below : l.j < a.n = omega (arith, c.loop-j-test.true, c.requires.runs.2) in
+    let call = c.composite_painted in (
+      omega (arith, c.loop-j-test.true),
+      omega (arith, next_start runs l.j, t.low),
+      part_turn (λ i. unmasked_on a.mode (get_or (expand runs a.n) (first + i) 0) (pixel_in a.src.now i))
+          (λ i. unmasked_on a.mode (level_of runs l.j) (pixel_in (take (e * 4 - l.a * 4) (drop (l.a * 4) a.src.now)) i))
+          l.row a.row.now call.new.row l.a e t.some (omega (arith, t.within, long c.before.before.before.before.before.before.before.before, l.invariant.2.long)) l.invariant.2
+          (λ i h p.
+          ap₂ (λ (k : ℕ) (q : Pixel). unmasked_on a.mode k q p)
+          (sym (runs_at runs a.n a.w c.requires.runs.0 l.j (first + (l.a + i)) below (omega (arith, l.invariant.1)) (omega arith)))
+          (part_paint a.src.now l.a e i h))
+          call.ensures,
+    )
+
+pub returns : goal.returns
+returns c =
+    let a = c.args in
+    let l = c.loop-j in
+    let runs = a.runs.now in
+    let first = c.start-first in
+    let all : l.j ≡ a.some.to = omega arith in
+    let n = length_of runs a.some in
+    let size : l.a ≡ n = omega (arith, l.invariant.1, ap (start_of runs) all, first.ensures) in
+    let within = starts_rise runs a.n c.requires.runs.0.rises a.some.to a.n c.requires.runs.2 (omega arith) in
+    stored_all l.invariant.2 n size c.requires.src_len.1
+    ∙ run_same n (λ i. unmasked_on a.mode (get_or (expand runs a.n) (first.result + i) 0) (pixel_in a.src.now i) (pixel_in a.row.now i))
+    (λ i. composite_on a.mode (get_or (expand runs a.n) (start_of runs a.some.from + i) 0) 255 (pixel_in a.src.now i) (pixel_in a.row.now i))
+    (λ i h.
+    whole_mask_step a.mode (get_or (expand runs a.n) (first.result + i) 0) (pixel_in a.src.now i) (pixel_in a.row.now i)
+    (c.requires.coverage (first.result + i)
+    (omega (arith, within, c.requires.runs.0.last, first.ensures, runs_length runs a.n a.w c.requires.runs.0)))
+    ∙ ap (λ (f : ℕ). composite_on a.mode (get_or (expand runs a.n) (f + i) 0) 255 (pixel_in a.src.now i) (pixel_in a.row.now i)) first.ensures)

@@ -1,0 +1,110 @@
+-- `blend::laid_runs` meets its contract: the runs before j are stored, and the other pixels are as they were. Assumes nothing.
+use mathlib.Core.Path.{◌≡◌, refl, sym, ap, ◌∙◌}
+use Prim.Native.Nat.{◌-◌, ◌≤◌}
+use native.Mathlib.Omega.{arith}
+use lib.ListN.{length, get_or}
+use Rattle.runs.specs.Runs.{start_of, expand}
+use Rattle.raster.specs.Surface.{pixel_in}
+use Rattle.raster.specs.Rows.{Stored}
+use Rattle.raster.proofs.Runs.{stored_none}
+use Rattle.blend.specs.PorterDuff.{mode_src_over}
+use Rattle.blend.specs.Unmasked.{unmasked_on}
+use Rattle.blend.proofs.Spans.{next_start, LentRun, run_lent, run_asks, run_turn}
+use Rattle.blend.proofs.Masks.{runs_blended}
+use borrow.Author.Rules.{rules}
+use Rattle.blend.proofs.row.laid_runs.Goals as goal
+use Rattle.blend.proofs.row.laid_runs.Tie as tie
+use Rattle.blend.proofs.row.laid_runs.Lts as lts
+use Rattle.blend.proofs.row.laid_runs.Reads as reads
+
+-- the run of the turn
+turn : (c : lts.In-loop tie.the-claims reads.Pre reads.Post goal.the-invariant-loop-j goal.the-decreases-loop-j tie.handed_clauses) → let l = c.loop-j in let a = c.args in
+    LentRun a.runs.now l.j 0 l.a (length a.row.now)
+turn c =
+    let l = c.loop-j in
+    let a = c.args in
+    let p = c.requires in
+    run_lent a.runs.now a.n a.w p.0.0 l.j a.n 0 l.a (length a.row.now) c.loop-j-test.true (omega arith) p.0.1
+    (omega (arith, l.invariant.1)) (omega (arith, p.0.2, p.0.0.last))
+
+pub loop-j-init : goal.loop-j-init
+loop-j-init c =
+    (omega arith, refl, stored_none _ _)
+
+pub offset_bounds-runs-j : goal.offset_bounds-runs-j
+offset_bounds-runs-j c =
+    omega (arith, (turn c.before).there)
+
+pub bounds-runs-j : goal.bounds-runs-j
+bounds-runs-j c =
+    (turn c.before.before).there
+
+pub overflow_cast-e : goal.overflow_cast-e
+overflow_cast-e c =
+    omega (arith, c.shared_slice_known-in-loop-j-1.given c.loop-j.j)
+
+pub overflow_mul-from : goal.overflow_mul-from
+overflow_mul-from c =
+    omega (arith, (turn c.before.before).some, (turn c.before.before).within)
+
+pub overflow_mul-to : goal.overflow_mul-to
+overflow_mul-to c =
+    omega (arith, (turn c.before.before).within)
+
+pub offset_bounds-runs-j-in-loop-j : goal.offset_bounds-runs-j-in-loop-j
+offset_bounds-runs-j-in-loop-j c =
+    omega (arith, (turn c.before.before).there)
+
+pub bounds-runs-j-in-loop-j : goal.bounds-runs-j-in-loop-j
+bounds-runs-j-in-loop-j c =
+    (turn c.before.before.before).there
+
+pub overflow_cast-runs : goal.overflow_cast-runs
+overflow_cast-runs c =
+    omega arith
+
+pub slice_bounds-over_laid-count : goal.slice_bounds-over_laid-count
+slice_bounds-over_laid-count c =
+    omega (arith, (turn c.before.before.before).some)
+
+pub slice_bounds-over_laid-start : goal.slice_bounds-over_laid-start
+slice_bounds-over_laid-start c =
+    omega (arith, (turn c.before.before.before).some)
+
+pub slice_bounds-over_laid-end : goal.slice_bounds-over_laid-end
+slice_bounds-over_laid-end c =
+    omega (arith, (turn c.before.before.before).within, c.loop-j.invariant.2.long)
+
+pub overflow_sub-e : goal.overflow_sub-e
+overflow_sub-e c =
+    omega (arith, (turn c.before.before.before.before).some)
+
+pub over_laid-requires : goal.over_laid-requires
+over_laid-requires c =
+    let a = c.args in
+    let l = c.loop-j in
+    record {
+      coverage_bound = run_asks a.runs.now a.n a.w c.requires.runs.0 l.j l.a c.loop-j-test.true l.row a.row.now (turn c.before.before.before.before) c.requires.coverage
+          l.invariant.2.long;
+      paint_value = c.requires.paint_value;
+    }
+
+pub loop-j-preserved : goal.loop-j-preserved
+loop-j-preserved c =
+    let a = c.args in
+    let l = c.loop-j in
+    let below = c.loop-j-test.true in
+    let call = c.over_laid in (
+      omega (arith, below),
+      sym (next_start a.runs.now l.j),
+      run_turn a.runs.now a.n a.w c.requires.runs.0 l.j l.a below l.row a.row.now (turn c.before.before.before.before.before.before.before) mode_src_over (pixel_in a.paint.now 0)
+          call.new.row l.invariant.1 l.invariant.2 call.ensures,
+    )
+
+pub returns : goal.returns
+returns c =
+    let a = c.args in
+    let l = c.loop-j in
+    let all : l.j ≡ a.n = omega arith in
+    runs_blended mode_src_over a.runs.now a.n a.w c.requires.runs.0 c.requires.coverage (pixel_in a.paint.now 0) l.row a.row.now l.a
+    c.requires.runs.2 (l.invariant.1 ∙ ap (start_of a.runs.now) all) l.invariant.2

@@ -1,0 +1,20 @@
+-- `coverage::between::push_each` meets its contract. Assumes nothing.
+use mathlib.Core.Path.{◌≡◌, refl, sym, ap, subst, ◌∙◌}
+use mathlib.Core.List.{List, ◌++◌}
+use Prim.Native.Nat.{ℕ, ◌+◌, ◌-◌, ◌≤◌, ◌<◌}
+use native.Mathlib.Omega.{arith}
+use lib.ListN.{length, replicate}
+use Rattle.lists.specs.Lists.{tab}
+use Rattle.runs.specs.Runs.{expand, Runs}
+use Rattle.runs.proofs.Expand.{tab_run}
+use Rattle.coverage.specs.Between.{level_at}
+use borrow.Author.Rules.{rules}
+use Rattle.coverage.proofs.between.push_each.Given as goal
+
+-- `coverage::between::push_each` meets its contract. Assumes nothing.
+abbrev pub invariant-loop-i : goal.invariant-loop-i
+invariant-loop-i l =
+    (l.p ≤ l.i) × (l.i ≤ l.e) × (length l.runs ≡ length l.initial.runs) × Runs l.runs l.m l.i × (expand l.runs l.m ≡ tab l.i (level_at l.lo l.hi))
+
+abbrev pub decreases-loop-i : goal.decreases-loop-i
+decreases-loop-i l = l.e - l.i

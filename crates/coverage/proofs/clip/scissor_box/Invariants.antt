@@ -1,0 +1,17 @@
+-- `coverage::clip::scissor_box` meets its contract. Assumes nothing.
+use mathlib.Core.Path.{◌≡◌, ap, ap₂, ◌∙◌}
+use mathlib.Core.List.{List}
+use Prim.Native.Nat.{ℕ, ◌+◌, ◌-◌, ◌≤◌}
+use native.Mathlib.Omega.{arith}
+use native.Mathlib.Numerals.{add-one}
+use Rattle.rect.specs.Rects.{join_of}
+use Rattle.coverage.specs.Clips.{scissor_rect, scissor_box}
+use borrow.Author.Rules.{rules}
+use Rattle.coverage.proofs.clip.scissor_box.Given as goal
+
+-- `coverage::clip::scissor_box` meets its contract. Assumes nothing.
+abbrev pub invariant-loop-i : goal.invariant-loop-i
+invariant-loop-i l = (l.i ≤ l.n) × (l.b ≡ scissor_box l.scissors l.i)
+
+abbrev pub decreases-loop-i : goal.decreases-loop-i
+decreases-loop-i l = l.n - l.i

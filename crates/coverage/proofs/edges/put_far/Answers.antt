@@ -1,0 +1,68 @@
+-- `coverage::edges::put_far` meets its contract. Assumes nothing.
+use mathlib.Core.Path.{◌∙◌}
+use Prim.Native.Nat.{◌/◌}
+use native.Mathlib.Omega.{arith}
+use lib.ListN.{length}
+use Rattle.coverage.proofs.Rows.{fits_second, fits_third, fits_fourth, rows_put, rows_marked}
+use borrow.Author.Rules.{rules}
+use Rattle.coverage.proofs.edges.put_far.Goals as goal
+
+pub put-requires-2 : goal.put-requires-2
+put-requires-2 c =
+    let a = c.args in
+    let one = c.put in
+    let wide = one.auto.cover in
+    let long = one.auto.scratch in
+    record {
+      r_bound = (omega arith, omega (arith, wide, long, c.requires.cover_in_bounds.0), one.ensures.grouped);
+      fits = fits_second a.base (length a.cover.now) a.s a.u a.v a.t a.scratch.now c.requires.fit_rows
+          (length one.new.cover) one.new.scratch one.auto.cover one.ensures.scratch_after;
+    }
+
+pub put-requires-3 : goal.put-requires-3
+put-requires-3 c =
+    let a = c.args in
+    let one = c.put in
+    let two = c.put-2 in
+    let wide = two.auto.cover ∙ one.auto.cover in
+    let long = two.auto.scratch ∙ one.auto.scratch in
+    record {
+      r_bound = (omega arith, omega (arith, wide, long, c.requires.cover_in_bounds.0), two.ensures.grouped);
+      fits = fits_third a.base (length a.cover.now) a.s a.u a.v a.t a.scratch.now c.requires.fit_rows
+          (length one.new.cover) one.new.scratch one.auto.cover one.ensures.scratch_after
+          (length two.new.cover) two.new.scratch two.auto.cover two.ensures.scratch_after;
+    }
+
+pub put-requires-4 : goal.put-requires-4
+put-requires-4 c =
+    let a = c.args in
+    let one = c.put in
+    let two = c.put-2 in
+    let three = c.put-3 in
+    let wide = three.auto.cover ∙ two.auto.cover ∙ one.auto.cover in
+    let long = three.auto.scratch ∙ two.auto.scratch ∙ one.auto.scratch in
+    record {
+      r_bound = (omega arith, omega (arith, wide, long, c.requires.cover_in_bounds.0), three.ensures.grouped);
+      fits = fits_fourth a.base (length a.cover.now) a.s a.u a.v a.t a.scratch.now c.requires.fit_rows
+          (length one.new.cover) one.new.scratch one.auto.cover one.ensures.scratch_after
+          (length two.new.cover) two.new.scratch two.auto.cover two.ensures.scratch_after
+          (length three.new.cover) three.new.scratch three.auto.cover three.ensures.scratch_after;
+    }
+
+pub returns : goal.returns
+returns c =
+    let a = c.args in
+    let one = c.put in
+    let two = c.put-2 in
+    let three = c.put-3 in
+    let four = c.put-4 in
+    record {
+      scratch_after = rows_put a.base (length a.cover.now) a.s a.u a.v a.t a.scratch.now c.requires.fit_rows
+          (length one.new.cover) one.new.scratch one.auto.cover one.ensures.scratch_after
+          (length two.new.cover) two.new.scratch two.auto.cover two.ensures.scratch_after
+          (length three.new.cover) three.new.scratch three.auto.cover three.ensures.scratch_after
+          four.new.scratch four.ensures.scratch_after;
+      cover_after = rows_marked (a.s.at / 4) (a.u.at / 4) (a.v.at / 4) (a.t.at / 4) a.cover.now
+          one.ensures.cover_after two.ensures.cover_after three.ensures.cover_after four.ensures.cover_after;
+      grouped = four.ensures.grouped;
+    }

@@ -1,0 +1,15 @@
+-- `coverage::scissors::cut` meets its contract. Assumes nothing.
+use Rattle.coverage.proofs.Borders.{cut_away, cut_nothing}
+use borrow.Author.Rules.{rules}
+use borrow.Author.Tests.{not-true, not-false}
+use Rattle.coverage.proofs.scissors.cut.Goals as goal
+
+pub returns-then-not-keep : goal.returns-then-not-keep
+returns-then-not-keep c =
+    let a = c.args in
+    cut_away a.part.now a.keep _ (not-true a.keep c.if-not-keep.true-raw) c.zero_counts.ensures
+
+pub returns-else-not-keep : goal.returns-else-not-keep
+returns-else-not-keep c =
+    let a = c.args in
+    cut_nothing a.part.now a.keep (not-false a.keep c.if-not-keep.false-raw)

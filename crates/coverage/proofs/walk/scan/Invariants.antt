@@ -1,0 +1,15 @@
+-- `coverage::walk::scan` meets its contract. Assumes nothing.
+use mathlib.Core.Path.{◌≡◌, subst}
+use Prim.Native.Nat.{◌+◌, ◌-◌, ◌≤◌}
+use native.Mathlib.Omega.{arith}
+use Rattle.coverage.specs.Marks.{Blank}
+use Rattle.coverage.proofs.Groups.{blank_none, blank_one, blank_more}
+use borrow.Author.Rules.{rules}
+use Rattle.coverage.proofs.walk.scan.Given as goal
+
+-- `coverage::walk::scan` meets its contract. Assumes nothing.
+abbrev pub invariant-loop-e : goal.invariant-loop-e
+invariant-loop-e l = (l.e ≤ l.end) × Blank l.marks l.p l.e
+
+abbrev pub decreases-loop-e : goal.decreases-loop-e
+decreases-loop-e l = l.end - l.e

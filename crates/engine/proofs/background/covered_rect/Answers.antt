@@ -1,0 +1,74 @@
+-- `background::covered_rect` meets its contract: what it answers was seen to be covered, or has no pixel.
+use mathlib.Core.Path.{sym, ap, ◌∙◌}
+use Prim.Native.Nat.{◌≤◌}
+use native.Mathlib.Omega.{arith}
+use Rattle.rect.specs.declared.Rect.{Rect}
+use Rattle.rect.specs.Rects.{empty_of}
+use Rattle.rect.proofs.Laws.{Wide, not_empty}
+use Rattle.path.specs.Stored.{edges_of}
+use Rattle.engine.proofs.Steps.{edges_on}
+use Rattle.engine.proofs.Hiding.{empty_covered}
+use borrow.Author.Rules.{rules}
+use Rattle.engine.proofs.background.covered_rect.Goals as goal
+
+-- the box lies on the surface
+on : (c : goal.After-bounds-b) → (c.bounds-b.result.x1 ≤ 1024) × (c.bounds-b.result.y1 ≤ 1024)
+on c =
+    let a = c.args in
+    let o = edges_on a.width a.height (edges_of a.scratch.now a.n) in
+    let e = c.bounds-b.ensures in (
+      omega (arith, ap (λ (r : Rect). r.x1) e, o.0, c.requires.width_bound.0),
+      omega (arith, ap (λ (r : Rect). r.y1) e, o.1, c.requires.width_bound.1),
+    )
+
+-- and has a pixel
+some : (c : goal.Else-is_empty) → Wide c.bounds-b.result
+some c = not_empty c.bounds-b.result (sym c.is_empty.ensures ∙ c.if-is_empty.false)
+
+pub bounds-b-requires : goal.bounds-b-requires
+bounds-b-requires c =
+    let r = c.requires.outlined in
+    (omega (arith, r.few, r.room), c.requires.width_bound)
+
+pub returns-then-is_empty : goal.returns-then-is_empty
+returns-then-is_empty c =
+    let a = c.args in
+    empty_covered (edges_of a.scratch.now a.n) c.bounds-b.result (sym c.is_empty.ensures ∙ c.if-is_empty.true)
+
+pub is_covered-requires : goal.is_covered-requires
+is_covered-requires c =
+    record { outlined = c.requires.outlined; x1_bound = on c.before.before }
+
+pub returns-then-is_covered : goal.returns-then-is_covered
+returns-then-is_covered c =
+    c.is_covered.ensures c.if-is_covered.true
+
+pub overflow_add-inner : goal.overflow_add-inner
+overflow_add-inner c =
+    omega (arith, (some c.before.before.before).wide, (on c.before.before.before.before.before).0)
+
+pub overflow_add-inner-2 : goal.overflow_add-inner-2
+overflow_add-inner-2 c =
+    omega (arith, (some c.before.before.before.before).high, (on c.before.before.before.before.before.before).1)
+
+pub overflow_sub-inner : goal.overflow_sub-inner
+overflow_sub-inner c =
+    omega (arith, (some c.before.before.before.before.before).wide)
+
+pub overflow_sub-inner-2 : goal.overflow_sub-inner-2
+overflow_sub-inner-2 c =
+    omega (arith, (some c.before.before.before.before.before.before).high)
+
+pub is_covered-requires-2 : goal.is_covered-requires-2
+is_covered-requires-2 c =
+    let o = on c.before.before.before.before.before.before.before.before in
+    record { outlined = c.requires.outlined; x1_bound = (omega (arith, o.0), omega (arith, o.1)) }
+
+pub returns-then-is_covered-2 : goal.returns-then-is_covered-2
+returns-then-is_covered-2 c =
+    c.is_covered-2.ensures c.if-is_covered-2.true
+
+pub returns : goal.returns
+returns c =
+    let a = c.args in
+    empty_covered (edges_of a.scratch.now a.n) c.no_pixel.result (ap empty_of c.no_pixel.ensures)

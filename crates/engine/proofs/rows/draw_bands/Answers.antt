@@ -1,0 +1,182 @@
+-- `rows::draw_bands` meets its contract: the rows of the bands before y are drawn.
+use mathlib.Core.List.{List, ◌++◌}
+use mathlib.Core.Path.{◌≡◌, refl, sym, ap, subst, ◌∙◌}
+use Prim.Native.Nat.{ℕ, ◌+◌, ◌-◌, ◌*◌, ◌≤◌}
+use native.Mathlib.Omega.{arith}
+use lib.IntN.{ℤ}
+use lib.ListN.{length, take, drop}
+use Rattle.lists.proofs.Laws.{part_length}
+use Rattle.raster.specs.Rows.{Rows, Part}
+use Rattle.raster.specs.declared.Target.{Target}
+use Rattle.raster.proofs.Rows.{rows_none, rows_all}
+use Rattle.path.specs.Stored.{edges_of}
+use Rattle.coverage.specs.Scanline.{Outlined}
+use Rattle.coverage.specs.Band.{Band}
+use Rattle.paint.specs.Buffers.{ramp_numbers}
+use Rattle.engine.specs.Picture.{mask_at}
+use Rattle.engine.specs.Rows.{step_with, Shaded, RowRoom, MaskFor, ListedIn}
+use Rattle.engine.proofs.RowLaws.{back_length, ramp_kept, list_given, same_steps}
+use Rattle.engine.proofs.Bands.{band_part, rows_band}
+use borrow.Author.Rules.{rules}
+use Rattle.engine.proofs.rows.draw_bands.Goals as goal
+use Rattle.engine.proofs.rows.draw_bands.Tie as tie
+use Rattle.engine.proofs.rows.draw_bands.Lts as lts
+use Rattle.engine.proofs.rows.draw_bands.Reads as reads
+
+-- the rows of a band lie on the surface
+high : (c : lts.Start tie.the-claims reads.Pre reads.Post goal.the-invariant-loop-y goal.the-decreases-loop-y tie.handed_clauses) → c.args.fill.target.area.y1 ≤ 1024
+high c = let placed = c.requires.part.0.placed in omega (arith, placed.high, placed.on.high)
+
+-- the band of a turn
+below : (c : lts.After-least tie.the-claims reads.Pre reads.Post goal.the-invariant-loop-y goal.the-decreases-loop-y tie.handed_clauses)
+    → let y = c.loop-y.y in
+    let y1 = c.args.fill.target.area.y1 in
+    (y ≤ c.least-end.result) × (c.least-end.result ≤ y1)
+below c = (omega (arith, c.least-end.ensures, c.loop-y-test.true), omega (arith, c.least-end.ensures))
+
+module _ (c : tie.After-filter-edges invariant-loop decreases-loop) where
+  abbrev at-loop : tie.At-loop invariant-loop decreases-loop
+  at-loop = c.before.before.before.before.before
+
+  abbrev entry : tie.Start invariant-loop decreases-loop
+  entry = at-loop.before.before.before.before.before.before.before.before.before.before
+
+  abbrev before : List ℕ
+  before = at-loop.loop.numbers
+
+  abbrev list : List ℕ
+  list = c.filter-edges.new.1.1.1.1.0
+
+  abbrev edges : ℕ
+  edges = entry.args.fill.style.edges
+
+  room : ramp_numbers + edges ≤ length before
+  room = omega (arith, at-loop.loop.inv.3, entry.pre.0.1)
+
+  long : length list ≡ edges
+  long = c.filter-edges.auto.1.1.1.1.0 ∙ part_length before ramp_numbers (ramp_numbers + edges) (omega arith) room ∙ omega arith
+
+  abbrev numbers : List ℕ
+  numbers = take ramp_numbers before ++ (list ++ drop (ramp_numbers + edges - ramp_numbers) (drop ramp_numbers before))
+
+  kept : take ramp_numbers numbers ≡ take ramp_numbers entry.args.numbers.now
+  kept = ramp_kept before list edges room long ∙ at-loop.loop.inv.2
+
+  listed : (ramp_numbers + c.filter-edges.result ≤ length numbers)
+      × Band at-loop.loop.scratch edges at-loop.loop.y c.before.before.before.least.result
+      (take c.filter-edges.result (drop ramp_numbers numbers))
+  listed =
+      let few = c.filter-edges.ensures.0.0 in
+      let same = back_length before list ramp_numbers (ramp_numbers + edges) (omega arith) room (long ∙ omega arith) in (
+        omega (arith, few, room, same),
+        subst (Band at-loop.loop.scratch edges at-loop.loop.y c.before.before.before.least.result)
+            (sym (list_given before list edges room long c.filter-edges.result few))
+            c.filter-edges.ensures.1,
+      )
+
+pub overflow_add-last : goal.overflow_add-last
+overflow_add-last c =
+    omega (arith, c.requires.outlined.0.room)
+
+pub loop-y-init : goal.loop-y-init
+loop-y-init c =
+    let a = c.args in
+    (rows_none a.fill.target _ a.surface.now c.requires.part.0, refl, refl, refl, refl, refl)
+
+pub overflow_add-y : goal.overflow_add-y
+overflow_add-y c =
+    omega (arith, high c.before.before.before.before.before.before.before.before.before.before.before.before, c.loop-y-test.true)
+
+pub least-end-requires : goal.least-end-requires
+least-end-requires c =
+    tt
+
+pub slice_bounds-filter_edges-end : goal.slice_bounds-filter_edges-end
+slice_bounds-filter_edges-end c =
+    omega (arith, c.loop-y.invariant.3, c.requires.outlined.1)
+
+pub filter_edges-listed-requires : goal.filter_edges-listed-requires
+filter_edges-listed-requires c =
+    let least = c.least-end in
+    let l = c.loop-y in
+    let a = c.args in
+    let n = a.fill.style.edges in
+    let list = part_length l.numbers ramp_numbers (ramp_numbers + n) (omega arith) (omega (arith, l.invariant.3, c.requires.outlined.1)) in
+    record { outlined = subst (λ (z : List ℤ). Outlined z n) (sym l.invariant.1) c.requires.outlined.0; from_lt_end = (omega (arith, least.ensures, c.loop-y-test.true), omega (arith, least.ensures, high c.before.before.before.before.before.before.before.before.before.before.before.before.before.before), omega (arith, list)) }
+
+pub rows_of-requires : goal.rows_of-requires
+rows_of-requires c =
+    tt
+
+pub draw_rect-requires : goal.draw_rect-requires
+draw_rect-requires c =
+    let rows = sym c.rows_of.ensures in
+    let l = c.loop-y in
+    let a = c.args in
+    let p = c.requires in
+    let t = a.fill.target in
+    let band = below c.before.before.before.before.before.before.before.before.before.before.before.before in
+    let n = a.fill.style.edges in
+    let found = c.filter_edges-listed.result in
+    record {
+      outlined = (
+        subst (λ (z : List ℤ). Outlined z n) (sym l.invariant.1) p.0.0,
+        subst (λ (z : Target). ListedIn l.scratch n (numbers c.before.before.before.before.before.before.before.before.before) found z.area.y0 z.area.y1) rows (listed c.before.before.before.before.before.before.before.before.before),
+      );
+      scissors = (p.1.0.0, subst (Shaded a.fill.style.shade) (sym (kept c.before.before.before.before.before.before.before.before.before)) p.1.0.1);
+      part = (
+        subst (λ (z : Target). Part z l.surface) rows
+            (band_part t _ a.surface.now p.1.1.0.0 l.invariant.0 c.least-end.result band.0 band.1),
+        subst (λ (z : Target). RowRoom (z.area.x1 - z.area.x0) l.buffer l.runs) rows (l.invariant.4 ∙ p.1.1.0.1.0, l.invariant.5 ∙ p.1.1.0.1.1),
+      );
+      mask_for = subst (λ (z : Target). MaskFor a.fill.style.masked (z.height * z.width) a.mask.now) rows p.1.1.1;
+    }
+
+pub loop-y-smaller : goal.loop-y-smaller
+loop-y-smaller c =
+    omega (arith, c.least-end.ensures, c.loop-y-test.true)
+
+pub loop-y-preserved : goal.loop-y-preserved
+loop-y-preserved c =
+    let call = c.draw_rect in
+    let l = c.loop-y in
+    let a = c.args in
+    let p = c.requires in
+    let band = below c.before.before.before.before.before.before.before.before.before.before.before.before.before.before.before.before.before.before.before.before in
+    let drawn = same_steps a.fill.style a.fill.style.edges a.scissors.now a.mask.now l.surface call.new.surface
+    c.rows_of.ensures l.invariant.1 (kept c.before.before.before.before.before.before.before.before.before.before.before.before.before.before.before.before.before) call.ensures.surface_after in (
+      rows_band a.fill.target _ a.surface.now p.1.1.0.0 l.invariant.0 c.least-end.result band.0 band.1 call.new.surface drawn,
+      call.ensures.scratch_unchanged ∙ l.invariant.1,
+      kept c.before.before.before.before.before.before.before.before.before.before.before.before.before.before.before.before.before,
+      back_length l.numbers (list c.before.before.before.before.before.before.before.before.before.before.before.before.before.before.before.before.before) ramp_numbers (ramp_numbers + a.fill.style.edges) (omega arith) (room c.before.before.before.before.before.before.before.before.before.before.before.before.before.before.before.before.before)
+          (long c.before.before.before.before.before.before.before.before.before.before.before.before.before.before.before.before.before ∙ omega arith)
+          ∙ l.invariant.3,
+      call.auto.buffer ∙ l.invariant.4,
+      call.auto.runs ∙ l.invariant.5,
+    )
+
+pub shape_of-surface : goal.shape_of-surface
+shape_of-surface c =
+    c.loop-y.invariant.0.long
+
+pub shape_of-scratch : goal.shape_of-scratch
+shape_of-scratch c =
+    ap length c.loop-y.invariant.1
+
+pub shape_of-numbers : goal.shape_of-numbers
+shape_of-numbers c =
+    c.loop-y.invariant.3
+
+pub shape_of-buffer : goal.shape_of-buffer
+shape_of-buffer c =
+    c.loop-y.invariant.4
+
+pub shape_of-runs : goal.shape_of-runs
+shape_of-runs c =
+    c.loop-y.invariant.5
+
+pub returns : goal.returns
+returns c =
+    let a = c.args in
+    let l = c.loop-y in
+    record { scratch_unchanged = l.invariant.1; surface_after = rows_all a.fill.target _ a.surface.now c.requires.part.0 l.invariant.0 (omega (arith, c.loop-y-test.false)) }

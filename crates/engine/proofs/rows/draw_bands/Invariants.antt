@@ -1,0 +1,32 @@
+-- `rows::draw_bands` meets its contract: the rows of the bands before y are drawn.
+use mathlib.Core.List.{List, ◌++◌}
+use mathlib.Core.Path.{◌≡◌, refl, sym, ap, subst, ◌∙◌}
+use Prim.Native.Nat.{ℕ, ◌+◌, ◌-◌, ◌*◌, ◌≤◌}
+use native.Mathlib.Omega.{arith}
+use lib.IntN.{ℤ}
+use lib.ListN.{length, take, drop}
+use Rattle.lists.proofs.Laws.{part_length}
+use Rattle.raster.specs.Rows.{Rows, Part}
+use Rattle.raster.specs.declared.Target.{Target}
+use Rattle.raster.proofs.Rows.{rows_none, rows_all}
+use Rattle.path.specs.Stored.{edges_of}
+use Rattle.coverage.specs.Scanline.{Outlined}
+use Rattle.coverage.specs.Band.{Band}
+use Rattle.paint.specs.Buffers.{ramp_numbers}
+use Rattle.engine.specs.Picture.{mask_at}
+use Rattle.engine.specs.Rows.{step_with, Shaded, RowRoom, MaskFor, ListedIn}
+use Rattle.engine.proofs.RowLaws.{back_length, ramp_kept, list_given, same_steps}
+use Rattle.engine.proofs.Bands.{band_part, rows_band}
+use borrow.Author.Rules.{rules}
+use Rattle.engine.proofs.rows.draw_bands.Given as goal
+
+-- `rows::draw_bands` meets its contract: the rows of the bands before y are drawn.
+abbrev pub invariant-loop-y : goal.invariant-loop-y
+invariant-loop-y l =
+    Rows l.target (λ u v. step_with l.style (edges_of l.initial.scratch l.style.edges) l.scissors (take ramp_numbers l.initial.numbers) (mask_at l.target.width l.mask u v) u v) l.initial.surface l.y
+    l.surface
+    × (l.scratch ≡ l.initial.scratch) × (take ramp_numbers l.numbers ≡ take ramp_numbers l.initial.numbers) × (length l.numbers ≡ length l.initial.numbers) × (length l.buffer ≡ length l.initial.buffer)
+    × (length l.runs ≡ length l.initial.runs)
+
+abbrev pub decreases-loop-y : goal.decreases-loop-y
+decreases-loop-y l = l.y1 - l.y

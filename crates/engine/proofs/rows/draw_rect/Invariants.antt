@@ -1,0 +1,26 @@
+-- `rows::draw_rect` meets its contract: the rows below y are drawn.
+use mathlib.Core.List.{List}
+use mathlib.Core.Path.{◌≡◌, refl, sym, ap, subst, ◌∙◌}
+use Prim.Native.Nat.{◌-◌}
+use native.Mathlib.Omega.{arith}
+use lib.IntN.{ℤ}
+use lib.ListN.{length, take}
+use Rattle.raster.specs.Rows.{Rows}
+use Rattle.raster.proofs.Rows.{Lent, rows_none, row_lent, rows_all}
+use Rattle.path.specs.Stored.{edges_of}
+use Rattle.coverage.specs.Scanline.{Outlined}
+use Rattle.paint.specs.Buffers.{ramp_numbers}
+use Rattle.engine.specs.Picture.{mask_at}
+use Rattle.engine.specs.Rows.{step_with, OnSurface, ListedFor}
+use Rattle.engine.proofs.Masks.{MaskRow, mask_row, mask_turn}
+use Rattle.engine.proofs.rows.draw_rect.Given as goal
+
+-- `rows::draw_rect` meets its contract: the rows below y are drawn.
+abbrev pub invariant-loop-y : goal.invariant-loop-y
+invariant-loop-y l =
+    Rows l.target (λ u v. step_with l.style (edges_of l.initial.scratch l.style.edges) l.scissors (take ramp_numbers l.numbers) (mask_at l.target.width l.mask u v) u v) l.initial.surface l.y
+    l.surface
+    × (l.scratch ≡ l.initial.scratch) × (length l.buffer ≡ length l.initial.buffer) × (length l.runs ≡ length l.initial.runs)
+
+abbrev pub decreases-loop-y : goal.decreases-loop-y
+decreases-loop-y l = l.y1 - l.y

@@ -1,0 +1,48 @@
+-- `rows::scissor_runs` meets its contract: k of each pixel, cut by the scissors, and collected again.
+use mathlib.Core.Path.{◌≡◌, sym, subst, ◌∙◌}
+use native.Mathlib.Omega.{arith}
+use lib.ListN.{length}
+use Rattle.runs.specs.Runs.{Runs}
+use Rattle.runs.proofs.Expand.{runs_few}
+use Rattle.blend.specs.Rows.{Coverage}
+use Rattle.engine.proofs.RowLaws.{cut_small, cut_row}
+use borrow.Author.Rules.{rules}
+use Rattle.engine.proofs.rows.scissor_runs.Goals as goal
+use Rattle.engine.proofs.rows.scissor_runs.Tie as tie
+use Rattle.engine.proofs.rows.scissor_runs.Lts as lts
+use Rattle.engine.proofs.rows.scissor_runs.Reads as reads
+
+cut-length : (c : lts.After-scissor_row tie.the-claims reads.Pre reads.Post tie.handed_clauses) → length c.scissor_row.new.cover ≡ c.args.strip.length
+cut-length c = c.scissor_row.auto.cover ∙ c.expand_row.auto.row ∙ c.requires.on_surface.1
+
+pub expand_row-requires : goal.expand_row-requires
+expand_row-requires c =
+    let a = c.args in
+    let p = c.requires.1 in
+    (subst (Runs a.runs.now a.n) (sym p.0.1) p.1.0, omega (arith, runs_few a.runs.now a.n a.strip.length p.1.0, p.0.2))
+
+pub collect-requires : goal.collect-requires
+collect-requires c =
+    let a = c.args in
+    let cut = c.scissor_row in
+    let laid = c.expand_row in
+    let long = cut-length c.before.before.before.before.before in
+    record {
+      row_in_bounds = (omega (arith, long, c.requires.on_surface.2), omega (arith, long, c.requires.on_surface.0));
+      by_index = cut_small a.scissors.now a.count a.strip.x a.strip.y cut.new.cover laid.new.row cut.ensures
+          (subst Coverage (sym laid.ensures) c.requires.runs.1);
+    }
+
+pub returns : goal.returns
+returns c =
+    let a = c.args in
+    let made = c.collect in
+    let cut = c.scissor_row in
+    let laid = c.expand_row in
+    record {
+      runs_2 = subst (Runs made.new.runs made.result) (cut-length c.before.before.before.before.before.before.before.before) made.ensures.runs.0;
+      result_after = made.ensures.result_after
+          ∙ cut_row a.scissors.now a.count a.strip.x a.strip.y cut.new.cover laid.new.row cut.ensures
+          a.strip.length _
+          laid.ensures (laid.auto.row ∙ c.requires.on_surface.1);
+    }

@@ -1,0 +1,14 @@
+-- `spans::covered_from` meets its contract: no run before r has a sample that is covered.
+use Prim.Native.Nat.{◌-◌, ◌≤◌}
+use native.Mathlib.Omega.{arith}
+use Rattle.engine.specs.Spans.{Uncovered}
+use Rattle.engine.proofs.Parts.{uncovered_more}
+use borrow.Author.Rules.{rules}
+use Rattle.engine.proofs.spans.covered_from.Given as goal
+
+-- `spans::covered_from` meets its contract: no run before r has a sample that is covered.
+abbrev pub invariant-loop-r : goal.invariant-loop-r
+invariant-loop-r l = Uncovered l.runs l.j l.r × (l.r ≤ l.n)
+
+abbrev pub decreases-loop-r : goal.decreases-loop-r
+decreases-loop-r l = l.n - l.r

@@ -1,0 +1,13 @@
+-- `root::descend` meets its contract: the root is below high.
+use Prim.Native.Nat.{◌*◌, ◌≤◌, ◌<◌}
+use native.Mathlib.Omega.{arith}
+use borrow.Author.Rules.{rules}
+use Rattle.fixed.proofs.Roots.{square_mono, square_above, from_above}
+use Rattle.fixed.proofs.root.descend.Given as goal
+
+-- `root::descend` meets its contract: the root is below high.
+abbrev pub invariant-loop-low : goal.invariant-loop-low
+invariant-loop-low l = (l.n < l.high * l.high) × (l.low < l.high) × (l.high ≤ 1073741824)
+
+abbrev pub decreases-loop-low : goal.decreases-loop-low
+decreases-loop-low l = l.low

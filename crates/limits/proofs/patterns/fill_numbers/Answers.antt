@@ -1,0 +1,32 @@
+use mathlib.Core.Path.{◌≡◌, refl, ◌∙◌}
+use Prim.Native.Nat.{◌-◌, ◌≤◌}
+use native.Mathlib.Omega.{arith}
+use lib.ListN.{length, length-set}
+use Rattle.lists.specs.Lists.{tab, over}
+use Rattle.limits.specs.Patterns.{pattern_number}
+use mir.Syntax.{w32}
+use Rattle.lists.proofs.Laws.{tab_turn, tab_all}
+use Rattle.fixed.proofs.Signed.{back}
+use borrow.Author.Rules.{rules}
+use Rattle.limits.proofs.patterns.number_at.Reads as number-at-reads
+use Rattle.limits.proofs.patterns.fill_numbers.Goals as goal
+
+pub loop-i-init : goal.loop-i-init
+loop-i-init c =
+    (search rules, refl, refl)
+
+pub loop-i-preserved : goal.loop-i-preserved
+loop-i-preserved c =
+    let l = c.loop-i in
+    let a = c.args in
+    let n = c.number_at in (
+      search rules,
+      simp length-set (omega arith),
+      tab_turn pattern_number l.s a.s.now l.i _ (back w32 n.result n.type_inv ∙ n.ensures) l.invariant.2 (omega arith),
+    )
+
+pub returns : goal.returns
+returns c =
+    let l = c.loop-i in
+    let a = c.args in
+    tab_all pattern_number l.s a.s.now l.i _ l.invariant.2 (omega arith) refl

@@ -1,0 +1,16 @@
+use mathlib.Core.Path.{◌≡◌}
+use Prim.Native.Nat.{◌-◌}
+use lib.ListN.{length}
+use borrow.Author.Rules.{rules}
+use Rattle.limits.proofs.arguments.read_call.Reads as read-call-reads
+use Rattle.limits.proofs.calls.run.Reads as run-reads
+use Rattle.os.proofs.arg_count.Reads as arg-count-reads
+use Rattle.limits.proofs.run_calls.Given as goal
+
+abbrev pub invariant-loop-i : goal.invariant-loop-i
+invariant-loop-i l =
+    (length l.old ≡ length l.initial.old) × (length l.new ≡ length l.initial.new) × (length l.surface ≡ length l.initial.surface) × (length l.other ≡ length l.initial.other)
+    × (length l.scratch ≡ length l.initial.scratch)
+
+abbrev pub decreases-loop-i : goal.decreases-loop-i
+decreases-loop-i l = l.count - l.i

@@ -1,0 +1,6 @@
+use borrow.Author.Rules.{rules}
+use Rattle.limits.proofs.words.number.Goals as goal
+
+pub returns : goal.returns
+returns c =
+    (_, c.value.ensures)

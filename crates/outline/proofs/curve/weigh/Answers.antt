@@ -1,0 +1,80 @@
+-- `outline::curve::weigh` meets its contract: no step overflows.
+use Prim.Native.Nat.{ℕ, ◌≤◌}
+use lib.IntN.{ℤ}
+use mir.Syntax.{w32, w64}
+use mir.Val.{SFits}
+use borrow.Author.Rules.{rules}
+use Rattle.fixed.proofs.Means.{Num, need, keep, param, of_nat, add, mul}
+use Rattle.outline.proofs.curve.weigh.Goals as goal
+
+abbrev product : (z : ℤ) → SFits w32 z → (n : ℕ) → n ≤ 4096 → Num
+product z f n h = mul (keep w64 (param w32 z f) tt) (of_nat w64 n 4096 h tt)
+
+abbrev first : goal.After-struct_known-1 → Num
+first s = product s.args.a s.ranges.a s.args.w.w0 s.requires.0
+
+abbrev second : goal.After-struct_known-1 → Num
+second s = product s.args.b s.ranges.b s.args.w.w1 s.requires.1
+
+abbrev third : goal.After-struct_known-1 → Num
+third s = product s.args.c s.ranges.c s.args.w.w2 s.requires.2
+
+abbrev fourth : goal.After-struct_known-1 → Num
+fourth s = product s.args.d s.ranges.d s.args.w.w3 s.requires.3
+
+abbrev two : goal.After-struct_known-1 → Num
+two s = add (keep w64 (first s) tt) (keep w64 (second s) tt)
+
+abbrev three : goal.After-struct_known-1 → Num
+three s = add (keep w64 (two s) tt) (keep w64 (third s) tt)
+
+abbrev four : goal.After-struct_known-1 → Num
+four s = add (keep w64 (three s) tt) (keep w64 (fourth s) tt)
+
+pub overflow_cast-result : goal.overflow_cast-result
+overflow_cast-result c =
+    need (param w32 c.args.a c.ranges.a) tt
+
+pub overflow_mul-result : goal.overflow_mul-result
+overflow_mul-result c =
+    need (first c.before.before.before) tt
+
+pub overflow_cast-result-2 : goal.overflow_cast-result-2
+overflow_cast-result-2 c =
+    need (param w32 c.args.b c.ranges.b) tt
+
+pub overflow_mul-result-2 : goal.overflow_mul-result-2
+overflow_mul-result-2 c =
+    need (second c.before.before.before) tt
+
+pub overflow_add-result : goal.overflow_add-result
+overflow_add-result c =
+    need (two c.before.before.before) tt
+
+pub overflow_cast-result-3 : goal.overflow_cast-result-3
+overflow_cast-result-3 c =
+    need (param w32 c.args.c c.ranges.c) tt
+
+pub overflow_mul-result-3 : goal.overflow_mul-result-3
+overflow_mul-result-3 c =
+    need (third c.before.before.before) tt
+
+pub overflow_add-result-2 : goal.overflow_add-result-2
+overflow_add-result-2 c =
+    need (three c.before.before.before) tt
+
+pub overflow_cast-result-4 : goal.overflow_cast-result-4
+overflow_cast-result-4 c =
+    need (param w32 c.args.d c.ranges.d) tt
+
+pub overflow_mul-result-4 : goal.overflow_mul-result-4
+overflow_mul-result-4 c =
+    need (fourth c.before.before.before) tt
+
+pub overflow_add-result-3 : goal.overflow_add-result-3
+overflow_add-result-3 c =
+    need (four c.before.before.before) tt
+
+pub returns : goal.returns
+returns c =
+    (keep w64 (four c.before.before.before) tt).same

@@ -1,0 +1,17 @@
+-- `outline::frame::point_box` meets its contract: the box holds the points passed.
+use mathlib.Core.Path.{◌≡◌, ap, subst, ◌∙◌}
+use Prim.Native.Nat.{ℕ, ◌-◌, ◌≤◌}
+use native.Mathlib.Omega.{arith}
+use lib.Dec.{lit≤}
+use borrow.Author.Rules.{rules}
+use Rattle.outline.specs.Corners.{grown_by}
+use Rattle.outline.specs.Frames.{Framed, NearEnds}
+use Rattle.outline.proofs.Frames.{framed_none, framed_more, near_more}
+use Rattle.outline.proofs.frame.point_box.Given as goal
+
+-- `outline::frame::point_box` meets its contract: the box holds the points passed.
+abbrev pub invariant-loop-i : goal.invariant-loop-i
+invariant-loop-i l = (l.i ≤ l.n) × NearEnds l.c × Framed l.c l.coordinates l.i
+
+abbrev pub decreases-loop-i : goal.decreases-loop-i
+decreases-loop-i l = l.n - l.i

@@ -1,0 +1,18 @@
+-- `build::keep_stops` meets its contract: what is kept of the stops before i is written.
+use Rattle.std.proofs.Common.{◌≡◌, ℕ, ◌+◌, ◌-◌, ◌≤◌, List, map, length, sym, refl, ap, ◌∙◌, arith, rules}
+use Rattle.lists.specs.Lists.{upto}
+use Rattle.lists.proofs.Laws.{upto_more}
+use Rattle.paint.specs.Ramps.{kept_at, prepared}
+use Rattle.paint.specs.Buffers.{Written, with_first, grown}
+use Rattle.paint.specs.declared.Stop.{Stop}
+use Rattle.paint.proofs.Built.{none_written, then_written, so_written}
+use Rattle.paint.proofs.Ends.{kept_turn}
+use Rattle.paint.proofs.build.keep_stops.Given as goal
+
+-- `build::keep_stops` meets its contract: what is kept of the stops before i is written.
+abbrev pub invariant-loop-i : goal.invariant-loop-i
+invariant-loop-i l =
+    (l.i ≤ l.n) × (l.count ≤ l.i + 1) × (length l.ramp ≡ length l.initial.ramp) × Written l.initial.ramp l.ramp l.count (with_first (map (prepared l.premultiply) (upto l.i (kept_at l.stops))))
+
+abbrev pub decreases-loop-i : goal.decreases-loop-i
+decreases-loop-i l = l.n - l.i

@@ -1,0 +1,13 @@
+-- `opacity::has_opaque_stops` meets its contract: the stops before i are opaque.
+use Rattle.std.proofs.Common.{◌≡◌, ◌-◌, ◌≤◌, T, sym, ap, ◌∙◌, subst, arith, rules, below_more}
+use Rattle.color.specs.declared.Pixel.{Pixel}
+use Rattle.paint.specs.Buffers.{stop_at}
+use Rattle.paint.specs.Opaque.{OpaqueStops}
+use Rattle.paint.proofs.opacity.has_opaque_stops.Given as goal
+
+-- `opacity::has_opaque_stops` meets its contract: the stops before i are opaque.
+abbrev pub invariant-loop-i : goal.invariant-loop-i
+invariant-loop-i l = (l.i ≤ l.count) × OpaqueStops l.ramp l.i
+
+abbrev pub decreases-loop-i : goal.decreases-loop-i
+decreases-loop-i l = l.count - l.i

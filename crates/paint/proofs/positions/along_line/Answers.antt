@@ -1,0 +1,67 @@
+-- `positions::along_line` meets its contract: the positions before i are stored, and t is the line's number at the pixel i.
+use Rattle.std.proofs.Common.{◌≡◌, ℕ, ◌+◌, ◌-◌, ◌≤◌, length, ℤ, pos, ◌+ℤ◌, ◌*ℤ◌, sym, refl, ap, ◌∙◌, ap₂, arith, length-set, to_z-of_z, w64, to_z, of_z, rules}
+use Rattle.lists.specs.Lists.{tab, over}
+use Rattle.lists.proofs.Laws.{tab_turn, tab_all}
+use Rattle.fixed.specs.Floor.{floor_div}
+use Rattle.fixed.proofs.Within.{Within}
+use Rattle.fixed.proofs.Means.{Num, need, keep}
+use Rattle.paint.specs.Buffers.{line_parts}
+use Rattle.paint.specs.Segments.{position_of}
+use Rattle.paint.proofs.Along.{line_first, line_next, line_size}
+use Rattle.paint.proofs.positions.along_line.Goals as goal
+
+-- the position of the ith pixel
+abbrev place : ℤ → ℤ → ℕ → ℕ
+place first step i = position_of (floor_div (first +ℤ step *ℤ pos i) line_parts)
+
+-- t is the line's number
+t-is : (c.before : goal.In-loop-i) → to_z w64 c.loop-i.t-bits ≡ c.args.first +ℤ c.args.step *ℤ pos c.loop-i.i
+t-is c = rw (to_z-of_z c.ranges.first, to_z-of_z c.ranges.step) at c.loop-i.invariant.2
+
+size : (c.before : goal.In-loop-i) (i : ℕ) → i ≤ length c.args.ks.now
+    → Within 6917529027641081856 (c.args.first +ℤ c.args.step *ℤ pos i)
+size c i h =
+    line_size c.args.first c.args.step i c.requires.0 c.requires.1 (omega (arith, h, c.requires.2))
+
+-- t at the next pixel
+abbrev next : goal.After-position_in_parts → Num
+next c =
+    let a = c.args in
+    let i = c.loop-i.i in
+    record {
+      bound = 6917529027641081856;
+      read = to_z w64 c.loop-i.t-bits +ℤ to_z w64 (of_z w64 a.step);
+      int = a.first +ℤ a.step *ℤ pos (i + 1);
+      same = ap₂ ◌+ℤ◌ (t-is c.before) (to_z-of_z c.ranges.step) ∙ line_next a.first a.step i;
+      size = size c.before (i + 1) (omega (arith, c.loop-i-test.true, c.loop-i.invariant.1));
+    }
+
+pub loop-i-init : goal.loop-i-init
+loop-i-init c =
+    let a = c.args in (omega arith, refl, line_first (to_z w64 (of_z w64 a.first)) (to_z w64 (of_z w64 a.step)), refl)
+
+pub position_in_parts-requires : goal.position_in_parts-requires
+position_in_parts-requires c =
+    rw (t-is c) (size c c.loop-i.i c.loop-i.invariant.0).size
+
+pub overflow_add-t : goal.overflow_add-t
+overflow_add-t c =
+    need (next c) tt
+
+pub loop-i-preserved : goal.loop-i-preserved
+loop-i-preserved c =
+    let a = c.args in
+    let l = c.loop-i in (
+      search rules,
+      simp length-set (omega (arith, l.invariant.1)),
+      (keep w64 (next c) tt).same ∙ sym (ap₂ (λ (x y : ℤ). x +ℤ y *ℤ pos (l.i + 1)) (to_z-of_z c.ranges.first) (to_z-of_z c.ranges.step)),
+      tab_turn _ l.ks a.ks.now l.i c.position_in_parts.result
+          (c.position_in_parts.ensures ∙ ap (λ (t : ℤ). position_of (floor_div t line_parts)) l.invariant.2) l.invariant.3 (omega (arith, l.invariant.1)),
+    )
+
+pub returns : goal.returns
+returns c =
+    let l = c.loop-i in
+    let a = c.args in
+    tab_all (place a.first a.step) l.ks a.ks.now l.i (length a.ks.now)
+    (rw (to_z-of_z c.ranges.first, to_z-of_z c.ranges.step) at l.invariant.3) (omega (arith, l.invariant.1)) refl

@@ -1,0 +1,19 @@
+-- `positions::along_quotients` meets its contract: the positions before i are stored, and q is t at the pixel i.
+use Rattle.std.proofs.Common.{◌≡◌, ℕ, ◌+◌, ◌-◌, ◌≤◌, length, ℤ, refl, ap, ◌∙◌, arith, length-set, to_z-of_z, w64, to_z, of_z, rules}
+use Rattle.lists.specs.Lists.{tab, over}
+use Rattle.lists.proofs.Laws.{tab_turn, tab_all}
+use Rattle.fixed.proofs.Signed.{clean}
+use Rattle.paint.specs.Gradient.{squared_length, linear_t, mapped}
+use Rattle.paint.specs.Buffers.{Moderate, quotient_at}
+use Rattle.paint.specs.Segments.{position_of}
+use Rattle.paint.specs.declared.LinearGradient.{LinearGradient}
+use Rattle.paint.specs.declared.Quotient.{Quotient}
+use Rattle.paint.proofs.Walk.{whole_is_t, next_pixel, length_moderate, step_moderate, at_moderate}
+use Rattle.paint.proofs.positions.along_quotients.Given as goal
+
+abbrev pub invariant-loop-i : goal.invariant-loop-i
+invariant-loop-i l =
+    (l.i ≤ length l.initial.ks) × (length l.ks ≡ length l.initial.ks) × (l.q ≡ quotient_at l.g.points (l.x + l.i) l.y) × (l.ks ≡ over (tab l.i (place l.g l.x l.y)) l.initial.ks)
+
+abbrev pub decreases-loop-i : goal.decreases-loop-i
+decreases-loop-i l = length l.initial.ks - l.i

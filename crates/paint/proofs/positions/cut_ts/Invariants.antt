@@ -1,0 +1,20 @@
+-- `positions::cut_ts` meets its contract: the first i t's are stored, and t is the line's number at the pixel i.
+use Rattle.std.proofs.Common.{◌≡◌, ℕ, ◌+◌, ◌-◌, ◌≤◌, min, length, ℤ, pos, ◌+ℤ◌, ◌*ℤ◌, sym, refl, ap, ◌∙◌, ap₂, arith, length-set, to_z-of_z, w64, to_z, of_z, rules}
+use Rattle.lists.specs.Lists.{tab, over}
+use Rattle.lists.proofs.Laws.{tab_turn, tab_all}
+use Rattle.fixed.specs.Floor.{floor_div}
+use Rattle.fixed.proofs.Within.{Within}
+use Rattle.fixed.proofs.Means.{Num, need, keep}
+use Rattle.paint.specs.Buffers.{line_parts}
+use Rattle.paint.specs.Segments.{position_of}
+use Rattle.paint.proofs.Along.{line_first, line_next, line_size}
+use Rattle.paint.proofs.positions.cut_ts.Given as goal
+
+abbrev pub invariant-loop-i : goal.invariant-loop-i
+invariant-loop-i l =
+    (l.i ≤ length l.initial.left) × (length l.left ≡ length l.initial.left) × (length l.right ≡ length l.initial.right) × (to_z w64 l.t ≡ to_z w64 l.first +ℤ to_z w64 l.step *ℤ pos l.i)
+    × (l.left ≡ over (tab l.i (place (to_z w64 l.first) (to_z w64 l.step))) l.initial.left)
+    × (l.right ≡ over (tab l.i (place (to_z w64 l.first) (to_z w64 l.step))) l.initial.right)
+
+abbrev pub decreases-loop-i : goal.decreases-loop-i
+decreases-loop-i l = length l.initial.left - l.i

@@ -1,0 +1,13 @@
+-- `stops::falls_at` meets its contract.
+use Rattle.std.proofs.Common.{◌-◌, ◌*◌, ◌∙◌, rules}
+use Rattle.paint.proofs.Reals.{less_read}
+use Rattle.paint.proofs.stops.falls_at.Goals as goal
+
+pub less-requires : goal.less-requires
+less-requires c =
+    tt
+
+pub returns : goal.returns
+returns c =
+    let a = c.args in
+    c.less.ensures ∙ rw (c.f32_at.ensures, c.f32_at-2.ensures) (less_read a.stops.now (20 * a.i) (20 * (a.i - 1)))

@@ -1,0 +1,33 @@
+-- `words::fallen` meets its contract.
+use Rattle.std.proofs.Common.{ℕ, ◌-◌, ◌*◌, ◌/◌, ◌≤◌, ap, ◌∙◌, arith, rules}
+use Rattle.paint.proofs.Pairs.{falling_is, part_small}
+use Rattle.paint.proofs.words.fallen.Goals as goal
+
+small : (c : goal.Start) → (c.args.ci - c.args.cj) * c.args.t ≤ (c.args.ci - c.args.cj) * 65535
+small c = part_small (c.args.ci - c.args.cj) c.args.t (omega arith)
+
+pub overflow_mul-p : goal.overflow_mul-p
+overflow_mul-p c =
+    omega (arith, small c)
+
+pub overflow_cast-result-2 : goal.overflow_cast-result-2
+overflow_cast-result-2 c =
+    omega (arith, small c)
+
+pub overflow_sub-result : goal.overflow_sub-result
+overflow_sub-result c =
+    omega (arith, small c)
+
+pub one_less-requires : goal.one_less-requires
+one_less-requires c =
+    tt
+
+pub overflow_sub-result-2 : goal.overflow_sub-result-2
+overflow_sub-result-2 c =
+    omega (arith, small c.before, c.one_less.ensures)
+
+pub returns : goal.returns
+returns c =
+    let a = c.args in
+    ap (λ (r : ℕ). a.ci - (a.ci - a.cj) * a.t / 65536 - r / 32768) c.one_less.ensures
+    ∙ falling_is a.ci a.cj a.t c.requires (omega arith)

@@ -1,0 +1,24 @@
+-- `words::join` meets its contract: the words before i are written.
+use Rattle.std.proofs.Common.{◌≡◌, ◌+◌, ◌-◌, ◌*◌, ◌≤◌, length, get_or, refl, arith, length-set, rules}
+use Rattle.lists.specs.Lists.{tab, over}
+use Rattle.lists.proofs.Laws.{tab_turn, tab_all}
+use Rattle.paint.proofs.words.join.Goals as goal
+
+pub joined-requires : goal.joined-requires
+joined-requires c =
+    tt
+
+pub loop-i-preserved : goal.loop-i-preserved
+loop-i-preserved c =
+    let l = c.loop-i in
+    let a = c.args in (
+      search rules,
+      simp length-set (omega (arith, l.invariant.1)),
+      tab_turn _ l.ws a.ws.now l.i c.joined.result c.joined.ensures l.invariant.2 (omega (arith, l.invariant.1)),
+    )
+
+pub returns : goal.returns
+returns c =
+    let l = c.loop-i in
+    let a = c.args in
+    tab_all _ l.ws a.ws.now l.i (length a.ws.now) l.invariant.2 (omega (arith, l.invariant.1)) refl

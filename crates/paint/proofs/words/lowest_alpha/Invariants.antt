@@ -1,0 +1,13 @@
+-- `words::lowest_alpha` meets its contract: no alpha before i is below low.
+use Rattle.std.proofs.Common.{◌≡◌, ℕ, ◌-◌, ◌≤◌, length, ap, subst, arith, rules}
+use Rattle.color.specs.declared.Pixel.{Pixel}
+use Rattle.paint.specs.Segments.{Covering}
+use Rattle.paint.proofs.Begins.{covering_none, covering_turn}
+use Rattle.paint.proofs.words.lowest_alpha.Given as goal
+
+-- `words::lowest_alpha` meets its contract: no alpha before i is below low.
+abbrev pub invariant-loop-i : goal.invariant-loop-i
+invariant-loop-i l = (l.i ≤ length l.ws) × Covering l.low l.i l.ws
+
+abbrev pub decreases-loop-i : goal.decreases-loop-i
+decreases-loop-i l = length l.ws - l.i

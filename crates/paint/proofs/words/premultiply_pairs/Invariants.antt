@@ -1,0 +1,17 @@
+-- `words::premultiply_pairs` meets its contract: the pairs before i are written.
+use Rattle.std.proofs.Common.{◌≡◌, ℕ, ◌-◌, ◌≤◌, List, length, get_or, sym, refl, ap, ◌∙◌, ap₂, arith, length-set, rules}
+use Rattle.lists.specs.Lists.{tab, over}
+use Rattle.lists.proofs.Laws.{tab_turn, tab_all, tab_read}
+use Rattle.color.specs.declared.Pixel.{Pixel}
+use Rattle.color.specs.Channels.{premultiplied}
+use Rattle.paint.specs.Segments.{left_pair, right_pair, of_pairs}
+use Rattle.paint.proofs.words.premultiply_pairs.Given as goal
+
+abbrev pub invariant-loop-i : goal.invariant-loop-i
+invariant-loop-i l =
+    (l.i ≤ length l.initial.left) × (length l.left ≡ length l.initial.left) × (length l.right ≡ length l.initial.left)
+    × (l.left ≡ over (tab l.i (λ k. left_pair (pixel l.initial.left l.initial.right k))) l.initial.left)
+    × (l.right ≡ over (tab l.i (λ k. right_pair (pixel l.initial.left l.initial.right k))) l.initial.right)
+
+abbrev pub decreases-loop-i : goal.decreases-loop-i
+decreases-loop-i l = length l.initial.left - l.i

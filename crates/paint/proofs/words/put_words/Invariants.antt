@@ -1,0 +1,13 @@
+-- `words::put_words` meets its contract: the pixels before i are stored.
+use Rattle.std.proofs.Common.{◌-◌, ◌≤◌, length, get_or, arith, rules}
+use Rattle.raster.specs.Rows.{Stored}
+use Rattle.raster.proofs.Runs.{stored_none, stored_turn, stored_all}
+use Rattle.paint.specs.Buffers.{unpacked}
+use Rattle.paint.proofs.words.put_words.Given as goal
+
+-- `words::put_words` meets its contract: the pixels before i are stored.
+abbrev pub invariant-loop-i : goal.invariant-loop-i
+invariant-loop-i l = (l.i ≤ length l.ws) × Stored (λ j. unpacked (get_or l.ws j 0)) l.initial.row l.i l.row
+
+abbrev pub decreases-loop-i : goal.decreases-loop-i
+decreases-loop-i l = length l.ws - l.i

@@ -1,0 +1,92 @@
+-- `path::tracing::line_pen` meets its contract: each command's law of Traces. Assumes nothing.
+use mathlib.Core.Path.{◌≡◌, refl, sym, ap, subst, ◌∙◌}
+use Prim.Native.Nat.{ℕ, ◌+◌, ◌*◌, ◌/◌, ◌≤◌}
+use native.Mathlib.Omega.{arith}
+use borrow.Author.Rules.{rules}
+use lib.IntN.{ℤ, ◌+ℤ◌}
+use lib.ListN.{length}
+use Rattle.path.specs.declared.Point.{Point}
+use Rattle.path.specs.declared.Segment.{Segment}
+use Rattle.path.specs.Segments.{pair_at, base, coordinate_from}
+use Rattle.path.specs.Limits.{Near}
+use Rattle.path.proofs.Axes.{offset_asked, offset_told}
+use Rattle.path.proofs.Traces.{taken_by, enough_at, near_base, pen_close, pen_move, pen_line, pen_horizontal, pen_vertical}
+use Rattle.path.proofs.tracing.line_pen.Goals as goal
+use Rattle.path.proofs.tracing.line_pen.Tie as tie
+use Rattle.path.proofs.tracing.line_pen.Lts as lts
+use Rattle.path.proofs.tracing.line_pen.Reads as reads
+
+abbrev coordinate : lts.After-split tie.the-claims reads.Pre reads.Post tie.handed_clauses → ℕ → ℤ
+coordinate split = let a = split.args in coordinate_from a.coordinates.now a.walk.used
+
+near : (c : lts.After-base tie.the-claims reads.Pre reads.Post tie.handed_clauses) → Near c.base-base.result
+near c =
+    subst Near (sym c.base-base.ensures) (near_base c.args.byte c.args.walk.pen c.requires.0.held)
+
+module _ (split : tie.After-split) (k : ℕ) where
+  kind : split.split.result.command ≡ k → (entry split).args.byte / 2 ≡ k
+  kind e = sym (ap (λ (s : Segment). s.command) split.split.ensures) ∙ e
+
+  enough : split.split.result.command ≡ k → 2 * ((entry split).args.walk.used + taken_by k) ≤ length (entry split).args.coordinates.now
+  enough e = let s = entry split in enough_at s.args.coordinates.now s.args.walk s.args.byte k s.pre.0 (kind e)
+
+vertical : (c : lts.At-match-rest tie.the-claims reads.Pre reads.Post tie.handed_clauses) → c.split-s.result.command ≡ 4
+vertical c = omega (arith, kind c.before _ refl)
+
+-- its point, by the definition of its base
+at_base : (split : lts.After-split tie.the-claims reads.Pre reads.Post tie.handed_clauses) (p : Point) → p ≡ pair_at split.base-base.result (coordinate split) 0
+    → p ≡ pair_at (base split.args.byte split.args.walk.pen) (coordinate split) 0
+at_base split p e = e ∙ ap (λ (o : Point). pair_at o (coordinate split) 0) split.base-base.ensures
+
+pub pair_at-requires : goal.pair_at-requires
+pair_at-requires c =
+    (omega (arith, enough c.before.before 1 c.in-1.keys2), near c.before.before.before)
+
+pub pair_at-requires-in-2 : goal.pair_at-requires-in-2
+pair_at-requires-in-2 c =
+    (omega (arith, enough c.before.before 2 c.in-2.keys3), near c.before.before.before)
+
+pub offset-requires : goal.offset-requires
+offset-requires c =
+    (omega (arith, enough c.before.before.before 3 c.in-3.keys4), offset_asked c.base-base.result.x (near c.before.before.before.before).x)
+
+pub offset-requires-in_default : goal.offset-requires-in_default
+offset-requires-in_default c =
+    (omega (arith, enough c.before.before.before 4 (vertical c.before.before)), offset_asked c.base-base.result.y (near c.before.before.before.before).y)
+
+pub returns-in-0 : goal.returns-in-0
+returns-in-0 c =
+    let a = c.args in
+    c.close.ensures ∙ pen_close a.walk.pen a.byte (coordinate c.before.before.before) (kind c.before.before.before 0 c.in-0.keys1)
+
+pub returns-in-1 : goal.returns-in-1
+returns-in-1 c =
+    let end = c.pair_at in
+    let a = c.args in
+    c.move_to.ensures
+    ∙ pen_move a.walk.pen a.byte (coordinate c.before.before.before.before) (kind c.before.before.before.before 1 c.in-1.keys2) end.result (at_base c.before.before.before.before end.result end.ensures)
+
+pub returns-in-2 : goal.returns-in-2
+returns-in-2 c =
+    let end = c.pair_at-in-2 in
+    let a = c.args in
+    c.line_to.ensures
+    ∙ pen_line a.walk.pen a.byte (coordinate c.before.before.before.before) (kind c.before.before.before.before 2 c.in-2.keys3) end.result (at_base c.before.before.before.before end.result end.ensures)
+
+pub returns-in-3 : goal.returns-in-3
+returns-in-3 c =
+    let end = c.offset in
+    let a = c.args in
+    let x = offset_told c.base-base.result.x (near c.before.before.before.before.before.before).x end.result (coordinate c.before.before.before.before.before 0) end.type_inv end.ensures in
+    c.horizontal_to.ensures
+    ∙ pen_horizontal a.walk.pen a.byte (coordinate c.before.before.before.before.before) (kind c.before.before.before.before.before 3 c.in-3.keys4) _
+    (x ∙ ap (λ (p : Point). p.x +ℤ coordinate c.before.before.before.before.before 0) c.base-base.ensures)
+
+pub returns-in_default : goal.returns-in_default
+returns-in_default c =
+    let end = c.offset-in_default in
+    let a = c.args in
+    let y = offset_told c.base-base.result.y (near c.before.before.before.before.before.before).y end.result (coordinate c.before.before.before.before.before 0) end.type_inv end.ensures in
+    c.vertical_to.ensures
+    ∙ pen_vertical a.walk.pen a.byte (coordinate c.before.before.before.before.before) (kind c.before.before.before.before.before 4 (vertical c.before.before.before.before)) _
+    (y ∙ ap (λ (p : Point). p.y +ℤ coordinate c.before.before.before.before.before 0) c.base-base.ensures)

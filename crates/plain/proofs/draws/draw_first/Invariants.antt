@@ -1,0 +1,25 @@
+-- `plain::draws::draw_first` meets its contract. Assumes nothing.
+use mathlib.Core.Path.{◌≡◌, refl, sym, ap, subst, ◌∙◌}
+use mathlib.Core.List.{List}
+use Prim.Native.Nat.{ℕ, ◌-◌, ◌*◌, ◌≤◌, ◌<◌}
+use native.Mathlib.Omega.{arith}
+use lib.IntN.{ℤ}
+use lib.ListN.{length}
+use Rattle.scene.specs.Header.{count_of, edition_of}
+use Rattle.scene.specs.Fields.{uses_mask}
+use Rattle.scene.specs.Accepted.{AcceptedDraw}
+use Rattle.engine.specs.Picture.{draw_all, first_draws, mask_at}
+use Rattle.engine.specs.Rows.{Blank, MaskFor}
+use Rattle.plain.specs.Asked.{pixelwise}
+use Rattle.plain.proofs.Pixelwise.{draws_none, draws_turn}
+use borrow.Author.Rules.{rules}
+use Rattle.plain.proofs.draws.draw_first.Given as goal
+
+-- `plain::draws::draw_first` meets its contract. Assumes nothing.
+abbrev pub invariant-loop-i : goal.invariant-loop-i
+invariant-loop-i l =
+    (l.i ≤ l.n) × (length l.surface ≡ length l.initial.surface) × (l.scratch ≡ l.initial.scratch) × (length l.d ≡ length l.initial.d)
+    × (l.surface ≡ pixelwise l.width l.height (draw_all l.edition (first_draws l.scene l.i) (mask_at l.width l.mask)) l.initial.surface)
+
+abbrev pub decreases-loop-i : goal.decreases-loop-i
+decreases-loop-i l = l.n - l.i

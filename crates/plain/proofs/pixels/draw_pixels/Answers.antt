@@ -1,0 +1,91 @@
+-- `plain::pixels::draw_pixels` meets its contract. Assumes nothing.
+use mathlib.Core.Path.{◌≡◌, refl, sym, ap, ap₂, ◌∙◌}
+use Prim.Native.Nat.{ℕ, ◌+◌, ◌-◌, ◌*◌, ◌/◌, ◌%◌, ◌≤◌, ◌<◌}
+use native.Mathlib.Omega.{arith}
+use Rattle.color.specs.declared.Pixel.{Pixel}
+use Rattle.raster.specs.Surface.{pixel_in}
+use Rattle.raster.specs.Rows.{Stored}
+use Rattle.raster.proofs.Runs.{stored_none, stored_step, stored_all}
+use Rattle.path.specs.Stored.{edges_of}
+use Rattle.engine.specs.Picture.{mask_at}
+use Rattle.engine.specs.Rows.{mask_with}
+use Rattle.plain.specs.Asked.{step_at}
+use Rattle.plain.proofs.Pixelwise.{few_pixels, some_width, column_in_lem, row_in, own_byte}
+use borrow.Author.Rules.{rules}
+use Rattle.plain.proofs.pixels.draw_pixels.Goals as goal
+
+pub overflow_mul-n : goal.overflow_mul-n
+overflow_mul-n c =
+    let p = c.requires.surface_len in
+    record { fits = omega (arith, few_pixels c.args.width c.args.height p.1 p.2) }
+
+pub loop-i-init : goal.loop-i-init
+loop-i-init c =
+    (omega arith, stored_none _ _)
+
+pub mask_byte-requires : goal.mask_byte-requires
+mask_byte-requires c =
+    λ e. omega (arith, c.requires.mask_for e, c.loop-i-test.true)
+
+pub nonzero_rem-i : goal.nonzero_rem-i
+nonzero_rem-i c =
+    let a = c.args in
+    some_width a.width a.height c.loop-i.i c.loop-i-test.true
+
+pub nonzero_div-i : goal.nonzero_div-i
+nonzero_div-i c =
+    let a = c.args in
+    some_width a.width a.height c.loop-i.i c.loop-i-test.true
+
+pub pixel-requires : goal.pixel-requires
+pixel-requires c =
+    omega (arith, c.requires.surface_len.0, c.loop-i-test.true, c.loop-i.invariant.1.long)
+
+pub step_pixel-p-requires : goal.step_pixel-p-requires
+step_pixel-p-requires c =
+    let a = c.args in
+    let p = c.requires in
+    let x = column_in_lem a.width a.height c.loop-i.i c.loop-i-test.true in
+    let y = row_in a.width a.height c.loop-i.i c.loop-i-test.true in
+    record { outlined = p.0; scissors = p.1.0; x_bound = (omega (arith, x, p.1.1.0.1), omega (arith, y, p.1.1.0.2)) }
+
+pub put_pixel-requires : goal.put_pixel-requires
+put_pixel-requires c =
+    omega (arith, c.requires.surface_len.0, c.loop-i-test.true, c.loop-i.invariant.1.long)
+
+pub overflow_add-i : goal.overflow_add-i
+overflow_add-i c =
+    let p = c.requires.surface_len in
+    record { fits = omega (arith, few_pixels c.args.width c.args.height p.1 p.2, c.loop-i-test.true) }
+
+pub loop-i-smaller : goal.loop-i-smaller
+loop-i-smaller c =
+    omega (arith, c.loop-i-test.true)
+
+pub loop-i-preserved : goal.loop-i-preserved
+loop-i-preserved c =
+    let put = c.put_pixel in
+    let step = c.step_pixel-p in
+    let pixel = c.pixel in
+    let byte = c.mask_byte in
+    let l = c.loop-i in
+    let a = c.args in
+    let w = a.width in
+    let f : ℕ → Pixel → Pixel = λ j. step_at a.style (edges_of a.scratch.now a.style.edges) a.scissors.now a.ramp.now
+    (mask_with a.style (mask_at w a.mask.now (j % w) (j / w))) (j % w) (j / w) in
+    let made : step.result ≡ f l.i (pixel_in l.surface l.i) = step.ensures
+    ∙ ap₂ (λ (m : ℕ) (q : Pixel). step_at a.style (edges_of a.scratch.now a.style.edges) a.scissors.now a.ramp.now m (l.i % w) (l.i / w) q)
+    (byte.ensures ∙ own_byte a.style.masked a.mask.now w l.i) pixel.ensures in (
+      omega (arith, c.loop-i-test.true),
+      stored_step f l.invariant.1 put.new.s step.result put.ensures made
+          (omega (arith, c.requires.surface_len.0, c.loop-i-test.true)),
+    )
+
+pub shape_of-surface : goal.shape_of-surface
+shape_of-surface c =
+    c.loop-i.invariant.1.long
+
+pub returns : goal.returns
+returns c =
+    let l = c.loop-i in
+    stored_all l.invariant.1 (c.args.height * c.args.width) (omega (arith, c.loop-i-test.false, l.invariant.0)) c.requires.surface_len.0

@@ -1,0 +1,15 @@
+-- `plain::pixels::tint_pixel` meets its contract. Assumes nothing.
+use mathlib.Core.Path.{◌∙◌}
+use Rattle.engine.specs.Rows.{tinted_by}
+use borrow.Author.Rules.{rules}
+use Rattle.plain.proofs.pixels.tint_pixel.Goals as goal
+
+pub returns-in-Plain : goal.returns-in-Plain
+unfolding tinted_by
+returns-in-Plain c =
+    search rules
+
+pub returns-in-Transformed : goal.returns-in-Transformed
+unfolding tinted_by
+returns-in-Transformed c =
+    c.transform_pixel.ensures ∙ rw c.in-Transformed.is

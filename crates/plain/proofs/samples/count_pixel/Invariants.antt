@@ -1,0 +1,18 @@
+-- `plain::samples::count_pixel` meets its contract. Assumes nothing.
+use mathlib.Core.Path.{◌≡◌, refl, sym, ap₂, ◌∙◌}
+use Prim.Native.Nat.{◌+◌, ◌-◌, ◌*◌, ◌≤◌, ◌<◌}
+use native.Mathlib.Numerals.{add-one}
+use native.Mathlib.Omega.{arith}
+use Rattle.lists.specs.Lists.{total}
+use Rattle.path.specs.Stored.{edges_of}
+use Rattle.coverage.specs.Winding.{winding, sample, tally, coverage}
+use borrow.Author.Rules.{rules}
+use Rattle.plain.proofs.samples.count_pixel.Given as goal
+
+-- `plain::samples::count_pixel` meets its contract. Assumes nothing.
+abbrev pub invariant-loop-m : goal.invariant-loop-m
+invariant-loop-m l =
+    (l.m ≤ 4) × (l.k ≤ l.m * 4) × (l.k ≡ total l.m (λ r. tally l.nonzero (λ j. winding (edges_of l.scratch l.n) (sample j) (sample (4 * l.y + r))) l.x))
+
+abbrev pub decreases-loop-m : goal.decreases-loop-m
+decreases-loop-m l = 4 - l.m

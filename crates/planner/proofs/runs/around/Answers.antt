@@ -1,0 +1,31 @@
+use mathlib.Core.Path.{◌≡◌, refl, ap, ◌∙◌}
+use Prim.Native.Nat.{ℕ, ◌-◌, ◌≤◌}
+use native.Mathlib.Omega.{arith}
+use Rattle.lists.specs.Lists.{tab}
+use Rattle.rect.specs.Rects.{join_of, smallest}
+use Rattle.planner.specs.Runs.{rect_at}
+use Rattle.planner.proofs.Parts.{smallest_turn}
+use borrow.Author.Rules.{rules}
+use Rattle.planner.proofs.runs.rect_at.Reads as rect-at-reads
+use Rattle.rect.proofs.join.Reads as join-reads
+use Rattle.planner.proofs.runs.around.Goals as goal
+
+-- src/runs.rt:48:5
+pub loop-k-init : goal.loop-k-init
+loop-k-init c =
+    (omega arith, refl)
+
+-- src/runs.rt:48:5
+pub loop-k-preserved : goal.loop-k-preserved
+loop-k-preserved c =
+    let l = c.loop-k in
+    let a = c.args in
+    (omega arith, smallest_turn (rect_at a.s.now) l.k l.r _ l.invariant.1 (c.join-r.ensures ∙ ap (join_of l.r) c.rect_at.ensures))
+
+-- src/runs.rt:37:1
+pub returns : goal.returns
+returns c =
+    let l = c.loop-k in
+    let a = c.args in
+    let e : l.k ≡ a.m = omega arith in
+    rw e at l.invariant.1

@@ -1,0 +1,16 @@
+use mathlib.Core.Path.{◌≡◌}
+use Prim.Native.Nat.{ℕ, ◌-◌, ◌≤◌}
+use native.Mathlib.Omega.{arith}
+use lib.ListN.{length}
+use Rattle.planner.specs.Runs.{rect_at}
+use Rattle.planner.specs.Tilings.{Refined}
+use Rattle.planner.proofs.Splits.{refined_same, refined_on}
+use borrow.Author.Rules.{rules}
+use Rattle.planner.proofs.tiles.refine_once.Reads as refine-once-reads
+use Rattle.planner.proofs.tiles.refine.Given as goal
+
+abbrev pub invariant-loop-k : goal.invariant-loop-k
+invariant-loop-k l = (1 ≤ l.k) × ((length l.rs ≡ 16) × Refined l.m (rect_at l.boxes) l.n (rect_at l.initial.rs) l.k (rect_at l.rs))
+
+abbrev pub decreases-loop-k : goal.decreases-loop-k
+decreases-loop-k l = 4 - l.k

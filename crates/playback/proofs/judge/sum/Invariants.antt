@@ -1,0 +1,15 @@
+use mathlib.Core.Path.{◌≡◌, refl, ap, ◌∙◌}
+use Prim.Native.Nat.{◌≤◌, ◌*◌, ◌-◌}
+use native.Mathlib.Omega.{arith}
+use lib.ListN.{length}
+use Rattle.playback.specs.Replay.{start_of}
+use Rattle.playback.proofs.Runs.{sum_turn}
+use borrow.Author.Rules.{rules}
+use Rattle.playback.proofs.judge.wide.Reads as wide-reads
+use Rattle.playback.proofs.judge.sum.Given as goal
+
+abbrev pub invariant-loop-i : goal.invariant-loop-i
+invariant-loop-i l = (l.i ≤ length l.lengths) × ((l.s ≡ start_of l.lengths l.i) × (l.s ≤ l.i * 4294967296))
+
+abbrev pub decreases-loop-i : goal.decreases-loop-i
+decreases-loop-i l = length l.lengths - l.i

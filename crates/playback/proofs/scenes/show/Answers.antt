@@ -1,0 +1,14 @@
+use borrow.Author.Rules.{rules}
+use Rattle.playback.proofs.scenes.show.Goals as goal
+
+pub redraw_from-requires : goal.redraw_from-requires
+redraw_from-requires c =
+    c.requires.0.accepted c.if-any.true
+
+pub returns-then-any : goal.returns-then-any
+returns-then-any c =
+    record { value = (rw c.if-any.true c.redraw_from.ensures).0; surface_after = (rw c.if-any.true c.redraw_from.ensures).1.0; scratch_after = (rw c.if-any.true c.redraw_from.ensures).1.1 }
+
+pub returns : goal.returns
+returns c =
+    record { value = (rw c.if-any.false c.draw.ensures).0; surface_after = (rw c.if-any.false c.draw.ensures).1.0; scratch_after = (rw c.if-any.false c.draw.ensures).1.1 }

@@ -1,0 +1,14 @@
+-- `raster::fill_rect` meets its contract: the rows below y are filled.
+use Prim.Native.Nat.{◌-◌}
+use native.Mathlib.Omega.{arith}
+use Rattle.raster.specs.Rows.{Rows}
+use Rattle.raster.proofs.Rows.{Lent, rows_none, row_lent, rows_all}
+use borrow.Author.Rules.{rules}
+use Rattle.raster.proofs.fill_rect.Given as goal
+
+-- `raster::fill_rect` meets its contract: the rows below y are filled.
+abbrev pub invariant-loop-y : goal.invariant-loop-y
+invariant-loop-y l = Rows l.t (λ u v q. l.p) l.initial.s l.y l.s
+
+abbrev pub decreases-loop-y : goal.decreases-loop-y
+decreases-loop-y l = l.y1 - l.y

@@ -1,0 +1,20 @@
+-- `samples::count_inside` meets its contract.
+use mathlib.Core.Path.{◌≡◌, refl, ap, ap₂, ◌∙◌}
+use Prim.Native.Nat.{◌+◌, ◌-◌, ◌≤◌}
+use native.Mathlib.Numerals.{add-one}
+use native.Mathlib.Omega.{arith}
+use lib.ListN.{get_or}
+use lib.IntN.{ℤ, pos}
+use mir.Syntax.{w32}
+use Rattle.lists.specs.Lists.{total}
+use Rattle.fixed.proofs.Signed.{clean}
+use Rattle.coverage.specs.Winding.{inside_by, one_if}
+use borrow.Author.Rules.{rules}
+use Rattle.reason.proofs.samples.count_inside.Given as goal
+
+-- `samples::count_inside` meets its contract.
+abbrev pub invariant-loop-j : goal.invariant-loop-j
+invariant-loop-j l = (l.j ≤ 16) × (l.k ≤ l.j) × (l.k ≡ total l.j (λ i. one_if (inside_by l.nonzero (get_or l.sums i (pos 0)))))
+
+abbrev pub decreases-loop-j : goal.decreases-loop-j
+decreases-loop-j l = 16 - l.j

@@ -1,0 +1,29 @@
+-- `samples::count_samples` meets its contract.
+use mathlib.Core.Path.{◌∙◌}
+use native.Mathlib.Omega.{arith}
+use Rattle.engine.proofs.Scratch.{flatten_asked}
+use Rattle.reason.proofs.Held.{path_summed, draw_counted}
+use borrow.Author.Rules.{rules}
+use Rattle.reason.proofs.samples.count_samples.Goals as goal
+
+pub fixed_matrix-requires : goal.fixed_matrix-requires
+fixed_matrix-requires c =
+    (c.requires.d_len.0, c.requires.d_len.1.fields.matrix)
+
+pub add_path-requires : goal.add_path-requires
+add_path-requires c =
+    let asked = flatten_asked c.args.edition c.args.d.now _ _ _ _ c.fixed_matrix.ensures c.segments.ensures
+    c.coordinates.ensures c.segment_count.ensures.0 c.requires.d_len.1 c.requires.d_len.0 in
+    record { n_bound = asked.0; limited = asked.1; x_bound = c.requires.x_bound }
+
+pub count_inside-requires : goal.count_inside-requires
+count_inside-requires c =
+    path_summed _ _ _ _ _ _ _ _ c.requires.x_bound.3 c.add_path.ensures
+    (omega (arith, c.segment_count.ensures.0, c.requires.d_len.1.fields.segments))
+
+pub returns : goal.returns
+returns c =
+    let a = c.args in
+    c.count_inside.ensures
+    ∙ draw_counted _ _ _ _ _ _ _ _ c.requires.x_bound.3 c.add_path.ensures a.edition a.d.now _ c.fixed_matrix.ensures
+    c.segments.ensures c.coordinates.ensures c.segment_count.ensures.0 c.non_zero_rule.ensures

@@ -1,0 +1,27 @@
+-- `windings::add_edge` meets its contract: at each sample what the edge counts there is added to what stood there.
+use mathlib.Core.Path.{◌≡◌, refl, sym, ap, ap₂, subst, ◌∙◌}
+use mathlib.Core.List.{[], ◌∷◌}
+use Prim.Native.Nat.{ℕ, ◌+◌, ◌-◌, ◌*◌, ◌/◌, ◌%◌, ◌≤◌, ◌<◌}
+use native.Mathlib.Omega.{arith}
+use lib.ListN.{length, get_or, length-set}
+use lib.IntN.{ℤ, pos, nat_abs, ◌+ℤ◌}
+use mir.Syntax.{w32}
+use Rattle.lists.specs.Lists.{tab, over}
+use Rattle.lists.proofs.Laws.{tab_turn, tab_read}
+use Rattle.fixed.proofs.Signed.{back}
+use Rattle.fixed.proofs.Means.{Num, need, keep, add}
+use Rattle.coverage.specs.Winding.{counts, sample}
+use Rattle.coverage.proofs.Begin.{sized}
+use Rattle.plain.proofs.Wound.{counts_small}
+use Rattle.reason.specs.Summed.{winding_at}
+use Rattle.reason.proofs.Summed.{wound_all, winding_one}
+use borrow.Author.Rules.{rules}
+use Rattle.reason.proofs.windings.add_edge.Given as goal
+
+-- `windings::add_edge` meets its contract: at each sample what the edge counts there is added to what stood there.
+abbrev pub invariant-loop-j : goal.invariant-loop-j
+invariant-loop-j l =
+    (l.j ≤ 16) × (length l.sums ≡ length l.initial.sums) × (l.sums ≡ over (tab l.j (λ i. get_or l.initial.sums i (pos 0) +ℤ winding_at l.x l.y (l.e ∷ []) i)) l.initial.sums)
+
+abbrev pub decreases-loop-j : goal.decreases-loop-j
+decreases-loop-j l = 16 - l.j

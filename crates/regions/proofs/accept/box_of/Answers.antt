@@ -1,0 +1,34 @@
+use Prim.Native.Nat.{ℕ}
+use Rattle.scene.specs.Header.{edition_of}
+use Rattle.scene.specs.Accepted.{AcceptedDraw}
+use native.Mathlib.Omega.{arith}
+use mathlib.Core.Path.{sym, subst}
+use Rattle.damage.proofs.Boxes.{box_answer}
+use Rattle.damage.proofs.Changes.{box_past}
+use borrow.Author.Rules.{rules}
+use Rattle.regions.proofs.accept.box_of.Goals as goal
+
+pub returns-then-n-i : goal.returns-then-n-i
+returns-then-n-i c =
+    let a = c.args in
+    sym (box_past a.width a.height a.s.now a.i (omega (arith, c.count-n.ensures.0, c.if-n-i.true)))
+
+pub lone_bounds-requires : goal.lone_bounds-requires
+lone_bounds-requires c =
+    let a = c.args in
+    let e = c.requires.accepted_scene.draws a.i (omega (arith, c.count-n.ensures.0, c.if-n-i.false)) in
+    record {
+      d_len = (
+        c.read_draw.auto.out,
+        subst (λ (z : ℕ). AcceptedDraw z c.read_draw.new.out) (sym c.edition.ensures)
+            (subst (AcceptedDraw (edition_of a.s.now)) (sym c.read_draw.ensures) e),
+      );
+      width_bound = c.requires.width_bound;
+    }
+
+pub returns : goal.returns
+returns c =
+    let a = c.args in
+    let b = c.lone_bounds in
+    (box_answer a.width a.height a.s.now _ _ a.i b.result (omega (arith, c.count-n.ensures.0, c.if-n-i.false))
+    c.edition.ensures c.read_draw.ensures b.ensures).0

@@ -1,0 +1,16 @@
+use mathlib.Core.Path.{◌≡◌, sym, ap, ap₂, ◌∙◌}
+use mathlib.Core.Bool.{true}
+use Prim.Native.Nat.{◌-◌, ◌≤◌}
+use native.Mathlib.Omega.{arith}
+use Rattle.rect.specs.declared.Rect.{Rect}
+use Rattle.regions.specs.Pixels.{every, apart}
+use Rattle.regions.specs.Proposals.{proposed_at}
+use Rattle.regions.proofs.Every.{every_turn, every_no, of_not, of_not_no}
+use borrow.Author.Rules.{rules}
+use Rattle.regions.proofs.cover.apart_before.Given as goal
+
+abbrev pub invariant-loop-j : goal.invariant-loop-j
+invariant-loop-j l = (l.j ≤ l.i) × (every l.j (λ k. apart l.a (proposed_at l.s k)) ≡ true)
+
+abbrev pub decreases-loop-j : goal.decreases-loop-j
+decreases-loop-j l = l.i - l.j

@@ -1,0 +1,22 @@
+use mathlib.Core.Path.{◌≡◌, refl, ap, subst, sym, ◌∙◌}
+use Prim.Native.Nat.{ℕ, ◌-◌, ◌/◌, ◌≤◌}
+use native.Mathlib.Omega.{arith}
+use lib.ListN.{length}
+use Rattle.lists.specs.Lists.{tab}
+use Rattle.color.specs.declared.Pixel.{Pixel}
+use Rattle.engine.specs.Picture.{pixel_at, mask_at}
+use Rattle.engine.specs.Rows.{Blank}
+use Rattle.regions.specs.Pixels.{overlays}
+use Rattle.regions.specs.Proposals.{proposed_at}
+use Rattle.regions.proofs.Overlays.{overlays_none}
+use Rattle.regions.proofs.Turns.{painted_turn}
+use borrow.Author.Rules.{rules}
+use Rattle.regions.proofs.paint.paint_regions.Given as goal
+
+abbrev pub invariant-loop-k : goal.invariant-loop-k
+invariant-loop-k l =
+    (l.k ≤ l.n) × (length l.surface ≡ length l.initial.surface) × (l.scratch ≡ l.initial.scratch)
+    × (l.surface ≡ overlays l.width l.height (tab l.k (proposed_at l.rectangles)) (pixel_at l.scene (mask_at l.width l.mask)) l.initial.surface)
+
+abbrev pub decreases-loop-k : goal.decreases-loop-k
+decreases-loop-k l = l.n - l.k

@@ -1,0 +1,16 @@
+use mathlib.Core.Path.{◌≡◌, refl, ap, ◌∙◌}
+use Prim.Native.Nat.{ℕ, ◌-◌, ◌/◌, ◌≤◌}
+use native.Mathlib.Omega.{arith}
+use lib.ListN.{length}
+use Rattle.lists.specs.Lists.{tab}
+use Rattle.rect.specs.Rects.{On, smallest}
+use Rattle.regions.specs.Proposals.{proposed_at}
+use Rattle.regions.proofs.Turns.{round_turn, round_on}
+use borrow.Author.Rules.{rules}
+use Rattle.regions.proofs.paint.round.Given as goal
+
+abbrev pub invariant-loop-k : goal.invariant-loop-k
+invariant-loop-k l = (l.k ≤ l.n) × (l.a ≡ smallest (tab l.k (proposed_at l.rectangles))) × On 1024 1024 l.a
+
+abbrev pub decreases-loop-k : goal.decreases-loop-k
+decreases-loop-k l = l.n - l.k

@@ -1,0 +1,28 @@
+use mathlib.Core.Path.{◌≡◌, sym, ◌∙◌}
+use Rattle.rescue.specs.Salvaged.{front_code}
+use Rattle.rescue.proofs.Codes.{front_first, no_room, allowed}
+use borrow.Author.Rules.{rules}
+use Rattle.rescue.proofs.judge.front_code.Reads as front-code-reads
+use Rattle.rescue.proofs.judge.salvage_code.Goals as goal
+use Rattle.rescue.proofs.judge.salvage_code.Tie as tie
+use Rattle.rescue.proofs.judge.salvage_code.Lts as lts
+use Rattle.rescue.proofs.judge.salvage_code.Reads as reads
+
+calm : (sound : lts.Else1 tie.the-claims reads.Pre reads.Post tie.handed_clauses) → front_code sound.args.s.now ≡ 0
+calm sound = sym sound.front_code-code.ensures ∙ sound.if-code-ne-ACCEPTED.false
+
+pub returns-then-code-ne-ACCEPTED : goal.returns-then-code-ne-ACCEPTED
+returns-then-code-ne-ACCEPTED c =
+    let a = c.args in
+    let front = c.front_code-code in
+    front.ensures ∙ front_first a.s.now a.bytes (rw (← front.ensures) c.if-code-ne-ACCEPTED.true)
+
+pub returns-then-bytes-s : goal.returns-then-bytes-s
+returns-then-bytes-s c =
+    let a = c.args in
+    no_room a.s.now a.bytes (calm c.before.before) c.if-bytes-s.true
+
+pub returns : goal.returns
+returns c =
+    let a = c.args in
+    allowed a.s.now a.bytes (calm c.before.before) c.if-bytes-s.false

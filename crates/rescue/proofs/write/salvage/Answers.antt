@@ -1,0 +1,79 @@
+use mathlib.Core.Path.{◌≡◌, sym, ap, ◌∙◌}
+use mathlib.Core.List.{List}
+use Prim.Native.Nat.{ℕ, ◌-◌, ◌≤◌}
+use native.Mathlib.Omega.{arith}
+use lib.ListN.{length, take, drop}
+use Rattle.lists.specs.Lists.{over}
+use Rattle.lists.proofs.Laws.{part_length}
+use Rattle.scene.specs.Header.{count_of}
+use Rattle.rescue.specs.Salvaged.{salvaged_scene, listed_to, replaced_to, fitting}
+use Rattle.rescue.proofs.Parts.{Allowed, call_allowed, refused_answer_lem, salvaged_answer, nothing_written, all_written, front_part}
+use borrow.Author.Rules.{rules}
+use Rattle.rescue.proofs.judge.salvage_code.Reads as salvage-code-reads
+use Rattle.rescue.proofs.write.write_list.Reads as write-list-reads
+use Rattle.rescue.proofs.write.write_scene.Reads as write-scene-reads
+use Rattle.scene.proofs.header.count.Reads as count-reads
+use Rattle.rescue.proofs.write.salvage.Goals as goal
+use Rattle.rescue.proofs.write.salvage.Tie as tie
+use Rattle.rescue.proofs.write.salvage.Lts as lts
+use Rattle.rescue.proofs.write.salvage.Reads as reads
+
+-- the part that is lent has the bytes of the scene
+part : (n : ℕ) (place : List ℕ) → n ≤ length place → length (take (n - 0) (drop 0 place)) ≡ n
+part n place l = part_length place 0 n (omega arith) l ∙ omega arith
+
+-- nothing is refused
+allowed : (c : lts.Else1 tie.the-claims reads.Pre reads.Post tie.handed_clauses)
+    → let a = c.args in Allowed a.s.now (length a.place.now)
+allowed c =
+    let a = c.args in
+    call_allowed a.s.now (length a.place.now) (sym c.salvage_code-code.ensures ∙ c.if-code-ne-ACCEPTED.false)
+
+pub returns-then-code-ne-ACCEPTED : goal.returns-then-code-ne-ACCEPTED
+returns-then-code-ne-ACCEPTED c =
+    let code = c.salvage_code-code in
+    let a = c.args in
+    let s = a.s.now in
+    record { answer = refused_answer_lem s (length a.place.now) code.result code.ensures c.if-code-ne-ACCEPTED.true; scene = nothing_written code.result (salvaged_scene s) a.place.now c.if-code-ne-ACCEPTED.true; listed = nothing_written code.result (fitting (length a.list.now) (listed_to s (count_of s))) a.list.now c.if-code-ne-ACCEPTED.true }
+
+pub count-n-requires : goal.count-n-requires
+count-n-requires c =
+    (allowed c.before).long
+
+pub slice_bounds-write_scene-end : goal.slice_bounds-write_scene-end
+slice_bounds-write_scene-end c =
+    (allowed c.before.before).room
+
+pub write_scene-requires : goal.write_scene-requires
+write_scene-requires c =
+    let ok = allowed c.before.before.before in
+    let a = c.args in
+    let e = c.count-n.ensures.0 in
+    (e, rw e ok.count, ok.front.bytes ∙ rw e, part (length a.s.now) a.place.now ok.room)
+
+pub write_list-replaced-requires : goal.write_list-replaced-requires
+write_list-replaced-requires c =
+    let ok = allowed c.before.before.before.before.before.before.before in
+    let e = c.count-n.ensures.0 in
+    (rw e ok.count, ok.front.bytes ∙ rw e)
+
+pub returns : goal.returns
+returns c =
+    let list = c.write_list-replaced in
+    let scene = c.write_scene in
+    let ok = allowed c.before.before.before.before.before.before.before.before.before.before in
+    let a = c.args in
+    let code = c.salvage_code-code in
+    let s = a.s.now in
+    let e = c.count-n.ensures.0 in
+    let place = a.place.now in
+    let q = scene.new.out in
+    let wide : length q ≡ length s = scene.auto.out ∙ part (length s) place ok.room in
+    record {
+      answer = salvaged_answer s (length place) code.result code.ensures list.result c.if-code-ne-ACCEPTED.false
+          (list.ensures.0 ∙ ap (replaced_to s) e);
+      scene = front_part place q (length s - 0) (omega (arith, wide)) ∙ ap (λ (x : List ℕ). over x place) scene.ensures
+          ∙ all_written code.result (salvaged_scene s) place c.if-code-ne-ACCEPTED.false;
+      listed = list.ensures.1 ∙ ap (λ (n : ℕ). over (fitting (length a.list.now) (listed_to s n)) a.list.now) e
+          ∙ all_written code.result (fitting (length a.list.now) (listed_to s (count_of s))) a.list.now c.if-code-ne-ACCEPTED.false;
+    }

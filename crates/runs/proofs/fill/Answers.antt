@@ -1,0 +1,20 @@
+use mathlib.Core.Path.{◌≡◌, refl}
+use Prim.Native.Nat.{ℕ, ◌-◌, ◌≤◌}
+use native.Mathlib.Omega.{arith}
+use lib.ListN.{length, length-set}
+use Rattle.lists.specs.Lists.{tab, over}
+use Rattle.lists.proofs.Laws.{tab_turn, tab_all}
+use borrow.Author.Rules.{rules}
+use Rattle.runs.proofs.fill.Goals as goal
+
+pub loop-i-preserved : goal.loop-i-preserved
+loop-i-preserved c = (
+  search rules,
+  simp length-set (omega arith),
+  tab_turn (λ (j : ℕ). c.args.k) c.loop-i.row c.args.row.now c.loop-i.i _ refl c.loop-i.invariant.2 (omega arith),
+)
+
+pub returns : goal.returns
+returns c =
+    tab_all (λ (j : ℕ). c.args.k) c.loop-i.row c.args.row.now c.loop-i.i (length c.args.row.now)
+    c.loop-i.invariant.2 (omega arith) refl

@@ -1,0 +1,20 @@
+-- `scene::blocks::read_draw` meets its contract.
+use mathlib.Core.Path.{◌≡◌, ap, ◌∙◌}
+use Prim.Native.Nat.{ℕ, ◌+◌, ◌-◌, ◌*◌, ◌≤◌}
+use native.Mathlib.Omega.{arith}
+use lib.ListN.{length, take, drop}
+use mathlib.Core.List.{List}
+use Rattle.lists.specs.Lists.{upto}
+use Rattle.lists.proofs.Laws.{part_length, take_end}
+use Rattle.scene.specs.Layout.{block_bytes, payload_bytes, draw_blocks}
+use Rattle.scene.specs.Blocks.{draw_of, block_of}
+use Rattle.scene.proofs.Copies.{part_kept, part_turn}
+use borrow.Author.Rules.{rules}
+use Rattle.scene.proofs.blocks.read_draw.Given as goal
+
+abbrev pub invariant-loop-j : goal.invariant-loop-j
+invariant-loop-j l =
+    (l.j ≤ draw_blocks) × (length l.out ≡ length l.initial.out) × (take (payload_bytes * l.j) l.out ≡ upto l.j (payload l.s l.i))
+
+abbrev pub decreases-loop-j : goal.decreases-loop-j
+decreases-loop-j l = draw_blocks - l.j

@@ -1,0 +1,16 @@
+-- `scene::faults::first_used` meets its contract.
+use mathlib.Core.Path.{◌≡◌, sym, ◌∙◌}
+use Prim.Native.Nat.{◌-◌, ◌≤◌}
+use native.Mathlib.Omega.{arith}
+use Rattle.scene.specs.Faults.{fine, unused}
+use Rattle.scene.proofs.First.{unused_turn, unused_hit, unused_none, unused_end}
+use borrow.Author.Rules.{rules}
+use Rattle.scene.proofs.faults.first_used.Given as goal
+
+-- `scene::faults::first_used` meets its contract.
+abbrev pub invariant-loop-at : goal.invariant-loop-at
+invariant-loop-at l =
+    (l.from ≤ l.at) × (l.at - l.from ≤ l.to - l.from) × (unused l.d l.from l.at ≡ fine)
+
+abbrev pub decreases-loop-at : goal.decreases-loop-at
+decreases-loop-at l = l.to - l.at

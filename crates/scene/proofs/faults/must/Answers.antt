@@ -1,0 +1,11 @@
+-- `scene::faults::must` meets its contract.
+use borrow.Author.Rules.{rules}
+use Rattle.scene.proofs.faults.must.Goals as goal
+
+pub returns-then-ok : goal.returns-then-ok
+returns-then-ok c =
+    rw c.if-ok.true
+
+pub returns-else-ok : goal.returns-else-ok
+returns-else-ok c =
+    rw c.if-ok.false

@@ -1,0 +1,11 @@
+-- `scene::faults::or_else` meets its contract.
+use borrow.Author.Tests.{eq-eqb, ne_eqb}
+use Rattle.scene.proofs.faults.or_else.Goals as goal
+
+pub returns-then-f-eq-ACCEPTED : goal.returns-then-f-eq-ACCEPTED
+returns-then-f-eq-ACCEPTED c =
+    rw (eq-eqb c.args.f.code 0 c.if-f-eq-ACCEPTED.true)
+
+pub returns-else-f-eq-ACCEPTED : goal.returns-else-f-eq-ACCEPTED
+returns-else-f-eq-ACCEPTED c =
+    rw (ne_eqb c.args.f.code 0 c.if-f-eq-ACCEPTED.false)

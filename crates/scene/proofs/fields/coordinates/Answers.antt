@@ -1,0 +1,7 @@
+-- `scene::fields::coordinates` meets its contract.
+use borrow.Author.Rules.{rules}
+use Rattle.scene.proofs.fields.coordinates.Goals as goal
+
+pub returns : goal.returns
+returns c =
+    rw c.coordinates_at-first.ensures.0

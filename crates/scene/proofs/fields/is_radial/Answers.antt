@@ -1,0 +1,7 @@
+-- `scene::fields::is_radial` meets its contract.
+use borrow.Author.Rules.{rules}
+use Rattle.scene.proofs.fields.is_radial.Goals as goal
+
+pub returns : goal.returns
+returns c =
+    rw c.paint_type.ensures

@@ -1,0 +1,17 @@
+-- `scene::rules::focal_rule` meets its contract.
+use native.Mathlib.Omega.{arith}
+use Rattle.scene.specs.Layout.{radial_at, radial_floats}
+use Rattle.scene.specs.Rules.{radial_limit, focal_rule}
+use Rattle.scene.proofs.Accepted.{limits}
+use borrow.Author.Rules.{rules}
+use Rattle.scene.proofs.rules.focal_rule.Goals as goal
+
+pub fixed_circle-requires : goal.fixed_circle-requires
+fixed_circle-requires c =
+    let a = limits c.args.d.now radial_limit radial_at radial_floats c.requires.1 in
+    record { cx_value = (rw c.radial_points.ensures ((a 0 (omega arith), a 1 (omega arith)), (a 2 (omega arith), a 3 (omega arith), a 4 (omega arith)))).0; fx_value = (rw c.radial_points.ensures ((a 0 (omega arith), a 1 (omega arith)), (a 2 (omega arith), a 3 (omega arith), a 4 (omega arith)))).1 }
+
+pub returns : goal.returns
+unfolding focal_rule
+returns c =
+    rw (c.must.ensures, c.focal_allowed.ensures, c.fixed_circle.ensures.0, c.radial_points.ensures)

@@ -1,0 +1,7 @@
+-- `scene::rules::paint_rule` meets its contract.
+use borrow.Author.Rules.{rules}
+use Rattle.scene.proofs.rules.paint_rule.Goals as goal
+
+pub returns : goal.returns
+returns c =
+    cc

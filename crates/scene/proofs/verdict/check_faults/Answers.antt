@@ -1,0 +1,48 @@
+-- `scene::verdict::check_faults` meets its contract.
+use borrow.Author.Tests.{not-true, not-false}
+use mathlib.Core.Path.{◌≡◌, refl, sym, ◌∙◌}
+use mathlib.Core.Bool.{Bool}
+use mathlib.Core.List.{List}
+use Prim.Native.Nat.{ℕ, ◌+◌, ◌-◌, ◌*◌, ◌≤◌}
+use native.Mathlib.Omega.{arith}
+use Rattle.codes.specs.Codes.{bad_checksum}
+use Rattle.codes.proofs.Refusals.{refuses}
+use Rattle.scene.specs.declared.Fault.{Fault}
+use Rattle.scene.specs.Layout.{block_bytes, payload_bytes, draw_blocks}
+use Rattle.scene.specs.Blocks.{block_right, block_of}
+use Rattle.scene.specs.Faults.{accepted, fault, first_fault, demand}
+use Rattle.scene.specs.Rules.{check_faults_from}
+use Rattle.scene.proofs.First.{demands_turn, demands_hit}
+use borrow.Author.Rules.{rules}
+use Rattle.scene.proofs.verdict.check_faults.Goals as goal
+
+-- block j of draw i has its check, or is the fault
+abbrev right : List ℕ → ℕ → ℕ → Bool
+right s i j = block_right s (block_of i + j)
+
+abbrev wrong : ℕ → ℕ → Fault
+wrong i j = fault bad_checksum i (block_bytes * (block_of i + j) + payload_bytes)
+
+pub returns-then-not-block_right : goal.returns-then-not-block_right
+unfolding check_faults_from
+returns-then-not-block_right c =
+    let l = c.loop-j in
+    let a = c.args in
+    c.fault.ensures
+    ∙ sym (demands_hit (right a.s.now a.i) (wrong a.i) l.j draw_blocks (omega arith) l.invariant.1
+    (sym c.block_right.ensures ∙ not-true _ c.if-not-block_right.true-raw) (refuses bad_checksum refl))
+
+pub loop-j-preserved : goal.loop-j-preserved
+loop-j-preserved c =
+    let l = c.loop-j in
+    let a = c.args in (
+      search rules,
+      demands_turn (right a.s.now a.i) (wrong a.i) l.j l.invariant.1 (sym c.block_right.ensures ∙ not-false _ c.if-not-block_right.false-raw),
+    )
+
+pub returns : goal.returns
+unfolding check_faults_from
+returns c =
+    let l = c.loop-j in
+    let e : l.j ≡ draw_blocks = omega arith in
+    c.fault-2.ensures ∙ sym (rw e at l.invariant.1)

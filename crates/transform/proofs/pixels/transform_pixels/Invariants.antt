@@ -1,0 +1,18 @@
+-- `transform::pixels::transform_pixels` meets its contract: the pixels before i are transformed, the others as they were, and q is the last one transformed.
+use mathlib.Core.Path.{◌≡◌, sym, ap, ◌∙◌}
+use Prim.Native.Nat.{ℕ, ◌-◌, ◌≤◌}
+use native.Mathlib.Omega.{arith}
+use Rattle.color.specs.declared.Pixel.{Pixel}
+use Rattle.raster.specs.Surface.{pixel_in}
+use Rattle.raster.specs.Rows.{Stored}
+use Rattle.raster.proofs.Runs.{stored_none, stored_step, stored_all}
+use Rattle.transform.specs.Transforms.{transformed}
+use borrow.Author.Rules.{rules}
+use Rattle.transform.proofs.pixels.transform_pixels.Given as goal
+
+-- `transform::pixels::transform_pixels` meets its contract: the pixels before i are transformed, the others as they were, and q is the last one transformed.
+abbrev pub invariant-loop-i : goal.invariant-loop-i
+invariant-loop-i l = (l.i ≤ l.n) × Stored (λ j. transformed l.t (pixel_in l.initial.row j)) l.initial.row l.i l.row × (l.q ≡ transformed l.t l.last)
+
+abbrev pub decreases-loop-i : goal.decreases-loop-i
+decreases-loop-i l = l.n - l.i
