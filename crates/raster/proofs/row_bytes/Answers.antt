@@ -6,7 +6,7 @@ use Rattle.raster.proofs.Rows.{row_small}
 use Rattle.raster.proofs.row_bytes.Goals as goal
 
 -- every number on the way is at most the end of the surface's row
-small : (c.before : goal.After-struct_known-1) → (c.args.y * c.args.t.width + c.args.t.width) * 4 ≤ 4194304
+small : (c : goal.After-struct_known-1) → (c.args.y * c.args.t.width + c.args.t.width) * 4 ≤ 4194304
 small c = row_small c.args.t c.requires.0 c.args.y c.requires.1
 
 pub overflow_mul-result : goal.overflow_mul-result

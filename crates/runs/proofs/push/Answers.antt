@@ -8,7 +8,7 @@ use Rattle.runs.proofs.Expand.{runs_few, push_runs, push_expand, merge_runs, mer
 use borrow.Author.Rules.{rules}
 use Rattle.runs.proofs.push.Goals as goal
 
-few : (c.before.before : goal.Else-p-e) → c.args.n ≤ c.args.p
+few : (c : goal.Else-p-e) → c.args.n ≤ c.args.p
 few c = runs_few c.args.runs.now c.args.n c.args.p c.requires.runs
 
 pub returns-then-p-e : goal.returns-then-p-e

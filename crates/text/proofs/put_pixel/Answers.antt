@@ -6,7 +6,7 @@ use Rattle.text.proofs.put_byte.Reads as put-byte-reads
 use Rattle.text.proofs.put_pixel.Goals as goal
 
 -- four bytes are stored in the same nine places
-kept : (c.before.before : goal.After-slice_known-5-1)
+kept : (c : goal.After-slice_known-5-1)
     → length c.put_byte-4.new.out ≡ length c.args.out.now
 kept c =
     c.put_byte-4.auto.out ∙ c.put_byte-3.auto.out ∙ c.put_byte-2.auto.out ∙ c.put_byte.auto.out

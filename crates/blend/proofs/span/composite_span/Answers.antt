@@ -10,7 +10,7 @@ use Rattle.blend.proofs.Shortcuts.{uncovered_stores, hiding_stores}
 use borrow.Author.Rules.{rules}
 use Rattle.blend.proofs.span.composite_span.Goals as goal
 
-source-bytes : (c.before.before.before.before.before : goal.After-store_span-arg-1) → let s = c.args.src in (s.r < 256) × (s.g < 256) × (s.b < 256) × (s.a < 256)
+source-bytes : (c : goal.After-store_span-arg-1) → let s = c.args.src in (s.r < 256) × (s.g < 256) × (s.b < 256) × (s.a < 256)
 source-bytes c = (omega arith, omega arith, omega arith, omega arith)
 
 pub returns-then-coverage-eq0 : goal.returns-then-coverage-eq0

@@ -30,7 +30,7 @@ last s = to_z_pos w32 (omega (arith, s.requires.1)) ∙ ap pos (as_sample s.args
     as_sample y = omega arith
 
 -- what the two tests tell
-up : (c.before : goal.Then-passes)
+up : (c : goal.Then-passes)
     → let a = c.args in
     c.passes.result ≡ (le_z a.e.y0 (sample (4 * a.y + 0)) && lt_z (sample (4 * a.y + 3)) a.e.y1)
 up c =
@@ -38,7 +38,7 @@ up c =
     let p = c.requires.0 in
     rw (clean e.y0 p.y0, clean e.y1 p.y1, first c.before.before.before.before.before.before, last c.before.before.before.before.before.before) at c.passes.ensures
 
-down : (c.before : goal.Then-passes-2)
+down : (c : goal.Then-passes-2)
     → let a = c.args in
     c.passes-2.result ≡ (le_z a.e.y1 (sample (4 * a.y + 0)) && lt_z (sample (4 * a.y + 3)) a.e.y0)
 down c =
@@ -50,9 +50,12 @@ pub rise-requires : goal.rise-requires
 rise-requires c =
     let e = c.args.e in
     let p = c.requires.0 in
-    record { y0_lt_y1 = (rw (clean e.x0 p.x0, clean e.y0 p.y0, clean e.x1 p.x1, clean e.y1 p.y1, first c.before.before.before.before.before.before)
-    (rise_asks c.args.y e (sym (up c) ∙ c.if-passes.true) p c.requires.1)).0; x0_bound = (rw (clean e.x0 p.x0, clean e.y0 p.y0, clean e.x1 p.x1, clean e.y1 p.y1, first c.before.before.before.before.before.before)
-    (rise_asks c.args.y e (sym (up c) ∙ c.if-passes.true) p c.requires.1)).1; }
+    record {
+      y0_lt_y1 = (rw (clean e.x0 p.x0, clean e.y0 p.y0, clean e.x1 p.x1, clean e.y1 p.y1, first c.before.before.before.before.before.before)
+          (rise_asks c.args.y e (sym (up c) ∙ c.if-passes.true) p c.requires.1)).0;
+      x0_bound = (rw (clean e.x0 p.x0, clean e.y0 p.y0, clean e.x1 p.x1, clean e.y1 p.y1, first c.before.before.before.before.before.before)
+          (rise_asks c.args.y e (sym (up c) ∙ c.if-passes.true) p c.requires.1)).1;
+    }
 
 pub columns-requires : goal.columns-requires
 columns-requires c =
@@ -75,9 +78,12 @@ pub rise-requires-then-passes-2 : goal.rise-requires-then-passes-2
 rise-requires-then-passes-2 c =
     let e = c.args.e in
     let p = c.requires.0 in
-    record { y0_lt_y1 = (rw (clean e.x0 p.x0, clean e.y0 p.y0, clean e.x1 p.x1, clean e.y1 p.y1, first c.before.before.before.before.before.before.before.before)
-    (rise_asks c.args.y (turned e) (sym (down c) ∙ c.if-passes-2.true) (small_turned e p) c.requires.1)).0; x0_bound = (rw (clean e.x0 p.x0, clean e.y0 p.y0, clean e.x1 p.x1, clean e.y1 p.y1, first c.before.before.before.before.before.before.before.before)
-    (rise_asks c.args.y (turned e) (sym (down c) ∙ c.if-passes-2.true) (small_turned e p) c.requires.1)).1; }
+    record {
+      y0_lt_y1 = (rw (clean e.x0 p.x0, clean e.y0 p.y0, clean e.x1 p.x1, clean e.y1 p.y1, first c.before.before.before.before.before.before.before.before)
+          (rise_asks c.args.y (turned e) (sym (down c) ∙ c.if-passes-2.true) (small_turned e p) c.requires.1)).0;
+      x0_bound = (rw (clean e.x0 p.x0, clean e.y0 p.y0, clean e.x1 p.x1, clean e.y1 p.y1, first c.before.before.before.before.before.before.before.before)
+          (rise_asks c.args.y (turned e) (sym (down c) ∙ c.if-passes-2.true) (small_turned e p) c.requires.1)).1;
+    }
 
 pub columns-requires-then-passes-2 : goal.columns-requires-then-passes-2
 columns-requires-then-passes-2 c =

@@ -21,7 +21,7 @@ d-read : (r : Rise) → Sloped r → to_z w64 (of_z w64 r.d) ≡ r.d
 d-read r h = to_z-of_z (fits {w = w64} {n = 16777216} {z = r.d} tt (record { size = h.high }))
 
 -- the slope as the caller has it
-slope : (c.before.before.before : goal.After-column_of) → let a = c.args in c.rise-r.result ≡ rise_of (edge a.x0 a.y0 a.x1 a.y1) a.y
+slope : (c : goal.After-column_of) → let a = c.args in c.rise-r.result ≡ rise_of (edge a.x0 a.y0 a.x1 a.y1) a.y
 slope c = let f = c.ranges in rw (to_z-of_z f.x0, to_z-of_z f.y0, to_z-of_z f.x1, to_z-of_z f.y1, to_z-of_z f.y) at c.rise-r.ensures.value
 
 its-column : (u : Edge) (Y : ℤ) (r : Rise) → r ≡ rise_of u Y → ceil_div r.n (64 * nat_abs r.d) ≡ first_column u Y
@@ -31,7 +31,7 @@ its-column u Y r q = ap (λ (z : Rise). ceil_div z.n (64 * nat_abs z.d)) q ∙ c
 pub rise-r-requires : goal.rise-r-requires
 rise-r-requires c =
     let f = c.ranges in
-    record { y0_lt_y1 = (rw (to_z-of_z f.x0, to_z-of_z f.y0, to_z-of_z f.x1, to_z-of_z f.y1, to_z-of_z f.y) (c.requires.y0_lt_y1, c.requires.x0_bound)).0; x0_bound = (rw (to_z-of_z f.x0, to_z-of_z f.y0, to_z-of_z f.x1, to_z-of_z f.y1, to_z-of_z f.y) (c.requires.y0_lt_y1, c.requires.x0_bound)).1; }
+    record { y0_lt_y1 = (rw (to_z-of_z f.x0, to_z-of_z f.y0, to_z-of_z f.x1, to_z-of_z f.y1, to_z-of_z f.y) (c.requires.y0_lt_y1, c.requires.x0_bound)).0; x0_bound = (rw (to_z-of_z f.x0, to_z-of_z f.y0, to_z-of_z f.x1, to_z-of_z f.y1, to_z-of_z f.y) (c.requires.y0_lt_y1, c.requires.x0_bound)).1 }
 
 pub column_of-requires : goal.column_of-requires
 column_of-requires c =

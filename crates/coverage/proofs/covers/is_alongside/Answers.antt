@@ -17,10 +17,10 @@ use Rattle.coverage.proofs.covers.is_alongside.Lts as lts
 use Rattle.coverage.proofs.covers.is_alongside.Reads as reads
 
 -- the first column of samples, as the local holds it, and whether an end lies left of it
-column : (s.before : goal.After-struct_known-1) → to_z w32 (256 * s.args.a.x0 + 32) ≡ sample (4 * s.args.a.x0)
+column : (s : goal.After-struct_known-1) → to_z w32 (256 * s.args.a.x0 + 32) ≡ sample (4 * s.args.a.x0)
 column s = first_held s.args.a.x0 s.requires.0
 
-told : (s.before : goal.After-struct_known-1) (z : ℤ) {t : Bool} → SFits w32 z
+told : (s : goal.After-struct_known-1) (z : ℤ) {t : Bool} → SFits w32 z
     → le_z (to_z w32 (of_z w32 z)) (to_z w32 (256 * s.args.a.x0 + 32)) ≡ t → le_z z (sample (4 * s.args.a.x0)) ≡ t
 told s z f e = rw (to_z-of_z f, column s) at e
 

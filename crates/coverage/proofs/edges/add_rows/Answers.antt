@@ -100,7 +100,7 @@ module _ (c : tie.Start) where
   last = line 3 (256 * c.args.y + 224) (omega arith) (omega arith)
 
 -- ---- an edge that goes past all four sample rows, up
-up : (c.before.before.before.before : goal.After-put_columns-arg-then-passes-2-1)
+up : (c : goal.After-put_columns-arg-then-passes-2-1)
     → let a = c.args in
     c.passes.result ≡ (le_z a.e.y0 (sample (4 * a.y + 0)) && lt_z (sample (4 * a.y + 3)) a.e.y1)
 up c =
@@ -125,7 +125,7 @@ begins-up c =
     )
 
 -- ---- and down
-down : (c.before.before.before.before : goal.After-put_columns-arg-then-passes-2-4-1)
+down : (c : goal.After-put_columns-arg-then-passes-2-4-1)
     → let a = c.args in
     c.passes-2.result ≡ (le_z a.e.y1 (sample (4 * a.y + 0)) && lt_z (sample (4 * a.y + 3)) a.e.y0)
 down c =
@@ -149,19 +149,19 @@ begins-down c =
       subst Straight (sym c.columns-then-passes-2.ensures) (columns_straight a.c k rise.result rise.ensures.sloped.up),
     )
 
-first_at : (c.before.before.before.before.before.before : goal.After-put_rows-arg-3-1) → c.start-s.result ≡ start_in c.before.before.before.before.before.before.before.before.before.before.before.before.before.before.before.before.before 0
+first_at : (c : goal.After-put_rows-arg-3-1) → c.start-s.result ≡ start_in c.before.before.before.before.before.before.before.before.before.before.before.before.before.before.before.before.before 0
 first_at c =
     found c.before.before.before.before.before.before.before.before.before.before.before.before.before.before.before.before.before 0 (256 * c.args.y + 32) (omega arith) (omega arith) c.start-s.result c.start-s.ensures
 
-last-at : (c.before.before.before.before.before : goal.After-put_rows-arg-3-1) → c.start-t.result ≡ start_in c.before.before.before.before.before.before.before.before.before.before.before.before.before.before.before.before.before 3
+last-at : (c : goal.After-put_rows-arg-3-1) → c.start-t.result ≡ start_in c.before.before.before.before.before.before.before.before.before.before.before.before.before.before.before.before.before 3
 last-at c =
     found c.before.before.before.before.before.before.before.before.before.before.before.before.before.before.before.before.before 3 (256 * c.args.y + 224) (omega arith) (omega arith) c.start-t.result c.start-t.ensures
 
-second_at : (c.before.before.before.before : goal.After-put_rows-arg-3-1) → c.start-u.result ≡ start_in c.before.before.before.before.before.before.before.before.before.before.before.before.before.before.before.before.before 1
+second_at : (c : goal.After-put_rows-arg-3-1) → c.start-u.result ≡ start_in c.before.before.before.before.before.before.before.before.before.before.before.before.before.before.before.before.before 1
 second_at c =
     found c.before.before.before.before.before.before.before.before.before.before.before.before.before.before.before.before.before 1 (256 * c.args.y + 96) (omega arith) (omega arith) c.start-u.result c.start-u.ensures
 
-third_at : (c.before.before.before : goal.After-put_rows-arg-3-1) → c.start-v.result ≡ start_in c.before.before.before.before.before.before.before.before.before.before.before.before.before.before.before.before.before 2
+third_at : (c : goal.After-put_rows-arg-3-1) → c.start-v.result ≡ start_in c.before.before.before.before.before.before.before.before.before.before.before.before.before.before.before.before.before 2
 third_at c =
     found c.before.before.before.before.before.before.before.before.before.before.before.before.before.before.before.before.before 2 (256 * c.args.y + 160) (omega arith) (omega arith) c.start-v.result c.start-v.ensures
 
@@ -169,9 +169,12 @@ pub rise-requires : goal.rise-requires
 rise-requires c =
     let e = c.args.e in
     let p = small c.before.before.before.before.before.before.before.before.before.before.before in
-    record { y0_lt_y1 = (rw (clean e.x0 p.x0, clean e.y0 p.y0, clean e.x1 p.x1, clean e.y1 p.y1, first c.before.before.before.before.before.before.before.before.before.before.before)
-    (rise_asks c.args.y e (sym (up c) ∙ c.if-passes.true) p c.requires.i_lt_n.1)).0; x0_bound = (rw (clean e.x0 p.x0, clean e.y0 p.y0, clean e.x1 p.x1, clean e.y1 p.y1, first c.before.before.before.before.before.before.before.before.before.before.before)
-    (rise_asks c.args.y e (sym (up c) ∙ c.if-passes.true) p c.requires.i_lt_n.1)).1; }
+    record {
+      y0_lt_y1 = (rw (clean e.x0 p.x0, clean e.y0 p.y0, clean e.x1 p.x1, clean e.y1 p.y1, first c.before.before.before.before.before.before.before.before.before.before.before)
+          (rise_asks c.args.y e (sym (up c) ∙ c.if-passes.true) p c.requires.i_lt_n.1)).0;
+      x0_bound = (rw (clean e.x0 p.x0, clean e.y0 p.y0, clean e.x1 p.x1, clean e.y1 p.y1, first c.before.before.before.before.before.before.before.before.before.before.before)
+          (rise_asks c.args.y e (sym (up c) ∙ c.if-passes.true) p c.requires.i_lt_n.1)).1;
+    }
 
 pub columns-requires : goal.columns-requires
 columns-requires c =
@@ -181,8 +184,11 @@ pub put_columns-requires : goal.put_columns-requires
 put_columns-requires c =
     let s = c.columns.result in
     let b = begins-up c in
-    record { cover_in_bounds = (c.requires.edges.0.room, c.requires.i_lt_n.3, b.1); fit_rows = fit_all c.before.before.before.before.before.before.before.before.before.before.before.before.before (start_with s.a (pos 1)) (start_with s.b (pos 1)) (start_with s.c (pos 1)) (start_with s.d (pos 1))
-          b.0.0 b.0.1 b.0.2 b.0.3; }
+    record {
+      cover_in_bounds = (c.requires.edges.0.room, c.requires.i_lt_n.3, b.1);
+      fit_rows = fit_all c.before.before.before.before.before.before.before.before.before.before.before.before.before (start_with s.a (pos 1)) (start_with s.b (pos 1)) (start_with s.c (pos 1)) (start_with s.d (pos 1))
+          b.0.0 b.0.1 b.0.2 b.0.3;
+    }
 
 pub returns-then-passes : goal.returns-then-passes
 returns-then-passes c =
@@ -191,15 +197,18 @@ returns-then-passes c =
     let p = c.put_columns in
     let all = all-added c.before.before.before.before.before.before.before.before.before.before.before.before.before.before.before.before.before.before.before.before (start_with s.a (pos 1)) (start_with s.b (pos 1)) (start_with s.c (pos 1)) (start_with s.d (pos 1))
     b.0 b.1 b.2 b.3 p.new.scratch p.new.cover p.ensures.scratch_after p.ensures.cover_after in
-    record { scratch_after = all.0; marked_2 = all.1; grouped = p.ensures.grouped; }
+    record { scratch_after = all.0; marked_2 = all.1; grouped = p.ensures.grouped }
 
 pub rise-requires-then-passes-2 : goal.rise-requires-then-passes-2
 rise-requires-then-passes-2 c =
     let e = c.args.e in
     let p = small c.before.before.before.before.before.before.before.before.before.before.before.before.before in
-    record { y0_lt_y1 = (rw (clean e.x0 p.x0, clean e.y0 p.y0, clean e.x1 p.x1, clean e.y1 p.y1, first c.before.before.before.before.before.before.before.before.before.before.before.before.before)
-    (rise_asks c.args.y (turned e) (sym (down c) ∙ c.if-passes-2.true) (small_turned e p) c.requires.i_lt_n.1)).0; x0_bound = (rw (clean e.x0 p.x0, clean e.y0 p.y0, clean e.x1 p.x1, clean e.y1 p.y1, first c.before.before.before.before.before.before.before.before.before.before.before.before.before)
-    (rise_asks c.args.y (turned e) (sym (down c) ∙ c.if-passes-2.true) (small_turned e p) c.requires.i_lt_n.1)).1; }
+    record {
+      y0_lt_y1 = (rw (clean e.x0 p.x0, clean e.y0 p.y0, clean e.x1 p.x1, clean e.y1 p.y1, first c.before.before.before.before.before.before.before.before.before.before.before.before.before)
+          (rise_asks c.args.y (turned e) (sym (down c) ∙ c.if-passes-2.true) (small_turned e p) c.requires.i_lt_n.1)).0;
+      x0_bound = (rw (clean e.x0 p.x0, clean e.y0 p.y0, clean e.x1 p.x1, clean e.y1 p.y1, first c.before.before.before.before.before.before.before.before.before.before.before.before.before)
+          (rise_asks c.args.y (turned e) (sym (down c) ∙ c.if-passes-2.true) (small_turned e p) c.requires.i_lt_n.1)).1;
+    }
 
 pub columns-requires-then-passes-2 : goal.columns-requires-then-passes-2
 columns-requires-then-passes-2 c =
@@ -209,8 +218,11 @@ pub put_columns-requires-then-passes-2 : goal.put_columns-requires-then-passes-2
 put_columns-requires-then-passes-2 c =
     let s = c.columns-then-passes-2.result in
     let b = begins-down c in
-    record { cover_in_bounds = (c.requires.edges.0.room, c.requires.i_lt_n.3, b.1); fit_rows = fit_all c.before.before.before.before.before.before.before.before.before.before.before.before.before.before.before (start_with s.a (negsuc 0)) (start_with s.b (negsuc 0)) (start_with s.c (negsuc 0)) (start_with s.d (negsuc 0))
-          b.0.0 b.0.1 b.0.2 b.0.3; }
+    record {
+      cover_in_bounds = (c.requires.edges.0.room, c.requires.i_lt_n.3, b.1);
+      fit_rows = fit_all c.before.before.before.before.before.before.before.before.before.before.before.before.before.before.before (start_with s.a (negsuc 0)) (start_with s.b (negsuc 0)) (start_with s.c (negsuc 0)) (start_with s.d (negsuc 0))
+          b.0.0 b.0.1 b.0.2 b.0.3;
+    }
 
 pub returns-then-passes-2 : goal.returns-then-passes-2
 returns-then-passes-2 c =
@@ -219,15 +231,15 @@ returns-then-passes-2 c =
     let p = c.put_columns-then-passes-2 in
     let all = all-added c.before.before.before.before.before.before.before.before.before.before.before.before.before.before.before.before.before.before.before.before.before.before (start_with s.a (negsuc 0)) (start_with s.b (negsuc 0)) (start_with s.c (negsuc 0)) (start_with s.d (negsuc 0))
     b.0 b.1 b.2 b.3 p.new.scratch p.new.cover p.ensures.scratch_after p.ensures.cover_after in
-    record { scratch_after = all.0; marked_2 = all.1; grouped = p.ensures.grouped; }
+    record { scratch_after = all.0; marked_2 = all.1; grouped = p.ensures.grouped }
 
 pub start-s-requires : goal.start-s-requires
 start-s-requires c =
-    record { small = (asks c.before.before.before.before.before.before.before.before.before.before.before 0 (256 * c.args.y + 32) (omega arith) (omega arith)).0; y_bound = (asks c.before.before.before.before.before.before.before.before.before.before.before 0 (256 * c.args.y + 32) (omega arith) (omega arith)).1; }
+    record { small = (asks c.before.before.before.before.before.before.before.before.before.before.before 0 (256 * c.args.y + 32) (omega arith) (omega arith)).0; y_bound = (asks c.before.before.before.before.before.before.before.before.before.before.before 0 (256 * c.args.y + 32) (omega arith) (omega arith)).1 }
 
 pub start-t-requires : goal.start-t-requires
 start-t-requires c =
-    record { small = (asks c.before.before.before.before.before.before.before.before.before.before.before.before 3 (256 * c.args.y + 224) (omega arith) (omega arith)).0; y_bound = (asks c.before.before.before.before.before.before.before.before.before.before.before.before 3 (256 * c.args.y + 224) (omega arith) (omega arith)).1; }
+    record { small = (asks c.before.before.before.before.before.before.before.before.before.before.before.before 3 (256 * c.args.y + 224) (omega arith) (omega arith)).0; y_bound = (asks c.before.before.before.before.before.before.before.before.before.before.before.before 3 (256 * c.args.y + 224) (omega arith) (omega arith)).1 }
 
 pub overflow_mul-y : goal.overflow_mul-y
 overflow_mul-y c =
@@ -243,7 +255,7 @@ overflow_cast-y c =
 
 pub start-u-requires : goal.start-u-requires
 start-u-requires c =
-    record { small = (asks c.before.before.before.before.before.before.before.before.before.before.before.before.before 1 (256 * c.args.y + 96) (omega arith) (omega arith)).0; y_bound = (asks c.before.before.before.before.before.before.before.before.before.before.before.before.before 1 (256 * c.args.y + 96) (omega arith) (omega arith)).1; }
+    record { small = (asks c.before.before.before.before.before.before.before.before.before.before.before.before.before 1 (256 * c.args.y + 96) (omega arith) (omega arith)).0; y_bound = (asks c.before.before.before.before.before.before.before.before.before.before.before.before.before 1 (256 * c.args.y + 96) (omega arith) (omega arith)).1 }
 
 pub overflow_mul-y-2 : goal.overflow_mul-y-2
 overflow_mul-y-2 c =
@@ -259,12 +271,15 @@ overflow_cast-y-2 c =
 
 pub start-v-requires : goal.start-v-requires
 start-v-requires c =
-    record { small = (asks c.before.before.before.before.before.before.before.before.before.before.before.before.before.before 2 (256 * c.args.y + 160) (omega arith) (omega arith)).0; y_bound = (asks c.before.before.before.before.before.before.before.before.before.before.before.before.before.before 2 (256 * c.args.y + 160) (omega arith) (omega arith)).1; }
+    record { small = (asks c.before.before.before.before.before.before.before.before.before.before.before.before.before.before 2 (256 * c.args.y + 160) (omega arith) (omega arith)).0; y_bound = (asks c.before.before.before.before.before.before.before.before.before.before.before.before.before.before 2 (256 * c.args.y + 160) (omega arith) (omega arith)).1 }
 
 pub put_rows-requires : goal.put_rows-requires
 put_rows-requires c =
-    record { cover_in_bounds = (c.requires.edges.0.room, c.requires.i_lt_n.3); fit_rows = fit_all c.before.before.before.before.before.before.before.before.before.before.before.before.before.before.before.before.before c.start-s.result c.start-u.result c.start-v.result c.start-t.result
-          (first_at c) (second_at c) (third_at c) (last-at c); }
+    record {
+      cover_in_bounds = (c.requires.edges.0.room, c.requires.i_lt_n.3);
+      fit_rows = fit_all c.before.before.before.before.before.before.before.before.before.before.before.before.before.before.before.before.before c.start-s.result c.start-u.result c.start-v.result c.start-t.result
+          (first_at c) (second_at c) (third_at c) (last-at c);
+    }
 
 pub returns : goal.returns
 returns c =
@@ -272,4 +287,4 @@ returns c =
     let all = all-added c.before.before.before.before.before.before.before.before.before.before.before.before.before.before.before.before.before.before.before.before.before.before.before.before c.start-s.result c.start-u.result c.start-v.result
     c.start-t.result (first_at c.before.before.before.before.before.before.before) (second_at c.before.before.before.before.before.before.before) (third_at c.before.before.before.before.before.before.before) (last-at c.before.before.before.before.before.before.before) p.new.scratch
     p.new.cover p.ensures.scratch_after p.ensures.cover_after in
-    record { scratch_after = all.0; marked_2 = all.1; grouped = p.ensures.grouped; }
+    record { scratch_after = all.0; marked_2 = all.1; grouped = p.ensures.grouped }

@@ -19,7 +19,7 @@ later l r i j v e h =
     subst Low (sym (ap (λ (t : List ℤ). get_or t j (pos 0)) e ∙ get_or-set_other l i j (get_or l i (pos 0) +ℤ v) (pos 0) (λ q. omega (arith, h, q))))
 
 -- what is added, as the local holds it
-by_read : (c.before : goal.After-bump-arg-1) → to_z w32 (of_z w32 c.args.by) ≡ c.args.by
+by_read : (c : goal.After-bump-arg-1) → to_z w32 (of_z w32 c.args.by) ≡ c.args.by
 by_read c = clean c.args.by (omega (arith, c.requires.2))
 
 pub bump-requires-2 : goal.bump-requires-2

@@ -24,7 +24,7 @@ by_read : (s : lts.Start tie.the-claims reads.Pre reads.Post tie.handed_clauses)
 by_read s = clean s.args.by (omega (arith, s.requires.fit_rows.0.0))
 
 -- ---- all four columns are one
-one : (c.before.before.before : goal.After-put_four-arg-then-p-q-2-1) → let s = c.args.s in (s.b ≡ s.a) × (s.c ≡ s.a)
+one : (c : goal.After-put_four-arg-then-p-q-2-1) → let s = c.args.s in (s.b ≡ s.a) × (s.c ≡ s.a)
 one c = straight_one c.args.s c.requires.cover_in_bounds.2 c.if-p-q.true
 
 -- ---- they lie in the window, and in one group
@@ -39,30 +39,38 @@ near c =
 pub put_four-requires : goal.put_four-requires
 put_four-requires c =
     let a = c.args in
-    record { cover_in_bounds = (c.requires.cover_in_bounds.0, rw (by_read c.before.before.before.before.before.before) c.requires.fit_rows.0.0); grouped = c.requires.cover_in_bounds.1; low_four = fit_four a.base a.s.a a.by (length a.cover.now) a.scratch.now
-            (rw ((one c).0, (one c).1, sym c.if-p-q.true) at c.requires.fit_rows); }
+    record {
+      cover_in_bounds = (c.requires.cover_in_bounds.0, rw (by_read c.before.before.before.before.before.before) c.requires.fit_rows.0.0);
+      grouped = c.requires.cover_in_bounds.1;
+      low_four = fit_four a.base a.s.a a.by (length a.cover.now) a.scratch.now
+          (rw ((one c).0, (one c).1, sym c.if-p-q.true) at c.requires.fit_rows);
+    }
 
 pub returns-then-p-q : goal.returns-then-p-q
 returns-then-p-q c =
     let a = c.args in
     let w = length a.cover.now in
     let p = c.put_four.ensures in
-    record { scratch_after = (rw ((one c.before.before.before.before.before.before.before).0, (one c.before.before.before.before.before.before.before).1, sym c.if-p-q.true) (
-      p.0
-          ∙ ap (λ (z : ℤ). cond (ltb (a.s.a / 4) w) (bumped_four a.scratch.now (a.base + a.s.a * 4) z) a.scratch.now) (by_read c.before.before.before.before.before.before.before.before.before.before.before.before.before)
-          ∙ as_rows a.base a.s.a a.by w a.scratch.now,
-      (p.1.0 ∙ as_marks (a.s.a / 4) a.cover.now, p.1.1),
-    )).0; cover_after = (rw ((one c.before.before.before.before.before.before.before).0, (one c.before.before.before.before.before.before.before).1, sym c.if-p-q.true) (
-      p.0
-          ∙ ap (λ (z : ℤ). cond (ltb (a.s.a / 4) w) (bumped_four a.scratch.now (a.base + a.s.a * 4) z) a.scratch.now) (by_read c.before.before.before.before.before.before.before.before.before.before.before.before.before)
-          ∙ as_rows a.base a.s.a a.by w a.scratch.now,
-      (p.1.0 ∙ as_marks (a.s.a / 4) a.cover.now, p.1.1),
-    )).1.0; grouped = (rw ((one c.before.before.before.before.before.before.before).0, (one c.before.before.before.before.before.before.before).1, sym c.if-p-q.true) (
-      p.0
-          ∙ ap (λ (z : ℤ). cond (ltb (a.s.a / 4) w) (bumped_four a.scratch.now (a.base + a.s.a * 4) z) a.scratch.now) (by_read c.before.before.before.before.before.before.before.before.before.before.before.before.before)
-          ∙ as_rows a.base a.s.a a.by w a.scratch.now,
-      (p.1.0 ∙ as_marks (a.s.a / 4) a.cover.now, p.1.1),
-    )).1.1; }
+    record {
+      scratch_after = (rw ((one c.before.before.before.before.before.before.before).0, (one c.before.before.before.before.before.before.before).1, sym c.if-p-q.true) (
+        p.0
+            ∙ ap (λ (z : ℤ). cond (ltb (a.s.a / 4) w) (bumped_four a.scratch.now (a.base + a.s.a * 4) z) a.scratch.now) (by_read c.before.before.before.before.before.before.before.before.before.before.before.before.before)
+            ∙ as_rows a.base a.s.a a.by w a.scratch.now,
+        (p.1.0 ∙ as_marks (a.s.a / 4) a.cover.now, p.1.1),
+      )).0;
+      cover_after = (rw ((one c.before.before.before.before.before.before.before).0, (one c.before.before.before.before.before.before.before).1, sym c.if-p-q.true) (
+        p.0
+            ∙ ap (λ (z : ℤ). cond (ltb (a.s.a / 4) w) (bumped_four a.scratch.now (a.base + a.s.a * 4) z) a.scratch.now) (by_read c.before.before.before.before.before.before.before.before.before.before.before.before.before)
+            ∙ as_rows a.base a.s.a a.by w a.scratch.now,
+        (p.1.0 ∙ as_marks (a.s.a / 4) a.cover.now, p.1.1),
+      )).1.0;
+      grouped = (rw ((one c.before.before.before.before.before.before.before).0, (one c.before.before.before.before.before.before.before).1, sym c.if-p-q.true) (
+        p.0
+            ∙ ap (λ (z : ℤ). cond (ltb (a.s.a / 4) w) (bumped_four a.scratch.now (a.base + a.s.a * 4) z) a.scratch.now) (by_read c.before.before.before.before.before.before.before.before.before.before.before.before.before)
+            ∙ as_rows a.base a.s.a a.by w a.scratch.now,
+        (p.1.0 ∙ as_marks (a.s.a / 4) a.cover.now, p.1.1),
+      )).1.1;
+    }
 
 pub touch-requires : goal.touch-requires
 touch-requires c =
@@ -71,9 +79,12 @@ touch-requires c =
 
 pub put_near-requires : goal.put_near-requires
 put_near-requires c =
-    record { cover_in_bounds = (rw (by_read c.before.before.before.before.before.before.before.before.before.before.before.before.before.before, (straight_ends c.args.s c.requires.cover_in_bounds.2).1)
-    ((c.requires.cover_in_bounds.0, c.requires.fit_rows), omega (arith, (near c.before.before.before.before.before.before.before).0, c.most-hi.ensures))).0; at_in_bounds = (rw (by_read c.before.before.before.before.before.before.before.before.before.before.before.before.before.before, (straight_ends c.args.s c.requires.cover_in_bounds.2).1)
-    ((c.requires.cover_in_bounds.0, c.requires.fit_rows), omega (arith, (near c.before.before.before.before.before.before.before).0, c.most-hi.ensures))).1; }
+    record {
+      cover_in_bounds = (rw (by_read c.before.before.before.before.before.before.before.before.before.before.before.before.before.before, (straight_ends c.args.s c.requires.cover_in_bounds.2).1)
+          ((c.requires.cover_in_bounds.0, c.requires.fit_rows), omega (arith, (near c.before.before.before.before.before.before.before).0, c.most-hi.ensures))).0;
+      at_in_bounds = (rw (by_read c.before.before.before.before.before.before.before.before.before.before.before.before.before.before, (straight_ends c.args.s c.requires.cover_in_bounds.2).1)
+          ((c.requires.cover_in_bounds.0, c.requires.fit_rows), omega (arith, (near c.before.before.before.before.before.before.before).0, c.most-hi.ensures))).1;
+    }
 
 pub returns-then-is_near : goal.returns-then-is_near
 returns-then-is_near c =
@@ -81,16 +92,20 @@ returns-then-is_near c =
     let ends = straight_ends a.s c.requires.cover_in_bounds.2 in
     let both = near c.before.before.before.before.before.before.before.before.before.before.before in
     let p = c.put_near.ensures in
-    record { scratch_after = rw (by_read c.before.before.before.before.before.before.before.before.before.before.before.before.before.before.before.before.before.before) at p.0; cover_after = p.1; grouped = four_grouped a.cover.now a.groups.now a.s.a a.s.b a.s.c a.s.d (c.least-lo.result / 4)
-            (c.most-hi.result / 4) (ap (λ (n : ℕ). n / 4) (c.least-lo.ensures ∙ sym ends.0))
-            (ap (λ (n : ℕ). n / 4) (c.most-hi.ensures ∙ sym ends.1)) p.1 c.touch.ensures both.0 both.1
-            c.requires.cover_in_bounds.1; }
+    record {
+      scratch_after = rw (by_read c.before.before.before.before.before.before.before.before.before.before.before.before.before.before.before.before.before.before) at p.0;
+      cover_after = p.1;
+      grouped = four_grouped a.cover.now a.groups.now a.s.a a.s.b a.s.c a.s.d (c.least-lo.result / 4)
+          (c.most-hi.result / 4) (ap (λ (n : ℕ). n / 4) (c.least-lo.ensures ∙ sym ends.0))
+          (ap (λ (n : ℕ). n / 4) (c.most-hi.ensures ∙ sym ends.1)) p.1 c.touch.ensures both.0 both.1
+          c.requires.cover_in_bounds.1;
+    }
 
 -- ---- wherever they lie
 pub put_far-requires : goal.put_far-requires
 put_far-requires c =
-    record { cover_in_bounds = (rw (by_read c.before.before.before.before.before.before.before.before.before.before) ((c.requires.cover_in_bounds.0, c.requires.cover_in_bounds.1), c.requires.fit_rows)).0; fit_rows = (rw (by_read c.before.before.before.before.before.before.before.before.before.before) ((c.requires.cover_in_bounds.0, c.requires.cover_in_bounds.1), c.requires.fit_rows)).1; }
+    record { cover_in_bounds = (rw (by_read c.before.before.before.before.before.before.before.before.before.before) ((c.requires.cover_in_bounds.0, c.requires.cover_in_bounds.1), c.requires.fit_rows)).0; fit_rows = (rw (by_read c.before.before.before.before.before.before.before.before.before.before) ((c.requires.cover_in_bounds.0, c.requires.cover_in_bounds.1), c.requires.fit_rows)).1 }
 
 pub returns : goal.returns
 returns c =
-    record { scratch_after = (rw (by_read c.before.before.before.before.before.before.before.before.before.before.before.before.before.before.before.before.before) at c.put_far.ensures).0; cover_after = (rw (by_read c.before.before.before.before.before.before.before.before.before.before.before.before.before.before.before.before.before) at c.put_far.ensures).1.0; grouped = (rw (by_read c.before.before.before.before.before.before.before.before.before.before.before.before.before.before.before.before.before) at c.put_far.ensures).1.1; }
+    record { scratch_after = (rw (by_read c.before.before.before.before.before.before.before.before.before.before.before.before.before.before.before.before.before) at c.put_far.ensures).0; cover_after = (rw (by_read c.before.before.before.before.before.before.before.before.before.before.before.before.before.before.before.before.before) at c.put_far.ensures).1.0; grouped = (rw (by_read c.before.before.before.before.before.before.before.before.before.before.before.before.before.before.before.before.before) at c.put_far.ensures).1.1 }

@@ -5,7 +5,7 @@ use Rattle.engine.proofs.decode.linear.Goals as goal
 
 pub make_ramp-count-requires : goal.make_ramp-count-requires
 make_ramp-count-requires c =
-    record { d_len = (c.requires.d_len.0, c.requires.d_len.1); ramp_numbers_in_bounds = c.requires.ramp_numbers_in_bounds; }
+    record { d_len = (c.requires.d_len.0, c.requires.d_len.1); ramp_numbers_in_bounds = c.requires.ramp_numbers_in_bounds }
 
 pub fixed_points-requires : goal.fixed_points-requires
 fixed_points-requires c =
@@ -18,7 +18,7 @@ returns c =
     let points = c.fixed_points in
     record {
       points = points.ensures.0;
-      c.before.before = c.spread.ensures;
+      spread = c.spread.ensures;
       premultiply = c.ramp_premultiplied.ensures;
       ramp = c.make_ramp-count.ensures;
       limited = points.ensures.1;

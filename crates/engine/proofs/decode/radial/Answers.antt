@@ -7,20 +7,20 @@ use Rattle.engine.proofs.decode.radial.Goals as goal
 
 pub make_ramp-count-requires : goal.make_ramp-count-requires
 make_ramp-count-requires c =
-    record { d_len = (c.requires.d_len.0, c.requires.d_len.1); ramp_numbers_in_bounds = c.requires.ramp_numbers_in_bounds; }
+    record { d_len = (c.requires.d_len.0, c.requires.d_len.1); ramp_numbers_in_bounds = c.requires.ramp_numbers_in_bounds }
 
 pub fixed_circle-requires : goal.fixed_circle-requires
 fixed_circle-requires c =
     let a = c.args in
     let p = c.requires.d_len in
-    record { cx_value = (circle_limited a.d.now a.p p.1 p.2).0; fx_value = (circle_limited a.d.now a.p p.1 p.2).1; }
+    record { cx_value = (circle_limited a.d.now a.p p.1 p.2).0; fx_value = (circle_limited a.d.now a.p p.1 p.2).1 }
 
 pub returns : goal.returns
 returns c =
     let circle = c.fixed_circle in
     record {
       circle = circle.ensures.0;
-      c.before.before = c.spread.ensures;
+      spread = c.spread.ensures;
       premultiply = c.ramp_premultiplied.ensures;
       ramp = c.make_ramp-count.ensures;
       limited = circle.ensures.1;

@@ -10,13 +10,13 @@ use Rattle.outline.proofs.Counts.{curve_count}
 use Rattle.outline.proofs.Merged.{alike_trans, stored_alike}
 use Rattle.outline.proofs.extent.gather_segment.Goals as goal
 
-few : (s.before : goal.After-store_segment-arg-1) → length (drawn_edges s.args.m s.args.pen (drawn_by s.args.pen s.args.byte s.args.c)) ≤ 16
+few : (s : goal.After-store_segment-arg-1) → length (drawn_edges s.args.m s.args.pen (drawn_by s.args.pen s.args.byte s.args.c)) ≤ 16
 few s = curve_count (transform s.args.m s.args.pen.current) (transform_curve s.args.m (drawn_by s.args.pen s.args.byte s.args.c))
 
 pub store_segment-all-requires : goal.store_segment-all-requires
 store_segment-all-requires c =
     let h = c.requires in
-    record { n_in_bounds = omega (arith, h); limited = h.1; }
+    record { n_in_bounds = omega (arith, h); limited = h.1 }
 
 pub merge-requires : goal.merge-requires
 merge-requires c =
@@ -28,6 +28,9 @@ returns c =
     let a = c.args in
     let e = c.store_segment-all in
     let r = c.merge.ensures in
-    record { alike = alike_trans r.0
+    record {
+      alike = alike_trans r.0
           (stored_alike a.ends.now _ a.n (drawn_edges a.m a.pen (drawn_by a.pen a.byte a.c)) e.result e.ensures.edges_after e.ensures.value
-          (omega (arith, few c.before.before.before.before.before, c.requires))); upper_bound = r.1; }
+          (omega (arith, few c.before.before.before.before.before, c.requires)));
+      upper_bound = r.1;
+    }

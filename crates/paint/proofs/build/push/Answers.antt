@@ -4,7 +4,7 @@ use Rattle.paint.specs.Buffers.{packed, unpacked}
 use Rattle.paint.proofs.Built.{packed_back, stop_pushed}
 use Rattle.paint.proofs.build.push.Goals as goal
 
-back : (c.before : goal.After-slice_known-1) → unpacked (packed c.args.color) ≡ c.args.color
+back : (c : goal.After-slice_known-1) → unpacked (packed c.args.color) ≡ c.args.color
 back c = packed_back c.args.color (omega arith) (omega arith) (omega arith) (omega arith)
 
 pub bounds-ramp-b-2 : goal.bounds-ramp-b-2

@@ -15,7 +15,7 @@ told : (s : lts.Start reads.Pre reads.Post tie.handed_clauses) {t : Bool} → le
 told s e = rw (to_z-of_z s.ranges.z) at e
 
 -- the pixel, if there are so many
-some : (s.before : goal.Else-z-le0) → le_z (to_z w64 (of_z w64 s.args.z)) (pos 0) ≡ false
+some : (s : goal.Else-z-le0) → le_z (to_z w64 (of_z w64 s.args.z)) (pos 0) ≡ false
     → min ((nat_abs (to_z w64 (of_z w64 s.args.z)) + 15) / 16) s.args.n ≡ first_from s.args.z s.args.n
 some s e = rw (to_z-of_z s.ranges.z) (sym (first_some s.args.z s.args.n (told s.before e)))
 

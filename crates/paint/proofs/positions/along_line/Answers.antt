@@ -15,10 +15,10 @@ abbrev place : ℤ → ℤ → ℕ → ℕ
 place first step i = position_of (floor_div (first +ℤ step *ℤ pos i) line_parts)
 
 -- t is the line's number
-t-is : (c.before : goal.In-loop-i) → to_z w64 c.loop-i.t-bits ≡ c.args.first +ℤ c.args.step *ℤ pos c.loop-i.i
+t-is : (c : goal.In-loop-i) → to_z w64 c.loop-i.t-bits ≡ c.args.first +ℤ c.args.step *ℤ pos c.loop-i.i
 t-is c = rw (to_z-of_z c.ranges.first, to_z-of_z c.ranges.step) at c.loop-i.invariant.2
 
-size : (c.before : goal.In-loop-i) (i : ℕ) → i ≤ length c.args.ks.now
+size : (c : goal.In-loop-i) (i : ℕ) → i ≤ length c.args.ks.now
     → Within 6917529027641081856 (c.args.first +ℤ c.args.step *ℤ pos i)
 size c i h =
     line_size c.args.first c.args.step i c.requires.0 c.requires.1 (omega (arith, h, c.requires.2))

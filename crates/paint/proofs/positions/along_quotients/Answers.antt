@@ -25,7 +25,7 @@ moderate c =
     let p = c.requires in
     rw l.invariant.2 (at_moderate a.g.points p.0.1 p.0.0 (a.x + l.i) a.y (omega (arith, p.1.0.0, l.invariant.0)) p.1.0.1)
 
-placed : (c.before : goal.After-add_quotients-q)
+placed : (c : goal.After-add_quotients-q)
     → let a = c.args in c.position.result ≡ place a.g a.x a.y c.loop-i.i
 placed c =
     let a = c.args in

@@ -5,7 +5,7 @@ use Rattle.paint.specs.Segments.{position_of}
 use Rattle.paint.proofs.Placing.{cut_same}
 use Rattle.paint.proofs.positions.cut.Goals as goal
 
-first-cut : (c.before : goal.Joined-v-lt0) → to_z w32 c.if-t-lt-RAMP_LAST.v-bits ≡ cond (lt_z c.args.t (pos 65535)) c.args.t (pos 65535)
+first-cut : (c : goal.Joined-v-lt0) → to_z w32 c.if-t-lt-RAMP_LAST.v-bits ≡ cond (lt_z c.args.t (pos 65535)) c.args.t (pos 65535)
 first-cut c =
     let t = c.args.t in
     let e : to_z w32 (of_z w32 t) ≡ t = to_z-of_z c.ranges.t in

@@ -15,10 +15,10 @@ abbrev place : ℤ → ℤ → ℕ → ℕ
 place first step i = min (position_of (floor_div (first +ℤ step *ℤ pos i) line_parts) - 1) 65535
 
 -- t is the line's number
-t-is : (c.before : goal.In-loop-i) → to_z w64 c.loop-i.t-bits ≡ c.args.first +ℤ c.args.step *ℤ pos c.loop-i.i
+t-is : (c : goal.In-loop-i) → to_z w64 c.loop-i.t-bits ≡ c.args.first +ℤ c.args.step *ℤ pos c.loop-i.i
 t-is c = rw (to_z-of_z c.ranges.first, to_z-of_z c.ranges.step) at c.loop-i.invariant.3
 
-size : (c.before : goal.In-loop-i) (i : ℕ) → i ≤ length c.args.left.now
+size : (c : goal.In-loop-i) (i : ℕ) → i ≤ length c.args.left.now
     → Within 6917529027641081856 (c.args.first +ℤ c.args.step *ℤ pos i)
 size c i h =
     line_size c.args.first c.args.step i c.requires.first_bound.0 c.requires.first_bound.1 (omega (arith, h, c.requires.right_len.1))
@@ -74,4 +74,4 @@ returns c =
     (rw (same, to_z-of_z c.ranges.step) at l.invariant.4) e refl in
     let right = tab_all (place a.first a.step) l.right a.right.now l.i n
     (rw (same, to_z-of_z c.ranges.step) at l.invariant.5) e (sym c.requires.right_len.0) in
-    record { left_after = left; right_after = right ∙ sym left; }
+    record { left_after = left; right_after = right ∙ sym left }

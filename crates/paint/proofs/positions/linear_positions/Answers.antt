@@ -10,7 +10,7 @@ use Rattle.paint.proofs.Along.{positions_same}
 use Rattle.paint.proofs.positions.linear_positions.Goals as goal
 
 -- ---- none does
-length-is : (c.before : goal.After-along_quotients-arg-1)
+length-is : (c : goal.After-along_quotients-arg-1)
     → to_z w64 (of_z w64 c.squared_length-d.result) ≡ squared_length c.args.g.points
 length-is c =
     let d = c.squared_length-d in
@@ -43,11 +43,11 @@ row_step-step-requires c =
 
 pub quotient_at-q-requires : goal.quotient_at-q-requires
 quotient_at-q-requires c =
-    record { limited_points = c.requires.limited_points; x_bound = (omega (arith, c.requires.ks_bound.0), c.requires.ks_bound.1); }
+    record { limited_points = c.requires.limited_points; x_bound = (omega (arith, c.requires.ks_bound.0), c.requires.ks_bound.1) }
 
 pub along_quotients-requires : goal.along_quotients-requires
 along_quotients-requires c =
-    record { limited_points = c.requires.limited_points; ks_bound = (c.requires.ks_bound.0, c.requires.ks_bound.1); first_value = (c.quotient_at-q.ensures, c.Row_step.ensures, length-is c); }
+    record { limited_points = c.requires.limited_points; ks_bound = (c.requires.ks_bound.0, c.requires.ks_bound.1); first_value = (c.quotient_at-q.ensures, c.Row_step.ensures, length-is c) }
 
 pub returns : goal.returns
 returns c =

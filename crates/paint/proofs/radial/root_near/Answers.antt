@@ -49,7 +49,8 @@ overflow_mul-g-2 c =
 pub returns-then-rest-g : goal.returns-then-rest-g
 returns-then-rest-g c =
     λ c.
-    near-root (n c.before.before) c.args.guess _ (guess_small c.before.before) c.wrapping_sub_u64-rest.ensures c.if-rest-g.true ∙ n-is c.before.before c
+    let s = c.before.before in
+    near-root (n s) s.args.guess _ (guess_small s) c.before.wrapping-sub-u64.ensures c.if1.true ∙ n-is s c
 
 pub isqrt_near-requires : goal.isqrt_near-requires
 isqrt_near-requires c =

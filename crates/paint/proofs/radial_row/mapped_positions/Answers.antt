@@ -37,7 +37,7 @@ block c = length c.args.ks.now
 long : (c : lts.At-loop tie.the-claims reads.Pre reads.Post goal.the-invariant-loop-i goal.the-decreases-loop-i tie.handed_clauses) → length c.guess_roots.new.ks ≡ block c
 long c = c.guess_roots.auto.ks
 
-held : (c.before : goal.In-loop-i) → Held c.loop-i.p
+held : (c : goal.In-loop-i) → Held c.loop-i.p
 held c =
     let first = c.place_at-p in
     held_on c.args.g.circle c.requires.limited_circle.0 c.requires.limited_circle.1 c.requires.limited_circle.2 c.args.y c.requires.ks_bound.1 c.args.x first.result c.loop-i.p c.loop-i.i
@@ -45,7 +45,7 @@ held c =
     first.ensures
     c.loop-i.invariant.place
 
-placed : (c.before : goal.After-next_place-p)
+placed : (c : goal.After-next_place-p)
     → let g = c.args.g in c.position_of.result ≡ position g (place_t c.loop-i.p (size g))
 placed c =
     let t = sum_t c.loop-i.p (held c.before.before.before.before.before.before.before) c.root_near-q.result c.root_near-q.ensures (size c.args.g) in
@@ -79,13 +79,13 @@ guess_roots-requires c =
     (omega (arith, c.requires.ks_bound.0))
     first.ensures
     in
-    record { q_bound = asks_guess first.result h; t = (c.most_root.ensures, c.requires.ks_bound.2); }
+    record { q_bound = asks_guess first.result h; t = (c.most_root.ensures, c.requires.ks_bound.2) }
 
 pub loop-i-init : goal.loop-i-init
 loop-i-init c =
-    λ c.before.
-    let g = c.args.g in
-    walk_begins (position g) (size g) _ _ c.before
+    λ c.
+    let g = c.before.before.before.before.before.before.before.before.before.before.before.before.before.args.g in
+    walk_begins (position g) (size g) _ _ c
 
 pub offset_bounds-ks-i : goal.offset_bounds-ks-i
 offset_bounds-ks-i c =

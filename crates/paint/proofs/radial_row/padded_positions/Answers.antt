@@ -25,7 +25,7 @@ block c = length c.args.ks.now
 long : (c : lts.At-loop tie.the-claims reads.Pre reads.Post goal.the-invariant-loop-i goal.the-decreases-loop-i tie.handed_clauses) → length c.guess_roots.new.ks ≡ block c
 long c = c.guess_roots.auto.ks
 
-held : (c.before : goal.In-loop-i) → Held c.loop-i.p
+held : (c : goal.In-loop-i) → Held c.loop-i.p
 held c =
     let first = c.place_at-p in
     held_on c.args.c c.requires.limited_circle.0 c.requires.limited_circle.1 c.requires.limited_circle.2 c.args.y c.requires.ks_bound.1 c.args.x first.result c.loop-i.p c.loop-i.i
@@ -33,7 +33,7 @@ held c =
     first.ensures
     c.loop-i.invariant.place
 
-placed : (c.before : goal.After-next_place-p) → c.padded_position.result ≡ position_of (place_t c.loop-i.p c.args.d)
+placed : (c : goal.After-next_place-p) → c.padded_position.result ≡ position_of (place_t c.loop-i.p c.args.d)
 placed c =
     let d = c.args.d in
     c.padded_position.ensures
@@ -71,7 +71,7 @@ guess_roots-requires c =
     held_at c.args.c c.requires.limited_circle.0 c.requires.limited_circle.1 c.requires.limited_circle.2 c.args.y c.requires.ks_bound.1 c.args.x first.result (omega (arith, c.requires.ks_bound.0))
     first.ensures
     in
-    record { q_bound = asks_guess first.result h; t = (c.most_root.ensures, c.requires.ks_bound.2); }
+    record { q_bound = asks_guess first.result h; t = (c.most_root.ensures, c.requires.ks_bound.2) }
 
 pub loop-i-init : goal.loop-i-init
 loop-i-init c =
@@ -91,8 +91,10 @@ root_near-q-requires c =
 
 pub numerator-requires : goal.numerator-requires
 numerator-requires c =
-    λ c.before κs.
-    asks_sum c.loop-i.p (held c.before.before.before.before.before) c.root_near-q.result c.root_near-q.ensures c.before
+    λ c κs.
+    let root = c.before in
+    let l = c.before.before.before.before.before in
+    asks_sum l.loop.p (held l) root.root-near.result root.root-near.ensures c
 
 pub padded_position-requires : goal.padded_position-requires
 padded_position-requires c =

@@ -16,12 +16,12 @@ circle c = c.args.c
 radius : (c : lts.After-struct_told7 tie.the-claims reads.Pre reads.Post tie.handed_clauses) → to_z w64 (of_z w64 (circle c).r) ≡ (circle c).r
 radius c = clean w64 16384 (circle c).r tt c.requires.0.r
 
-dx : (c.before : goal.After-place_from) → to_z w64 (of_z w64 c.from_focus.result) ≡ from_focus c.args.x (circle c.before).fx
+dx : (c : goal.After-place_from) → to_z w64 (of_z w64 c.from_focus.result) ≡ from_focus c.args.x (circle c.before).fx
 dx c =
     let o = c.from_focus in
     back w64 o.result o.ok ∙ o.ensures.0 ∙ ap (from_focus c.args.x) (clean w64 16384 c.args.c.fx tt c.requires.0.fx)
 
-dy : (c.before : goal.After-place_from) → to_z w64 (of_z w64 c.from_focus-2.result) ≡ from_focus c.args.y (circle c.before).fy
+dy : (c : goal.After-place_from) → to_z w64 (of_z w64 c.from_focus-2.result) ≡ from_focus c.args.y (circle c.before).fy
 dy c =
     let o = c.from_focus-2 in
     back w64 o.result o.ok ∙ o.ensures.0 ∙ ap (from_focus c.args.y) (clean w64 16384 c.args.c.fy tt c.requires.0.fy)
@@ -48,13 +48,16 @@ place_from-requires c =
     let oy = c.from_focus-2 in
     let of = c.apart in
     let og = c.apart-2 in
-    record { r_bound = (
+    record {
+      r_bound = (
         rw (radius c.before) c.requires.0.r,
         rw (back w64 ox.result ox.ok) ox.ensures.1,
         rw (back w64 oy.result oy.ok) oy.ensures.1,
         rw (back w64 of.result of.type_inv) of.ensures.1,
         rw (back w64 og.result og.type_inv) og.ensures.1,
-      ); pos_bound = rw (radius c.before, f c.before, g c.before) (inner c.before); }
+      );
+      pos_bound = rw (radius c.before, f c.before, g c.before) (inner c.before);
+    }
 
 pub returns : goal.returns
 unfolding place_at

@@ -3,10 +3,10 @@ use Rattle.std.proofs.Common.{◌-◌, ◌*◌, ◌≤◌, sym, refl, mul-le-mul
 use Rattle.paint.proofs.Mix.{mix_below, mix_same}
 use Rattle.paint.proofs.ramp.mix_byte.Goals as goal
 
-left : (c.before : goal.Else-ci-cj) → c.args.ci * (c.args.xj - c.args.t) ≤ 255 * 65536
+left : (c : goal.Else-ci-cj) → c.args.ci * (c.args.xj - c.args.t) ≤ 255 * 65536
 left c = mul-le-mul {n₁ = c.args.ci} {m₁ = c.args.xj - c.args.t} {n₂ = 255} {m₂ = 65536} (omega arith) (omega arith)
 
-right : (c.before : goal.Else-ci-cj) → c.args.cj * (c.args.t - c.args.xi) ≤ 255 * 65536
+right : (c : goal.Else-ci-cj) → c.args.cj * (c.args.t - c.args.xi) ≤ 255 * 65536
 right c = mul-le-mul {n₁ = c.args.cj} {m₁ = c.args.t - c.args.xi} {n₂ = 255} {m₂ = 65536} (omega arith) (omega arith)
 
 pub returns-then-ci-cj : goal.returns-then-ci-cj

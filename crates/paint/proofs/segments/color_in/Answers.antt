@@ -5,7 +5,7 @@ use Rattle.paint.specs.declared.Segment.{Segment}
 use Rattle.paint.proofs.segments.color_in.Goals as goal
 
 -- k is not before the segment
-from : (c.before.before.before : goal.After-byte_in-arg-1) → c.args.s.from ≤ c.args.k
+from : (c : goal.After-byte_in-arg-1) → c.args.s.from ≤ c.args.k
 from c = omega (arith, c.requires.0.low, c.requires.1)
 
 pub byte_in-requires : goal.byte_in-requires

@@ -4,7 +4,7 @@ use Rattle.paint.specs.Segments.{finished}
 use Rattle.paint.proofs.Pairs.{mixed_opaque, opaque_planes, premultiplied_planes}
 use Rattle.paint.proofs.words.mix_finished.Goals as goal
 
-bytes : (c.before.before.before.before : goal.After-mix_colors-arg-2-1) → (c.args.c.a < 256) × (c.args.d.a < 256)
+bytes : (c : goal.After-mix_colors-arg-2-1) → (c.args.c.a < 256) × (c.args.d.a < 256)
 bytes c = (omega arith, omega arith)
 
 pub returns-then-premultiply : goal.returns-then-premultiply

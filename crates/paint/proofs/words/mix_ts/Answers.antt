@@ -8,10 +8,10 @@ use Rattle.paint.proofs.words.mix_ts.Tie as tie
 use Rattle.paint.proofs.words.mix_ts.Lts as lts
 use Rattle.paint.proofs.words.mix_ts.Reads as reads
 
-first-bytes : (c.before.before.before.before.before.before.before.before.before.before.before.before : goal.After-join-arg-1) → Bytes c.args.c
+first-bytes : (c : goal.After-join-arg-1) → Bytes c.args.c
 first-bytes c = (omega arith, omega arith, omega arith, omega arith)
 
-last-bytes : (c.before.before.before.before.before.before.before.before.before.before.before.before : goal.After-join-arg-1) → Bytes c.args.d
+last-bytes : (c : goal.After-join-arg-1) → Bytes c.args.d
 last-bytes c = (omega arith, omega arith, omega arith, omega arith)
 
 right-long : (c : lts.Start tie.the-claims reads.Pre reads.Post tie.handed_clauses) → length c.args.right.now ≡ length c.args.ws.now

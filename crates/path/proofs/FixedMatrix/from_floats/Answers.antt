@@ -55,11 +55,11 @@ pub returns-then-in_limits : goal.returns-then-in_limits
 unfolding converted
 returns-then-in_limits c =
     rw (kept c.before.before.before.before.before.before) (λ i. Within (record {
-      c.before.before.before.before.before = whole c.to_whole.type_inv c.to_whole.ensures i;
-      c.before.before.before.before = whole c.to_whole-then-in_limits.type_inv c.to_whole-then-in_limits.ensures i;
-      c.before.before.before = whole c.to_whole-then-in_limits-2.type_inv c.to_whole-then-in_limits-2.ensures i;
-      c.before.before = whole c.to_whole-then-in_limits-3.type_inv c.to_whole-then-in_limits-3.ensures i;
-      c.before = whole c.to_whole-then-in_limits-4.type_inv c.to_whole-then-in_limits-4.ensures i;
+      sx = whole c.to_whole.type_inv c.to_whole.ensures i;
+      shy = whole c.to_whole-then-in_limits.type_inv c.to_whole-then-in_limits.ensures i;
+      shx = whole c.to_whole-then-in_limits-2.type_inv c.to_whole-then-in_limits-2.ensures i;
+      sy = whole c.to_whole-then-in_limits-3.type_inv c.to_whole-then-in_limits-3.ensures i;
+      tx = whole c.to_whole-then-in_limits-4.type_inv c.to_whole-then-in_limits-4.ensures i;
       ty = whole c.to_whole-then-in_limits-5.type_inv c.to_whole-then-in_limits-5.ensures i;
     }))
 

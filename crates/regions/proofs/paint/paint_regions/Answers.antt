@@ -21,16 +21,17 @@ drawn s = pixel_at s.args.scene.now (mask_at s.args.width s.args.mask.now)
 
 pub loop-k-init : goal.loop-k-init
 loop-k-init c =
-    λ c.before.
-    let a = c.args in
-    (omega arith, refl, refl, overlays_none a.width a.height (drawn c.before.before.before.before.before) a.surface.now c.requires.surface_len.0) c.before
+    λ c.
+    let entry = c.before.before.before.before in
+    let a = entry.args in
+    (omega arith, refl, refl, overlays_none a.width a.height (drawn entry) a.surface.now entry.requires.1.0.0) c
 
 pub paint_area-requires : goal.paint_area-requires
 paint_area-requires c =
     let p = c.requires in
     let l = c.loop-k in
     let on = p.1.1.1 l.k (omega (arith, c.loop-k-test.true)) in
-    record { accepted_scene = (p.0.0, c.count-count.ensures.0); blank = subst Blank (sym l.invariant.2) p.0.1; area = ((l.invariant.1 ∙ p.1.0.0, (rw c.rect_at-a.ensures on, p.1.0.1)), p.1.1.0); }
+    record { accepted_scene = (p.0.0, c.count-count.ensures.0); blank = subst Blank (sym l.invariant.2) p.0.1; area = ((l.invariant.1 ∙ p.1.0.0, (rw c.rect_at-a.ensures on, p.1.0.1)), p.1.1.0) }
 
 pub loop-k-preserved : goal.loop-k-preserved
 loop-k-preserved c =
@@ -57,4 +58,4 @@ returns c =
     let l = c.loop-k in
     let a = c.args in
     let last : l.k ≡ length a.rectangles.now / 4 = omega arith in
-    record { scratch_unchanged = l.invariant.2; surface_after = l.invariant.3 ∙ ap (λ (k : ℕ). overlays a.width a.height (tab k (proposed_at a.rectangles.now)) (drawn c.before.before.before.before.before.before.before) a.surface.now) last; }
+    record { scratch_unchanged = l.invariant.2; surface_after = l.invariant.3 ∙ ap (λ (k : ℕ). overlays a.width a.height (tab k (proposed_at a.rectangles.now)) (drawn c.before.before.before.before.before.before.before) a.surface.now) last }

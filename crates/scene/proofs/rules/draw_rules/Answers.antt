@@ -115,9 +115,9 @@ returns-then-flat-ne-ACCEPTED c =
 
 pub path_rules-requires : goal.path_rules-requires
 path_rules-requires c =
-    record { d_len = (λ c.before κs.
-    ((search rules, (counted c.before.before.before.before.before.before.before.before.before.before.before.before.before).segments), within c.before.before.before.before.before.before.before.before.before.before) c.before).0; d_value = (λ c.before κs.
-    ((search rules, (counted c.before.before.before.before.before.before.before.before.before.before.before.before.before).segments), within c.before.before.before.before.before.before.before.before.before.before) c.before).1; }
+    λ c κs.
+    let measured = at-lists (at-transform (at-flat c)) in
+    record { d_len = (((search rules, (counted (at-floats measured)).segments), within measured) c).0; d_value = (((search rules, (counted (at-floats measured)).segments), within measured) c).1 }
 
 pub returns : goal.returns
 unfolding draw_rules

@@ -18,7 +18,7 @@ returns-then-are_within c =
     let bb = bg.1 in
     let ba = bb.1 in
     λ e. record {
-      c.before.before.before.before.before.before.before.before.before.before = rw (back w32 t.sr sr.0.1, back w32 t.sg sg.0.1, back w32 t.sb sb.0.1, back w32 t.sa sa.0.1) at
+      scales = rw (back w32 t.sr sr.0.1, back w32 t.sg sg.0.1, back w32 t.sb sb.0.1, back w32 t.sa sa.0.1) at
           (c.are_within.ensures c.if-are_within.true);
       biases = rw (back w32 t.br br.0.1, back w32 t.bg bg.0.1, back w32 t.bb bb.0.1, back w32 t.ba ba.0.1) at
           (c.are_within-then-are_within.ensures e);

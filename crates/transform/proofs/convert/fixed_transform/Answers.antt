@@ -47,12 +47,12 @@ fixed_bias-requires-4 c =
 pub returns : goal.returns
 returns c =
     λ i. record {
-      c.before.before.before.before.before.before.before = whole c.fixed_scale.type_inv c.fixed_scale.ensures i;
-      c.before.before.before.before.before.before = whole c.fixed_scale-2.type_inv c.fixed_scale-2.ensures i;
-      c.before.before.before.before.before = whole c.fixed_scale-3.type_inv c.fixed_scale-3.ensures i;
-      c.before.before.before.before = whole c.fixed_scale-4.type_inv c.fixed_scale-4.ensures i;
-      c.before.before.before = whole c.fixed_bias.type_inv c.fixed_bias.ensures i;
-      c.before.before = whole c.fixed_bias-2.type_inv c.fixed_bias-2.ensures i;
-      c.before = whole c.fixed_bias-3.type_inv c.fixed_bias-3.ensures i;
+      sr = whole c.fixed_scale.type_inv c.fixed_scale.ensures i;
+      sg = whole c.fixed_scale-2.type_inv c.fixed_scale-2.ensures i;
+      sb = whole c.fixed_scale-3.type_inv c.fixed_scale-3.ensures i;
+      sa = whole c.fixed_scale-4.type_inv c.fixed_scale-4.ensures i;
+      br = whole c.fixed_bias.type_inv c.fixed_bias.ensures i;
+      bg = whole c.fixed_bias-2.type_inv c.fixed_bias-2.ensures i;
+      bb = whole c.fixed_bias-3.type_inv c.fixed_bias-3.ensures i;
       ba = whole c.fixed_bias-4.type_inv c.fixed_bias-4.ensures i;
     }

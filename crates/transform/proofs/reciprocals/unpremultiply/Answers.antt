@@ -7,7 +7,7 @@ use Rattle.transform.proofs.Quotients.{by_reciprocal, product_small}
 use Rattle.transform.proofs.Opaque.{opaque_channel}
 use Rattle.transform.proofs.reciprocals.unpremultiply.Goals as goal
 
-product : (c.before : goal.Else-a-eq255) → (c.args.c * 255 + c.args.a / 2) * c.args.reciprocal ≤ 1093085725440
+product : (c : goal.Else-a-eq255) → (c.args.c * 255 + c.args.a / 2) * c.args.reciprocal ≤ 1093085725440
 product c = rw c.requires (product_small c.args.c c.args.a c.ranges.c.fits c.ranges.a.fits)
 
 pub returns-then-a-eq255 : goal.returns-then-a-eq255
