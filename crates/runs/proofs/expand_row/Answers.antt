@@ -9,13 +9,16 @@ use Rattle.runs.specs.Runs.{expand, start_of, end_of, level_of, Runs}
 use Rattle.runs.proofs.Expand.{runs_few, runs_length, runs_within, laid_run, first_length}
 use borrow.Author.Rules.{rules}
 use Rattle.runs.proofs.expand_row.Goals as goal
+use Rattle.runs.proofs.expand_row.Tie as tie
+use Rattle.runs.proofs.expand_row.Lts as lts
+use Rattle.runs.proofs.expand_row.Reads as reads
 
-module _ (c : tie.Start invariant-loop decreases-loop) where
-  rises : (j : ℕ) → j < c.args.n → start_of c.args.runs.now j < end_of c.args.runs.now j
-  rises = c.requires.0.rises
+-- the run of the turn lies within the row
+rises : (c : lts.Start tie.the-claims reads.Pre reads.Post goal.the-invariant-loop-j goal.the-decreases-loop-j tie.handed_clauses) → (j : ℕ) → j < c.args.n → start_of c.args.runs.now j < end_of c.args.runs.now j
+rises c = c.requires.0.rises
 
-  within : (j : ℕ) → j < c.args.n → end_of c.args.runs.now j ≤ length c.args.row.now
-  within = runs_within c.args.runs.now c.args.n (length c.args.row.now) c.requires.0
+within : (c : lts.Start tie.the-claims reads.Pre reads.Post goal.the-invariant-loop-j goal.the-decreases-loop-j tie.handed_clauses) → (j : ℕ) → j < c.args.n → end_of c.args.runs.now j ≤ length c.args.row.now
+within c = runs_within c.args.runs.now c.args.n (length c.args.row.now) c.requires.0
 
 pub loop-j-init : goal.loop-j-init
 loop-j-init c =

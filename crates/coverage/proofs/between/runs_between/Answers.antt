@@ -14,52 +14,47 @@ use Rattle.coverage.proofs.Laid.{tab_same}
 use Rattle.coverage.proofs.Paired.{covered_between, known, ordered, crossed_within}
 use borrow.Author.Rules.{rules}
 use Rattle.coverage.proofs.between.runs_between.Goals as goal
+use Rattle.coverage.proofs.between.runs_between.Tie as tie
+use Rattle.coverage.proofs.between.runs_between.Lts as lts
+use Rattle.coverage.proofs.between.runs_between.Reads as reads
 
-module _ (c : tie.Else1) where
-  abbrev begin : tie.Start
-  begin = c.before.before.before
+two : (c : lts.Else1 tie.the-claims reads.Pre reads.Post tie.handed_clauses) → length c.args.list.now ≡ 2
+two c = c.if-list-ne2.false
 
-  two : length begin.args.list.now ≡ 2
-  two = c.if1.false
+place : (c : lts.Else1 tie.the-claims reads.Pre reads.Post tie.handed_clauses) → (j : ℕ) → j < 2 → get_or c.args.list.now j 0 < c.args.line.edges
+place c j h = c.requires.outlined.1.below j (omega (arith, h, (two c)))
 
-  place : (j : ℕ) → j < 2 → get_or begin.args.list.now j 0 < begin.args.line.edges
-  place j h = begin.pre.0.1.below j (omega (arith, h, two))
+small : (c : lts.Else1 tie.the-claims reads.Pre reads.Post tie.handed_clauses) → (j : ℕ) → j < 2 → Small (edge_at c.args.scratch.now (get_or c.args.list.now j 0))
+small c j h = c.requires.outlined.0.small (get_or c.args.list.now j 0) ((place c) j h)
 
-  small : (j : ℕ) → j < 2 → Small (edge_at begin.args.scratch.now (get_or begin.args.list.now j 0))
-  small j h = begin.pre.0.0.small (get_or begin.args.list.now j 0) (place j h)
+room : (c : lts.Else1 tie.the-claims reads.Pre reads.Post tie.handed_clauses) → (j : ℕ) → j < 2 → get_or c.args.list.now j 0 * 4 + 3 < length c.args.scratch.now
+room c j h = omega (arith, (place c) j h, c.requires.outlined.0.few, c.requires.outlined.0.room)
 
-  room : (j : ℕ) → j < 2 → get_or begin.args.list.now j 0 * 4 + 3 < length begin.args.scratch.now
-  room j h = omega (arith, place j h, begin.pre.0.0.few, begin.pre.0.0.room)
+abbrev own : (c : lts.After-cross2 tie.the-claims reads.Pre reads.Post tie.handed_clauses) → ℕ → Edge
+own c j = edge_at c.args.scratch.now (get_or c.args.list.now j 0)
 
-module _ (c : tie.After-cross2) where
-  abbrev entry_of : tie.Start
-  entry_of = c.before.before.before.before.before.before.before.before.before.before
+abbrev one : (c : lts.After-cross2 tie.the-claims reads.Pre reads.Post tie.handed_clauses) → Crossed
+one c = c.cross-s.result
 
-  abbrev own : ℕ → Edge
-  own j = edge_at entry_of.args.scratch.now (get_or entry_of.args.list.now j 0)
+abbrev other : (c : lts.After-cross2 tie.the-claims reads.Pre reads.Post tie.handed_clauses) → Crossed
+other c = c.cross-t.result
 
-  abbrev one : Crossed
-  one = c.before.before.before.cross.result
+-- an edge is crossed so in this row
+abbrev Crossing : (c : lts.After-cross2 tie.the-claims reads.Pre reads.Post tie.handed_clauses) → Crossed → Edge → Type 0
+Crossing c s e = Crosses (4 * c.args.line.x) (c.args.w * 4) c.args.line.y e s
 
-  abbrev other : Crossed
-  other = c.cross2.result
+first : (c : lts.After-cross2 tie.the-claims reads.Pre reads.Post tie.handed_clauses) → (Crossing c) (one c) ((own c) 0)
+first c = subst ((Crossing c) (one c)) c.load.ensures c.cross-s.ensures
 
-  -- an edge is crossed so in this row
-  abbrev Crossing : Crossed → Edge → Type 0
-  Crossing s e = Crosses (4 * entry_of.args.line.x) (entry_of.args.w * 4) entry_of.args.line.y e s
+second : (c : lts.After-cross2 tie.the-claims reads.Pre reads.Post tie.handed_clauses) → (Crossing c) (other c) ((own c) 1)
+second c = subst ((Crossing c) (other c)) c.load-2.ensures c.cross-t.ensures
 
-  first : Crossing one (own 0)
-  first = subst (Crossing one) c.before.before.before.before.load.ensures c.before.before.before.cross.ensures
-
-  second : Crossing other (own 1)
-  second = subst (Crossing other) c.before.load2.ensures c.cross2.ensures
-
-  in_order : Opposed one.way other.way → Ordered (lesser_of one other) (greater_of one other) (entry_of.args.w * 4)
-  in_order opposed =
-      let a = entry_of.args in
-      let way = known one.way other.way opposed in
-      ordered one other (a.w * 4) (crossed_within (4 * a.line.x) (a.w * 4) a.line.y (own 0) one first way.0)
-      (crossed_within (4 * a.line.x) (a.w * 4) a.line.y (own 1) other second way.1)
+in_order : (c : lts.After-cross2 tie.the-claims reads.Pre reads.Post tie.handed_clauses) → Opposed (one c).way (other c).way → Ordered (lesser_of (one c) (other c)) (greater_of (one c) (other c)) (c.args.w * 4)
+in_order c opposed =
+    let a = c.args in
+    let way = known (one c).way (other c).way opposed in
+    ordered (one c) (other c) (a.w * 4) (crossed_within (4 * a.line.x) (a.w * 4) a.line.y ((own c) 0) (one c) (first c) way.0)
+    (crossed_within (4 * a.line.x) (a.w * 4) a.line.y ((own c) 1) (other c) (second c) way.1)
 
 pub returns-then-list-ne2 : goal.returns-then-list-ne2
 returns-then-list-ne2 c =
@@ -102,8 +97,8 @@ cross-t-requires c =
 pub fill_between-requires : goal.fill_between-requires
 fill_between-requires c =
     let order = in_order c.before.before.before.before.before.before (c.is_opposed.ensures c.if-is_opposed.true) in
-    let w = (entry_of c.before.before.before.before.before.before).args.w in
-    let p = (entry_of c.before.before.before.before.before.before).requires.1 in
+    let w = c.args.w in
+    let p = c.requires.y_bound in
     let upper = subst (λ (z : Columns). Ordered (lesser_of (one c.before.before.before.before.before.before) (other c.before.before.before.before.before.before)) z (w * 4)) (sym c.greater.ensures) order in
     (subst (λ (z : Columns). Ordered z c.greater.result (w * 4)) (sym c.lesser.ensures) upper, omega (arith, p.1), p.2)
 
@@ -118,8 +113,7 @@ returns-then-is_opposed c =
     let lower = c.lesser.ensures in
     let opposed = c.is_opposed.ensures c.if-is_opposed.true in
     let found-two = two c.before.before.before.before.before.before.before.before.before.before.before.before.before.before.before.before in
-    let entry = entry_of c.before.before.before.before.before.before.before.before.before in
-    let a = entry.args in
+    let a = c.args in
     let k : ℕ → ℕ = λ i. coverage (edges_of a.scratch.now a.line.edges) a.line.nonzero (a.line.x + i) a.line.y in
     let s = one c.before.before.before.before.before.before.before.before.before in
     let t = other c.before.before.before.before.before.before.before.before.before in
@@ -132,7 +126,7 @@ returns-then-is_opposed c =
             ∙ tab_same a.w (level_at (lesser_of s t) (greater_of s t)) k
             (λ i g.
             sym (covered_between a.scratch.now a.line.edges a.line.y a.line.x a.w a.list.now a.line.nonzero
-            entry.pre.0.1 found-two s t (first c.before.before.before.before.before.before.before.before.before) (second c.before.before.before.before.before.before.before.before.before) opposed i g)),
+            c.requires.outlined.1 found-two s t (first c.before.before.before.before.before.before.before.before.before) (second c.before.before.before.before.before.before.before.before.before) opposed i g)),
       );
     }
 

@@ -23,30 +23,25 @@ some-needed : (t : Bool) → (◌≡◌ {A = ℕ} (cond t 0 1) 0 → ⊥) → t 
 some-needed true e = absurd (e refl)
 some-needed false e = refl
 
-module _ (c : tie.After-needed) where
-  abbrev missing : Bool
-  missing = apart c.before.args.y0 c.before.args.y1 c.before.args.a.y0 c.before.args.a.y1
+-- what the tests of the calls tell
+abbrev missing : (c : lts.After-needed tie.the-claims reads.Pre reads.Post tie.handed_clauses) → Bool
+missing c = apart c.args.y0 c.args.y1 c.args.a.y0 c.args.a.y1
 
-  rows : c.needed.result ≡ cond missing 0 1
-  rows =
-      let s = c.before in
-      c.needed.ensures.0 ∙ ap₂ (λ (a b : ℤ). cond (apart a b s.args.a.y0 s.args.a.y1) 0 1) (to_z-of_z s.ranges.y0) (to_z-of_z s.ranges.y1)
+rows : (c : lts.After-needed tie.the-claims reads.Pre reads.Post tie.handed_clauses) → c.needed.result ≡ cond (missing c) 0 1
+rows c =
+    c.needed.ensures.0 ∙ ap₂ (λ (a b : ℤ). cond (apart a b c.args.a.y0 c.args.a.y1) 0 1) (to_z-of_z c.ranges.y0) (to_z-of_z c.ranges.y1)
 
-module _ (c : tie.After-is-right) where
-  abbrev s : tie.Start
-  s = c.before.before.before
+present : (c : lts.After-is_right tie.the-claims reads.Pre reads.Post tie.handed_clauses) → missing c.before.before ≡ false
+present c = some-needed (missing c.before.before) (λ e. c.if-needed-eq0.false (rows c.before.before ∙ e))
 
-  present : missing c.before.before ≡ false
-  present = some-needed (missing c.before.before) (λ e. c.before.if1.false (rows c.before.before ∙ e))
-
-  right : c.is_right.result ≡ beyond s.args.x0 s.args.x1 (4 * s.args.a.x1)
-  right = c.is_right.ensures ∙ ap₂ (λ (a b : ℤ). beyond a b (4 * s.args.a.x1)) (to_z-of_z s.fits.x0) (to_z-of_z s.fits.x1)
+right : (c : lts.After-is_right tie.the-claims reads.Pre reads.Post tie.handed_clauses) → c.is_right.result ≡ beyond c.args.x0 c.args.x1 (4 * c.args.a.x1)
+right c = c.is_right.ensures ∙ ap₂ (λ (a b : ℤ). beyond a b (4 * c.args.a.x1)) (to_z-of_z c.ranges.x0) (to_z-of_z c.ranges.x1)
 
 along : (c : lts.After-is_alongside tie.the-claims reads.Pre reads.Post tie.handed_clauses) {t : Bool} → c.is_alongside.result ≡ t
-    → alongside (edge (s c.before.before).args.x0 (s c.before.before).args.y0 (s c.before.before).args.x1 (s c.before.before).args.y1)
-    (s c.before.before).args.a ≡ t
+    → alongside (edge c.args.x0 c.args.y0 c.args.x1 c.args.y1)
+    c.args.a ≡ t
 along c e =
-    let f = (s c.before.before).fits in
+    let f = c.ranges in
     rw (to_z-of_z f.x0, to_z-of_z f.y0, to_z-of_z f.x1, to_z-of_z f.y1) at (sym c.is_alongside.ensures ∙ e)
 
 pub returns-then-needed-eq0 : goal.returns-then-needed-eq0

@@ -22,82 +22,81 @@ use Rattle.coverage.proofs.Steep.{Begins, columns_straight, rise_asks, small_tur
 use Rattle.coverage.proofs.Turn.{Added, added_none, added_low, added_rows, added_all}
 use borrow.Author.Rules.{rules}
 use Rattle.coverage.proofs.edges.add_rows.Goals as goal
+use Rattle.coverage.proofs.edges.add_rows.Tie as tie
+use Rattle.coverage.proofs.edges.add_rows.Lts as lts
+use Rattle.coverage.proofs.edges.add_rows.Reads as reads
 
-module _ (c : tie.Start) where
-  abbrev wide : ℕ
-  wide = length c.args.cover.now
+abbrev wide : (c : lts.Start tie.the-claims reads.Pre reads.Post tie.handed_clauses) → ℕ
+wide c = length c.args.cover.now
 
-  -- the sums with the first r sample rows
-  abbrev Upto : ℕ → List ℤ → List ℕ → Type 0
-  Upto r v d = Added c.args.n wide c.args.c c.args.y c.args.scratch.now (edges_of c.args.scratch.now c.args.i) c.args.e r v d
+-- the sums with the first r sample rows
+abbrev Upto : (c : lts.Start tie.the-claims reads.Pre reads.Post tie.handed_clauses) → ℕ → List ℤ → List ℕ → Type 0
+Upto c r v d = Added c.args.n (wide c) c.args.c c.args.y c.args.scratch.now (edges_of c.args.scratch.now c.args.i) c.args.e r v d
 
-  none : Upto 0 c.args.scratch.now c.args.cover.now
-  none =
-      added_none c.args.n wide c.args.c c.args.y c.args.scratch.now c.requires.1.0.0.room c.args.i c.args.e c.requires.1.0.1
-      c.args.cover.now refl c.requires.1.1.0 c.requires.1.1.1
+none : (c : lts.Start tie.the-claims reads.Pre reads.Post tie.handed_clauses) → (Upto c) 0 c.args.scratch.now c.args.cover.now
+none c =
+    added_none c.args.n (wide c) c.args.c c.args.y c.args.scratch.now c.requires.edges.0.room c.args.i c.args.e c.requires.edges.1
+    c.args.cover.now refl c.requires.scratch_value c.requires.marked
 
-  few : length (edges_of c.args.scratch.now c.args.i) < 1000000
-  few = omega (arith, tab_length c.args.i (edge_at c.args.scratch.now), c.requires.0.0, c.requires.1.0.0.few)
+few : (c : lts.Start tie.the-claims reads.Pre reads.Post tie.handed_clauses) → length (edges_of c.args.scratch.now c.args.i) < 1000000
+few c = omega (arith, tab_length c.args.i (edge_at c.args.scratch.now), c.requires.i_lt_n.0, c.requires.edges.0.few)
 
-  small : Small c.args.e
-  small = subst Small (sym c.requires.1.0.1) (c.requires.1.0.0.small c.args.i c.requires.0.0)
+small : (c : lts.Start tie.the-claims reads.Pre reads.Post tie.handed_clauses) → Small c.args.e
+small c = subst Small (sym c.requires.edges.1) (c.requires.edges.0.small c.args.i c.requires.i_lt_n.0)
 
-  -- where the count begins in the row Y, and in the sample row r
-  abbrev start_by : ℤ → Start
-  start_by Y = start_of c.args.c (wide * 4) Y c.args.e
+-- where the count begins in the row Y, and in the sample row r
+abbrev start_by : (c : lts.Start tie.the-claims reads.Pre reads.Post tie.handed_clauses) → ℤ → Start
+start_by c Y = start_of c.args.c ((wide c) * 4) Y c.args.e
 
-  abbrev start_in : ℕ → Start
-  start_in r = start_by (sample (4 * c.args.y + r))
+abbrev start_in : (c : lts.Start tie.the-claims reads.Pre reads.Post tie.handed_clauses) → ℕ → Start
+start_in c r = (start_by c) (sample (4 * c.args.y + r))
 
-  -- a sample row, as it is handed on
-  module _ (r n : ℕ) (h : r < 4) (q : n ≡ 64 * (4 * c.args.y + r) + 32) where
-    line : to_z w32 n ≡ sample (4 * c.args.y + r)
-    line = ap (to_z w32) q ∙ to_z_pos w32 (omega (arith, h, c.requires.0.1))
+-- a sample row, as it is handed on
+line : (c : lts.Start tie.the-claims reads.Pre reads.Post tie.handed_clauses) → (r n : ℕ) → (h : r < 4) → (q : n ≡ 64 * (4 * c.args.y + r) + 32) → to_z w32 n ≡ sample (4 * c.args.y + r)
+line c r n h q = ap (to_z w32) q ∙ to_z_pos w32 (omega (arith, h, c.requires.i_lt_n.1))
 
-    asks : Small c.args.e × ((nat_abs (to_z w32 n) ≤ 8388608) × (c.args.c + wide * 4 < 2 ^ 31))
-    asks = (
-      small,
-      (subst (λ (z : ℤ). nat_abs z ≤ 8388608) (sym line) (omega (arith, h, c.requires.0.1)), omega (arith, c.requires.0.2)),
-    )
+asks : (c : lts.Start tie.the-claims reads.Pre reads.Post tie.handed_clauses) → (r n : ℕ) → (h : r < 4) → (q : n ≡ 64 * (4 * c.args.y + r) + 32) → Small c.args.e × ((nat_abs (to_z w32 n) ≤ 8388608) × (c.args.c + (wide c) * 4 < 2 ^ 31))
+asks c r n h q = (
+  (small c),
+  (subst (λ (z : ℤ). nat_abs z ≤ 8388608) (sym ((line c) r n h q)) (omega (arith, h, c.requires.i_lt_n.1)), omega (arith, c.requires.i_lt_n.2)),
+)
 
-    found : (s : Start) → s ≡ start_by (to_z w32 n) → s ≡ start_in r
-    found s o = o ∙ ap start_by line
+found : (c : goal.After-put_rows-arg-3-1) → (r n : ℕ) → (h : r < 4) → (q : n ≡ 64 * (4 * c.args.y + r) + 32) → (s : Start) → s ≡ (start_by c.before.before.before.before.before.before.before.before.before.before.before.before.before.before.before.before.before) (to_z w32 n) → s ≡ (start_in c.before.before.before.before.before.before.before.before.before.before.before.before.before.before.before.before.before) r
+found c r n h q s o = o ∙ ap (start_by c.before.before.before.before.before.before.before.before.before.before.before.before.before.before.before.before.before) ((line c.before.before.before.before.before.before.before.before.before.before.before.before.before.before.before.before.before) r n h q)
 
-  -- what begins in it may be added
-  module _ (r : ℕ) (h : r < 4) (s : Start) (q : s ≡ start_in r) where
-    unit : nat_abs s.by ≤ 1
-    unit = by_small c.args.c (wide * 4) (sample (4 * c.args.y + r)) c.args.e s q
+-- what begins in it may be added
+unit : (c : lts.Start tie.the-claims reads.Pre reads.Post tie.handed_clauses) → (r : ℕ) → (h : r < 4) → (s : Start) → (q : s ≡ (start_in c) r) → nat_abs s.by ≤ 1
+unit c r h s q = by_small c.args.c ((wide c) * 4) (sample (4 * c.args.y + r)) c.args.e s q
 
-    fit : Fits c.args.scratch.now (c.args.n * 4) wide r s
-    fit = (
-      unit,
-      λ i. added_low c.args.n wide c.args.c c.args.y c.args.scratch.now c.requires.1.0.0.room
-          (edges_of c.args.scratch.now c.args.i) c.args.e 0 c.args.scratch.now c.args.cover.now none few (s.at * 4 + r)
-          (omega (arith, h, i)),
-    )
+fit : (c : lts.Start tie.the-claims reads.Pre reads.Post tie.handed_clauses) → (r : ℕ) → (h : r < 4) → (s : Start) → (q : s ≡ (start_in c) r) → Fits c.args.scratch.now (c.args.n * 4) (wide c) r s
+fit c r h s q = (
+  ((unit c) r h s q),
+  λ i. added_low c.args.n (wide c) c.args.c c.args.y c.args.scratch.now c.requires.edges.0.room
+      (edges_of c.args.scratch.now c.args.i) c.args.e 0 c.args.scratch.now c.args.cover.now (none c) (few c) (s.at * 4 + r)
+      (omega (arith, h, i)),
+)
 
-  -- what begins in all four may be added, and is all that the edge begins
-  module _ (s u v t : Start) (q0 : s ≡ start_in 0) (q1 : u ≡ start_in 1) (q2 : v ≡ start_in 2) (q3 : t ≡ start_in 3) where
-    fit_all : FitRows c.args.scratch.now (c.args.n * 4) wide s u v t
-    fit_all = (fit 0 (omega arith) s q0, fit 1 (omega arith) u q1, fit 2 (omega arith) v q2, fit 3 (omega arith) t q3)
+-- what begins in all four may be added, and is all that the edge begins
+fit_all : (c : lts.Start tie.the-claims reads.Pre reads.Post tie.handed_clauses) → (s u v t : Start) → (q0 : s ≡ (start_in c) 0) → (q1 : u ≡ (start_in c) 1) → (q2 : v ≡ (start_in c) 2) → (q3 : t ≡ (start_in c) 3) → FitRows c.args.scratch.now (c.args.n * 4) (wide c) s u v t
+fit_all c s u v t q0 q1 q2 q3 = ((fit c) 0 (omega arith) s q0, (fit c) 1 (omega arith) u q1, (fit c) 2 (omega arith) v q2, (fit c) 3 (omega arith) t q3)
 
-    all-added : (z : List ℤ) (m : List ℕ) → z ≡ put_rows (c.args.n * 4) wide s u v t c.args.scratch.now
-        → m ≡ mark_rows (s.at / 4) (u.at / 4) (v.at / 4) (t.at / 4) c.args.cover.now
-        → (z ≡ with_sums c.args.n wide c.args.c c.args.y (c.args.i + 1) c.args.scratch.now)
-        × Marked m (sums_at c.args.c (wide * 4) c.args.y (edges_of c.args.scratch.now (c.args.i + 1)))
-    all-added z m o p =
-        let a = c.args in
-        let room = c.requires.1.0.0.room in
-        added_all a.n wide a.c a.y a.scratch.now room a.i a.e c.requires.1.0.1 m 4 z refl
-        (added_rows a.n wide a.c a.y a.scratch.now room (edges_of a.scratch.now a.i) a.e s u v t q0 q1 q2 q3 a.scratch.now z
-        a.cover.now m o p none)
+all-added : (c : lts.Start tie.the-claims reads.Pre reads.Post tie.handed_clauses) → (s u v t : Start) → (q0 : s ≡ (start_in c) 0) → (q1 : u ≡ (start_in c) 1) → (q2 : v ≡ (start_in c) 2) → (q3 : t ≡ (start_in c) 3) → (z : List ℤ) (m : List ℕ) → z ≡ put_rows (c.args.n * 4) (wide c) s u v t c.args.scratch.now
+    → m ≡ mark_rows (s.at / 4) (u.at / 4) (v.at / 4) (t.at / 4) c.args.cover.now
+    → (z ≡ with_sums c.args.n (wide c) c.args.c c.args.y (c.args.i + 1) c.args.scratch.now)
+    × Marked m (sums_at c.args.c ((wide c) * 4) c.args.y (edges_of c.args.scratch.now (c.args.i + 1)))
+all-added c s u v t q0 q1 q2 q3 z m o p =
+    let a = c.args in
+    let room = c.requires.edges.0.room in
+    added_all a.n (wide c) a.c a.y a.scratch.now room a.i a.e c.requires.edges.1 m 4 z refl
+    (added_rows a.n (wide c) a.c a.y a.scratch.now room (edges_of a.scratch.now a.i) a.e s u v t q0 q1 q2 q3 a.scratch.now z
+    a.cover.now m o p (none c))
 
-  -- the first and the last sample row
-  first : to_z w32 (256 * c.args.y + 32) ≡ sample (4 * c.args.y + 0)
-  first = line 0 (256 * c.args.y + 32) (omega arith) (omega arith)
+-- the first and the last sample row
+first : (c : lts.Start tie.the-claims reads.Pre reads.Post tie.handed_clauses) → to_z w32 (256 * c.args.y + 32) ≡ sample (4 * c.args.y + 0)
+first c = (line c) 0 (256 * c.args.y + 32) (omega arith) (omega arith)
 
-  last : to_z w32 (256 * c.args.y + 224) ≡ sample (4 * c.args.y + 3)
-  last = line 3 (256 * c.args.y + 224) (omega arith) (omega arith)
+last : (c : lts.Start tie.the-claims reads.Pre reads.Post tie.handed_clauses) → to_z w32 (256 * c.args.y + 224) ≡ sample (4 * c.args.y + 3)
+last c = (line c) 3 (256 * c.args.y + 224) (omega arith) (omega arith)
 
 -- ---- an edge that goes past all four sample rows, up
 up : (c : goal.After-put_columns-arg-then-passes-2-1)
@@ -151,19 +150,19 @@ begins-down c =
 
 first_at : (c : goal.After-put_rows-arg-3-1) → c.start-s.result ≡ start_in c.before.before.before.before.before.before.before.before.before.before.before.before.before.before.before.before.before 0
 first_at c =
-    found c.before.before.before.before.before.before.before.before.before.before.before.before.before.before.before.before.before 0 (256 * c.args.y + 32) (omega arith) (omega arith) c.start-s.result c.start-s.ensures
+    found c 0 (256 * c.args.y + 32) (omega arith) (omega arith) c.start-s.result c.start-s.ensures
 
 last-at : (c : goal.After-put_rows-arg-3-1) → c.start-t.result ≡ start_in c.before.before.before.before.before.before.before.before.before.before.before.before.before.before.before.before.before 3
 last-at c =
-    found c.before.before.before.before.before.before.before.before.before.before.before.before.before.before.before.before.before 3 (256 * c.args.y + 224) (omega arith) (omega arith) c.start-t.result c.start-t.ensures
+    found c 3 (256 * c.args.y + 224) (omega arith) (omega arith) c.start-t.result c.start-t.ensures
 
 second_at : (c : goal.After-put_rows-arg-3-1) → c.start-u.result ≡ start_in c.before.before.before.before.before.before.before.before.before.before.before.before.before.before.before.before.before 1
 second_at c =
-    found c.before.before.before.before.before.before.before.before.before.before.before.before.before.before.before.before.before 1 (256 * c.args.y + 96) (omega arith) (omega arith) c.start-u.result c.start-u.ensures
+    found c 1 (256 * c.args.y + 96) (omega arith) (omega arith) c.start-u.result c.start-u.ensures
 
 third_at : (c : goal.After-put_rows-arg-3-1) → c.start-v.result ≡ start_in c.before.before.before.before.before.before.before.before.before.before.before.before.before.before.before.before.before 2
 third_at c =
-    found c.before.before.before.before.before.before.before.before.before.before.before.before.before.before.before.before.before 2 (256 * c.args.y + 160) (omega arith) (omega arith) c.start-v.result c.start-v.ensures
+    found c 2 (256 * c.args.y + 160) (omega arith) (omega arith) c.start-v.result c.start-v.ensures
 
 pub rise-requires : goal.rise-requires
 rise-requires c =

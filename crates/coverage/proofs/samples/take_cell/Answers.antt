@@ -20,23 +20,22 @@ low-four s i k = (size i k, size (i + 1) (omega arith), size (i + 2) (omega arit
         whole : (b j : ℕ) → b ≤ j → b + (j - b) ≡ j
         whole b j k = omega arith
 
-module _ (s : tie.Start) where
-  abbrev column : Windings → ℕ → Windings
-  column z i = column_from z s.args.sums.now i
+abbrev column : (s : goal.Start) → Windings → ℕ → Windings
+column s z i = column_from z s.args.sums.now i
 
-  first : {z : Windings} → z ≡ last_of s.args.z → Sized 1000000 z
-  first e =
-      subst (λ (v : Windings). Sized 1000000 v) (sym e)
-      (record { a = s.pre.0.1.a; b = s.pre.0.1.b; c = s.pre.0.1.c; d = s.pre.0.1.d })
+first : (s : goal.Start) → {z : Windings} → z ≡ last_of s.args.z → Sized 1000000 z
+first s e =
+    subst (λ (v : Windings). Sized 1000000 v) (sym e)
+    (record { a = s.requires.p_in_bounds.1.a; b = s.requires.p_in_bounds.1.b; c = s.requires.p_in_bounds.1.c; d = s.requires.p_in_bounds.1.d })
 
-  next : {n : ℕ} {z w : Windings} (i : ℕ) → s.args.p * 16 ≤ i → Sized n z → w ≡ column z i → Sized (n + 1000000) w
-  next i k h e = column_sized s.args.sums.now i h (low-four s i k) e
+next : (s : goal.Start) → {n : ℕ} {z w : Windings} (i : ℕ) → s.args.p * 16 ≤ i → Sized n z → w ≡ (column s) z i → Sized (n + 1000000) w
+next s i k h e = column_sized s.args.sums.now i h (low-four s i k) e
 
-  second : {z t : Windings} → z ≡ last_of s.args.z → t ≡ column z (s.args.p * 16) → Sized 2000000 t
-  second e f = next (s.args.p * 16) (omega arith) (first e) f
+second : (s : goal.Start) → {z t : Windings} → z ≡ last_of s.args.z → t ≡ (column s) z (s.args.p * 16) → Sized 2000000 t
+second s e f = (next s) (s.args.p * 16) (omega arith) ((first s) e) f
 
-  third : {z t u : Windings} → z ≡ last_of s.args.z → t ≡ column z (s.args.p * 16) → u ≡ column t (s.args.p * 16 + 4) → Sized 3000000 u
-  third e f g = next (s.args.p * 16 + 4) (omega arith) (second e f) g
+third : (s : goal.Start) → {z t u : Windings} → z ≡ last_of s.args.z → t ≡ (column s) z (s.args.p * 16) → u ≡ (column s) t (s.args.p * 16 + 4) → Sized 3000000 u
+third s e f g = (next s) (s.args.p * 16 + 4) (omega arith) ((second s) e f) g
 
 larger : {n : ℕ} {z : Windings} → n ≤ 4000000 → Sized n z → Sized 4000000 z
 larger k h = record { a = omega (arith, h.a); b = omega (arith, h.b); c = omega (arith, h.c); d = omega (arith, h.d) }

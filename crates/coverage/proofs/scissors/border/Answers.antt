@@ -11,44 +11,40 @@ use Rattle.coverage.proofs.Borders.{lt_column, all_left, all_inside, all_right}
 use borrow.Author.Rules.{rules, sfits_of}
 use Rattle.coverage.proofs.scissors.border.Goals as goal
 
-module _ (c : tie.After-struct-told2) where
-  abbrev entry : tie.Start
-  entry = c.before.before
+start_fits : (c : goal.After-struct_told-2-1) → SFits w64 c.args.s.start
+start_fits c = sfits_of c.struct_told-1.given.0.1
 
-  start_fits : SFits w64 entry.args.s.start
-  start_fits = sfits_of c.before.struct_told.given.0.1
+stop-fits : (c : goal.After-struct_told-2-1) → SFits w64 c.args.s.end
+stop-fits c = sfits_of c.struct_told-1.given.1.0.1
 
-  stop-fits : SFits w64 entry.args.s.end
-  stop-fits = sfits_of c.before.struct_told.given.1.0.1
-
-  column-small : entry.args.x < 2 ^ 31
-  column-small = omega (arith, entry.pre)
+column-small : (c : goal.After-struct_told-2-1) → c.args.x < 2 ^ 31
+column-small c = omega (arith, c.requires)
 
 pub nearer-requires : goal.nearer-requires
 nearer-requires c =
-    let a = (entry c.before).args in (
+    let a = c.args in (
       ap (lt_z (pos a.x)) (to_z-of_z (start_fits c.before)) ∙ lt_column a.x a.s.start (start_fits c.before) (column-small c.before) c.if-x-start.true,
-      (entry c.before).requires.0,
-      (entry c.before).requires.1,
+      c.requires.0,
+      c.requires.1,
     )
 
 pub returns-then-x-start : goal.returns-then-x-start
 returns-then-x-start c =
-    let a = (entry c.before.before).args in
+    let a = c.args in
     let n = c.nearer in
     record { lower_bound = (n.ensures.0, n.ensures.1); by_index = all_left a.s a.x n.result n.ensures.0 (ap (le_z (pos n.result)) (sym (to_z-of_z (start_fits c.before.before))) ∙ n.ensures.2) }
 
 pub nearer-requires-then-x-stop : goal.nearer-requires-then-x-stop
 nearer-requires-then-x-stop c =
-    let a = (entry c.before.before).args in (
+    let a = c.args in (
       ap (lt_z (pos a.x)) (to_z-of_z (stop-fits c.before.before)) ∙ lt_column a.x a.s.end (stop-fits c.before.before) (column-small c.before.before) c.if-x-stop.true,
-      (entry c.before.before).requires.0,
-      (entry c.before.before).requires.1,
+      c.requires.0,
+      c.requires.1,
     )
 
 pub returns-then-x-stop : goal.returns-then-x-stop
 returns-then-x-stop c =
-    let a = (entry c.before.before.before).args in
+    let a = c.args in
     let n = c.nearer-then-x-stop in
     record {
       lower_bound = (n.ensures.0, n.ensures.1);
@@ -58,5 +54,5 @@ returns-then-x-stop c =
 
 pub returns : goal.returns
 returns c =
-    let a = (entry c.before.before).args in
-    record { lower_bound = ((entry c.before.before).requires.0, omega arith); by_index = all_right a.s a.x a.end (entry c.before.before).requires.0 (lt_column a.x a.s.end (stop-fits c.before.before) (column-small c.before.before) c.if-x-stop.false) }
+    let a = c.args in
+    record { lower_bound = (c.requires.0, omega arith); by_index = all_right a.s a.x a.end c.requires.0 (lt_column a.x a.s.end (stop-fits c.before.before) (column-small c.before.before) c.if-x-stop.false) }

@@ -11,12 +11,12 @@ use Rattle.coverage.proofs.Borders.{column_lt, is_nearer, not_nearer, column_fit
 use borrow.Author.Rules.{rules}
 use Rattle.coverage.proofs.scissors.nearer.Goals as goal
 
-module _ (c : tie.Start) where
-  test : {t : Bool} → lt_z (to_z w64 (of_z w64 c.args.column)) (to_z w64 c.args.end) ≡ t → lt_z c.args.column (pos c.args.end) ≡ t
-  test e = column_lt c.args.column c.args.end c.ranges.column (omega (arith, c.requires)) e
+-- the test of the two columns, and the first of them read back
+test : (c : goal.Start) → {t : Bool} → lt_z (to_z w64 (of_z w64 c.args.column)) (to_z w64 c.args.end) ≡ t → lt_z c.args.column (pos c.args.end) ≡ t
+test c e = column_lt c.args.column c.args.end c.ranges.column (omega (arith, c.requires)) e
 
-  same : to_z w64 (of_z w64 c.args.column) ≡ c.args.column
-  same = to_z-of_z c.ranges.column
+same : (c : goal.Start) → to_z w64 (of_z w64 c.args.column) ≡ c.args.column
+same c = to_z-of_z c.ranges.column
 
 pub overflow_cast-result : goal.overflow_cast-result
 overflow_cast-result c =

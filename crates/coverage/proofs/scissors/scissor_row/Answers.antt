@@ -12,37 +12,32 @@ use Rattle.coverage.proofs.Rectangles.{spans_are, four_same}
 use Rattle.coverage.proofs.Borders.{pixel, stretch_cut}
 use borrow.Author.Rules.{rules}
 use Rattle.coverage.proofs.scissors.scissor_row.Goals as goal
+use Rattle.coverage.proofs.scissors.scissor_row.Tie as tie
+use Rattle.coverage.proofs.scissors.scissor_row.Lts as lts
+use Rattle.coverage.proofs.scissors.scissor_row.Reads as reads
 
-module _ (c : tie.After-span4 invariant-loop decreases-loop) where
-  abbrev entry : tie.Start invariant-loop decreases-loop
-  entry = c.before.before.before.before.before.before
+abbrev columns-held : (c : lts.After-span4 tie.the-claims reads.Pre reads.Post goal.the-invariant-loop-i goal.the-decreases-loop-i tie.handed_clauses) → ℕ → Bool
+columns-held c x =
+    in_span c.span-a.result x || in_span c.span-b.result x
+    || in_span c.span-c.result x || in_span c.span-d.result x
 
-  abbrev columns-held : ℕ → Bool
-  columns-held x =
-      in_span c.before.before.before.span.result x || in_span c.before.before.span2.result x
-      || in_span c.before.span3.result x || in_span c.span4.result x
+held : (c : lts.After-span4 tie.the-claims reads.Pre reads.Post goal.the-invariant-loop-i goal.the-decreases-loop-i tie.handed_clauses) → (x : ℕ) → (columns-held c) x ≡ in_scissors c.args.scissors.now c.args.n x c.args.y
+held c x =
+    four_same x c.span-a.ensures c.span-b.ensures c.span-c.ensures c.span-d.ensures
+    ∙ spans_are c.args.scissors.now c.args.n x c.args.y c.requires.n_bound.0
 
-  held : (x : ℕ) → columns-held x ≡ in_scissors entry.args.scissors.now entry.args.n x entry.args.y
-  held x =
-      four_same x c.before.before.before.span.ensures c.before.before.span2.ensures c.before.span3.ensures c.span4.ensures
-      ∙ spans_are entry.args.scissors.now entry.args.n x entry.args.y entry.pre.0.0
+abbrev x : (c : lts.After-nearest_border tie.the-claims reads.Pre reads.Post goal.the-invariant-loop-i goal.the-decreases-loop-i tie.handed_clauses) → ℕ
+x c = c.args.x
 
-module _ (c : tie.After-nearest-border invariant-loop decreases-loop) where
-  abbrev at-loop : tie.At-loop invariant-loop decreases-loop
-  at-loop = c.before.before
+abbrev e : (c : lts.After-nearest_border tie.the-claims reads.Pre reads.Post goal.the-invariant-loop-i goal.the-decreases-loop-i tie.handed_clauses) → ℕ
+e c = c.nearest_border.result - (x c)
 
-  abbrev x : ℕ
-  x = (entry at-loop.before).args.x
+within : (c : lts.After-nearest_border tie.the-claims reads.Pre reads.Post goal.the-invariant-loop-i goal.the-decreases-loop-i tie.handed_clauses) → (c.loop-i.i < (e c)) × ((e c) ≤ length c.args.cover.now)
+within c = (omega (arith, c.nearest_border.ensures.lower_bound), omega (arith, c.nearest_border.ensures.lower_bound, c.loop-i.inv.1))
 
-  abbrev e : ℕ
-  e = c.nearest-border.result - x
-
-  within : (at-loop.loop.i < e) × (e ≤ length (entry at-loop.before).args.cover.now)
-  within = (omega (arith, c.nearest-border.ensures.0), omega (arith, c.nearest-border.ensures.0, at-loop.loop.inv.1))
-
-  alike : (keep : Bool) → keep ≡ columns-held at-loop.before (x + at-loop.loop.i) → (m : ℕ) → at-loop.loop.i ≤ m → m < e
-      → keep ≡ in_scissors (entry at-loop.before).args.scissors.now (entry at-loop.before).args.n (x + m) (entry at-loop.before).args.y
-  alike keep q m g l = q ∙ sym (c.nearest-border.ensures.1 (x + m) (omega (arith, g)) (omega (arith, l))) ∙ held at-loop.before (x + m)
+alike : (c : lts.After-nearest_border tie.the-claims reads.Pre reads.Post goal.the-invariant-loop-i goal.the-decreases-loop-i tie.handed_clauses) → (keep : Bool) → keep ≡ columns-held c.before.before.before ((x c) + c.loop-i.i) → (m : ℕ) → c.loop-i.i ≤ m → m < (e c)
+    → keep ≡ in_scissors c.args.scissors.now c.args.n ((x c) + m) c.args.y
+alike c keep q m g l = q ∙ sym (c.nearest_border.ensures.by_index ((x c) + m) (omega (arith, g)) (omega (arith, l))) ∙ held c.before.before.before ((x c) + m)
 
 pub loop-i-init : goal.loop-i-init
 loop-i-init c =
@@ -50,7 +45,7 @@ loop-i-init c =
 
 pub nearest_border-requires : goal.nearest_border-requires
 nearest_border-requires c =
-    (omega arith, omega (arith, c.loop-i.invariant, (entry c.before.before.before).pre))
+    (omega arith, omega (arith, c.loop-i.invariant, c.requires))
 
 pub loop-i-smaller : goal.loop-i-smaller
 loop-i-smaller c =
@@ -58,11 +53,10 @@ loop-i-smaller c =
 
 pub loop-i-preserved : goal.loop-i-preserved
 loop-i-preserved c =
-    let turn = at-loop c.before.before.before.before.before.before in
-    let a = (entry turn.before).args in
+    let a = c.args in
     let laid =
-    stretch_cut a.scissors.now a.n a.x a.y a.cover.now turn.loop.cover c.cut.new.part turn.loop.i (e c.before.before.before.before.before.before)
-    c.kept-keep.result (omega (arith, within c.before.before.before.before.before.before)) (within c.before.before.before.before.before.before).1 turn.loop.inv.1 turn.loop.inv.2
+    stretch_cut a.scissors.now a.n a.x a.y a.cover.now c.loop-i.cover c.cut.new.part c.loop-i.i (e c.before.before.before.before.before.before)
+    c.kept-keep.result (omega (arith, within c.before.before.before.before.before.before)) (within c.before.before.before.before.before.before).1 c.loop-i.inv.1 c.loop-i.inv.2
     (alike c.before.before.before.before.before.before c.kept-keep.result c.kept-keep.ensures) c.cut.ensures
     in (
       (within c.before.before.before.before.before.before).1,
@@ -75,6 +69,6 @@ loop-i-preserved c =
 
 pub returns : goal.returns
 returns c =
-    let a = (entry c.before.before.before).args in
+    let a = c.args in
     tab_all (pixel a.scissors.now a.n a.x a.y a.cover.now) c.loop-i.cover a.cover.now c.loop-i.i
     (length a.cover.now) c.loop-i.invariant.2 (omega arith) refl

@@ -34,45 +34,38 @@ below : (c : lts.After-least tie.the-claims reads.Pre reads.Post goal.the-invari
     (y ≤ c.least-end.result) × (c.least-end.result ≤ y1)
 below c = (omega (arith, c.least-end.ensures, c.loop-y-test.true), omega (arith, c.least-end.ensures))
 
-module _ (c : tie.After-filter-edges invariant-loop decreases-loop) where
-  abbrev at-loop : tie.At-loop invariant-loop decreases-loop
-  at-loop = c.before.before.before.before.before
+abbrev before : (c : lts.After-filter_edges tie.the-claims reads.Pre reads.Post goal.the-invariant-loop-y goal.the-decreases-loop-y tie.handed_clauses) → List ℕ
+before c = c.loop-y.numbers
 
-  abbrev entry : tie.Start invariant-loop decreases-loop
-  entry = at-loop.before.before.before.before.before.before.before.before.before.before
+abbrev list : (c : lts.After-filter_edges tie.the-claims reads.Pre reads.Post goal.the-invariant-loop-y goal.the-decreases-loop-y tie.handed_clauses) → List ℕ
+list c = c.filter_edges-listed.new.list
 
-  abbrev before : List ℕ
-  before = at-loop.loop.numbers
+abbrev edges : (c : lts.After-filter_edges tie.the-claims reads.Pre reads.Post goal.the-invariant-loop-y goal.the-decreases-loop-y tie.handed_clauses) → ℕ
+edges c = c.args.fill.style.edges
 
-  abbrev list : List ℕ
-  list = c.filter-edges.new.1.1.1.1.0
+room : (c : lts.After-filter_edges tie.the-claims reads.Pre reads.Post goal.the-invariant-loop-y goal.the-decreases-loop-y tie.handed_clauses) → ramp_numbers + (edges c) ≤ length (before c)
+room c = omega (arith, c.loop-y.inv.3, c.requires.outlined.1)
 
-  abbrev edges : ℕ
-  edges = entry.args.fill.style.edges
+long : (c : lts.After-filter_edges tie.the-claims reads.Pre reads.Post goal.the-invariant-loop-y goal.the-decreases-loop-y tie.handed_clauses) → length (list c) ≡ (edges c)
+long c = c.filter_edges-listed.auto.list ∙ part_length (before c) ramp_numbers (ramp_numbers + (edges c)) (omega arith) (room c) ∙ omega arith
 
-  room : ramp_numbers + edges ≤ length before
-  room = omega (arith, at-loop.loop.inv.3, entry.pre.0.1)
+abbrev numbers : (c : lts.After-filter_edges tie.the-claims reads.Pre reads.Post goal.the-invariant-loop-y goal.the-decreases-loop-y tie.handed_clauses) → List ℕ
+numbers c = take ramp_numbers (before c) ++ ((list c) ++ drop (ramp_numbers + (edges c) - ramp_numbers) (drop ramp_numbers (before c)))
 
-  long : length list ≡ edges
-  long = c.filter-edges.auto.1.1.1.1.0 ∙ part_length before ramp_numbers (ramp_numbers + edges) (omega arith) room ∙ omega arith
+kept : (c : lts.After-filter_edges tie.the-claims reads.Pre reads.Post goal.the-invariant-loop-y goal.the-decreases-loop-y tie.handed_clauses) → take ramp_numbers (numbers c) ≡ take ramp_numbers c.args.numbers.now
+kept c = ramp_kept (before c) (list c) (edges c) (room c) (long c) ∙ c.loop-y.inv.2
 
-  abbrev numbers : List ℕ
-  numbers = take ramp_numbers before ++ (list ++ drop (ramp_numbers + edges - ramp_numbers) (drop ramp_numbers before))
-
-  kept : take ramp_numbers numbers ≡ take ramp_numbers entry.args.numbers.now
-  kept = ramp_kept before list edges room long ∙ at-loop.loop.inv.2
-
-  listed : (ramp_numbers + c.filter-edges.result ≤ length numbers)
-      × Band at-loop.loop.scratch edges at-loop.loop.y c.before.before.before.least.result
-      (take c.filter-edges.result (drop ramp_numbers numbers))
-  listed =
-      let few = c.filter-edges.ensures.0.0 in
-      let same = back_length before list ramp_numbers (ramp_numbers + edges) (omega arith) room (long ∙ omega arith) in (
-        omega (arith, few, room, same),
-        subst (Band at-loop.loop.scratch edges at-loop.loop.y c.before.before.before.least.result)
-            (sym (list_given before list edges room long c.filter-edges.result few))
-            c.filter-edges.ensures.1,
-      )
+listed : (c : lts.After-filter_edges tie.the-claims reads.Pre reads.Post goal.the-invariant-loop-y goal.the-decreases-loop-y tie.handed_clauses) → (ramp_numbers + c.filter_edges-listed.result ≤ length (numbers c))
+    × Band c.loop-y.scratch (edges c) c.loop-y.y c.least-end.result
+    (take c.filter_edges-listed.result (drop ramp_numbers (numbers c)))
+listed c =
+    let few = c.filter_edges-listed.ensures.upper_bound.0 in
+    let same = back_length (before c) (list c) ramp_numbers (ramp_numbers + (edges c)) (omega arith) (room c) ((long c) ∙ omega arith) in (
+      omega (arith, few, (room c), same),
+      subst (Band c.loop-y.scratch (edges c) c.loop-y.y c.least-end.result)
+          (sym (list_given (before c) (list c) (edges c) (room c) (long c) c.filter_edges-listed.result few))
+          c.filter_edges-listed.ensures.band,
+    )
 
 pub overflow_add-last : goal.overflow_add-last
 overflow_add-last c =

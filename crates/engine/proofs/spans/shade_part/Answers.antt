@@ -16,37 +16,37 @@ use Rattle.engine.proofs.spans.shade_part.Tie as tie
 use Rattle.engine.proofs.spans.shade_part.Lts as lts
 use Rattle.engine.proofs.spans.shade_part.Reads as reads
 
-module _ (c : tie.Start) where
-  part : PartOfRow c.args.runs.now c.args.part c.args.strip.length
-  part = c.requires.1.0.1
+-- the runs of the part
+part : (c : lts.Start tie.the-claims reads.Pre reads.Post tie.handed_clauses) → PartOfRow c.args.runs.now c.args.part c.args.strip.length
+part c = c.requires.on_surface.1
 
-  low : start_of c.args.runs.now c.args.part.from ≤ start_of c.args.runs.now c.args.part.to
-  low = starts_rise c.args.runs.now c.args.part.to part.0.rises c.args.part.from c.args.part.to part.1 (omega arith)
+low : (c : lts.Start tie.the-claims reads.Pre reads.Post tie.handed_clauses) → start_of c.args.runs.now c.args.part.from ≤ start_of c.args.runs.now c.args.part.to
+low c = starts_rise c.args.runs.now c.args.part.to (part c).0.rises c.args.part.from c.args.part.to (part c).1 (omega arith)
 
-  high : c.args.strip.x + start_of c.args.runs.now c.args.part.to ≤ 1024
-  high = omega (arith, part.3, c.requires.1.0.0.1)
+high : (c : lts.Start tie.the-claims reads.Pre reads.Post tie.handed_clauses) → c.args.strip.x + start_of c.args.runs.now c.args.part.to ≤ 1024
+high c = omega (arith, (part c).3, c.requires.on_surface.0.1)
 
-  room : start_of c.args.runs.now c.args.part.to * 4 ≤ length c.args.buffer.now
-  room = omega (arith, part.3, c.requires.1.1.1)
+room : (c : lts.Start tie.the-claims reads.Pre reads.Post tie.handed_clauses) → start_of c.args.runs.now c.args.part.to * 4 ≤ length c.args.buffer.now
+room c = omega (arith, (part c).3, c.requires.row_len.1)
 
-module _ (c : tie.After-start2) where
-  abbrev long : ℕ
-  long = (c.start2.result - c.before.start.result) * 4
+-- the bytes of its paint, which is made at the start of the buffer
+abbrev long : (c : lts.After-start2 tie.the-claims reads.Pre reads.Post tie.handed_clauses) → ℕ
+long c = (c.start-e.result - c.start-a.result) * 4
 
-  abbrev behind : List ℕ
-  behind = drop (long - 0) c.before.before.before.before.before.before.args.buffer.now
+abbrev behind : (c : lts.After-start2 tie.the-claims reads.Pre reads.Post tie.handed_clauses) → List ℕ
+behind c = drop ((long c) - 0) c.args.buffer.now
 
-  all : long - 0 ≡ long
-  all = omega arith
+all : (c : lts.After-start2 tie.the-claims reads.Pre reads.Post tie.handed_clauses) → (long c) - 0 ≡ (long c)
+all c = omega arith
 
-  within : long ≤ length c.before.before.before.before.before.before.args.buffer.now
-  within = omega (arith, c.start2.ensures, room c.before.before.before.before.before.before)
+within : (c : lts.After-start2 tie.the-claims reads.Pre reads.Post tie.handed_clauses) → (long c) ≤ length c.args.buffer.now
+within c = omega (arith, c.start-e.ensures, room c.before.before.before.before.before.before)
 
-  rising : c.before.start.result ≤ c.start2.result
-  rising = omega (arith, c.start2.ensures, c.before.start.ensures, low c.before.before.before.before.before.before)
+rising : (c : lts.After-start2 tie.the-claims reads.Pre reads.Post tie.handed_clauses) → c.start-a.result ≤ c.start-e.result
+rising c = omega (arith, c.start-e.ensures, c.start-a.ensures, low c.before.before.before.before.before.before)
 
-  on : c.before.before.before.before.before.before.args.strip.x + c.start2.result ≤ 1024
-  on = omega (arith, c.start2.ensures, high c.before.before.before.before.before.before)
+on : (c : lts.After-start2 tie.the-claims reads.Pre reads.Post tie.handed_clauses) → c.args.strip.x + c.start-e.result ≤ 1024
+on c = omega (arith, c.start-e.ensures, high c.before.before.before.before.before.before)
 
 -- the paint that is given back
 painted : (c : lts.After-gradient_row tie.the-claims reads.Pre reads.Post tie.handed_clauses) → length c.gradient_row.new.paints ≡ long c.before.before.before

@@ -14,47 +14,47 @@ use Rattle.engine.specs.Rows.{gradient_tinted}
 use Rattle.engine.proofs.Parts.{stepped, first_covered, stored_past, stored_through, stored_whole}
 use borrow.Author.Rules.{rules}
 use Rattle.engine.proofs.spans.shade_parts.Goals as goal
+use Rattle.engine.proofs.spans.shade_parts.Tie as tie
+use Rattle.engine.proofs.spans.shade_parts.Lts as lts
+use Rattle.engine.proofs.spans.shade_parts.Reads as reads
 
-module _ (c : tie.Start invariant-loop decreases-loop) where
-  -- the paint of the ith pixel
-  abbrev paint : ℕ → Pixel
-  paint i = gradient_tinted c.args.g c.args.ramp.now (c.args.strip.x + i) c.args.strip.y
+-- the paint of the ith pixel
+abbrev paint : (c : lts.Start tie.the-claims reads.Pre reads.Post goal.the-invariant-loop-j goal.the-decreases-loop-j tie.handed_clauses) → ℕ → Pixel
+paint c i = gradient_tinted c.args.g c.args.ramp.now (c.args.strip.x + i) c.args.strip.y
 
-  made : Runs c.args.runs.now c.args.count c.args.strip.length
-  made = c.requires.1.1.0
+made : (c : lts.Start tie.the-claims reads.Pre reads.Post goal.the-invariant-loop-j goal.the-decreases-loop-j tie.handed_clauses) → Runs c.args.runs.now c.args.count c.args.strip.length
+made c = c.requires.row_coverage.0
 
-  few : c.args.count ≤ length c.args.runs.now
-  few = omega (arith, runs_few c.args.runs.now c.args.count c.args.strip.length made, c.requires.1.0.2)
+few : (c : lts.Start tie.the-claims reads.Pre reads.Post goal.the-invariant-loop-j goal.the-decreases-loop-j tie.handed_clauses) → c.args.count ≤ length c.args.runs.now
+few c = omega (arith, runs_few c.args.runs.now c.args.count c.args.strip.length (made c), c.requires.on_surface.2)
 
-  -- where a run begins
-  within : (j : ℕ) → j ≤ c.args.count → start_of c.args.runs.now j ≤ c.args.strip.length
-  within = first_within c.args.runs.now c.args.count c.args.strip.length made
+-- where a run begins
+within : (c : lts.Start tie.the-claims reads.Pre reads.Post goal.the-invariant-loop-j goal.the-decreases-loop-j tie.handed_clauses) → (j : ℕ) → j ≤ c.args.count → start_of c.args.runs.now j ≤ c.args.strip.length
+within c = first_within c.args.runs.now c.args.count c.args.strip.length (made c)
 
-module _ (c : tie.After-covered-to invariant-loop decreases-loop) where
-  abbrev lent : List ℕ
-  lent = c.before.before.before.before.before.before.before.before.args.runs.now
+-- the runs of a turn's part
+abbrev lent : (c : lts.After-covered_to tie.the-claims reads.Pre reads.Post goal.the-invariant-loop-j goal.the-decreases-loop-j tie.handed_clauses) → List ℕ
+lent c = c.args.runs.now
 
-  low : c.before.before.loop.j ≤ c.covered-to.result
-  low = omega (arith, c.covered-to.ensures.0)
+low : (c : lts.After-covered_to tie.the-claims reads.Pre reads.Post goal.the-invariant-loop-j goal.the-decreases-loop-j tie.handed_clauses) → c.loop-j.j ≤ c.covered_to-m.result
+low c = omega (arith, c.covered_to-m.ensures.0)
 
-  rise : start_of lent c.before.before.loop.j ≤ start_of lent c.covered-to.result
-  rise =
-      let entry = c.before.before.before.before.before.before.before.before in
-      let m = c.covered-to in
-      starts_rise lent entry.args.count (made entry).rises c.before.before.loop.j m.result low m.ensures.1
+rise : (c : lts.After-covered_to tie.the-claims reads.Pre reads.Post goal.the-invariant-loop-j goal.the-decreases-loop-j tie.handed_clauses) → start_of (lent c) c.loop-j.j ≤ start_of (lent c) c.covered_to-m.result
+rise c =
+    let m = c.covered_to-m in
+    starts_rise (lent c) c.args.count (made c.before.before.before.before.before.before.before.before).rises c.loop-j.j m.result (low c) m.ensures.1
 
-  -- where it ends
-  end : start_of lent c.covered-to.result ≤ c.before.before.before.before.before.before.before.before.args.strip.length
-  end = within c.before.before.before.before.before.before.before.before c.covered-to.result c.covered-to.ensures.1
+-- where it ends
+end : (c : lts.After-covered_to tie.the-claims reads.Pre reads.Post goal.the-invariant-loop-j goal.the-decreases-loop-j tie.handed_clauses) → start_of (lent c) c.covered_to-m.result ≤ c.args.strip.length
+end c = within c.before.before.before.before.before.before.before.before c.covered_to-m.result c.covered_to-m.ensures.1
 
-module _ (c : tie.After-start2 invariant-loop decreases-loop) where
-  rising : c.before.start.result ≤ c.start2.result
-  rising = omega (arith, c.start2.ensures, c.before.start.ensures, rise c.before.before)
+-- and its pixels
+rising : (c : lts.After-start2 tie.the-claims reads.Pre reads.Post goal.the-invariant-loop-j goal.the-decreases-loop-j tie.handed_clauses) → c.start-from.result ≤ c.start-to.result
+rising c = omega (arith, c.start-to.ensures, c.start-from.ensures, rise c.before.before)
 
-  ends : c.start2.result * 4 ≤ length c.before.before.before.before.loop.row
-  ends =
-      let entry = c.before.before.before.before.before.before.before.before.before.before in
-      omega (arith, c.start2.ensures, end c.before.before, c.before.before.before.before.loop.invariant.2.long, entry.requires.1.0.1)
+ends : (c : lts.After-start2 tie.the-claims reads.Pre reads.Post goal.the-invariant-loop-j goal.the-decreases-loop-j tie.handed_clauses) → c.start-to.result * 4 ≤ length c.loop-j.row
+ends c =
+    omega (arith, c.start-to.ensures, end c.before.before, c.loop-j.invariant.2.long, c.requires.on_surface.1)
 
 pub covered_from-j-requires : goal.covered_from-j-requires
 covered_from-j-requires c =

@@ -15,16 +15,16 @@ use Rattle.outline.proofs.curve.cut_point.Goals as goal
 kept : (z : ℤ) → nat_abs z ≤ 8388608 → nat_abs (to_z w32 (of_z w32 z)) ≤ 8388608
 kept z h = rw (clean w32 8388608 z tt h) h
 
-module _ (a b c d : ℤ) (i : nat_abs a ≤ 8388608) (j : nat_abs b ≤ 8388608) (k : nat_abs c ≤ 8388608) (l : nat_abs d ≤ 8388608) where
-  asked : (nat_abs (to_z w32 (of_z w32 a)) ≤ 8388608) × (nat_abs (to_z w32 (of_z w32 b)) ≤ 8388608)
-      × (nat_abs (to_z w32 (of_z w32 c)) ≤ 8388608) × (nat_abs (to_z w32 (of_z w32 d)) ≤ 8388608)
-  asked = (kept a i, kept b j, kept c k, kept d l)
+-- one axis: its four numbers, as the locals hold them, and what is blended from them
+asked : (a b c d : ℤ) → (i : nat_abs a ≤ 8388608) → (j : nat_abs b ≤ 8388608) → (k : nat_abs c ≤ 8388608) → (l : nat_abs d ≤ 8388608) → (nat_abs (to_z w32 (of_z w32 a)) ≤ 8388608) × (nat_abs (to_z w32 (of_z w32 b)) ≤ 8388608)
+    × (nat_abs (to_z w32 (of_z w32 c)) ≤ 8388608) × (nat_abs (to_z w32 (of_z w32 d)) ≤ 8388608)
+asked a b c d i j k l = (kept a i, kept b j, kept c k, kept d l)
 
-  told : (degree : ℕ) (w v : Weights) (r : ℤ) → mag r < 2 ^ 31 → w ≡ v
-      → r ≡ blended degree w (to_z w32 (of_z w32 a)) (to_z w32 (of_z w32 b)) (to_z w32 (of_z w32 c)) (to_z w32 (of_z w32 d))
-      → to_z w32 (of_z w32 r) ≡ blended degree v a b c d
-  told degree w v r h f e =
-      back w32 r h ∙ e ∙ rw (clean w32 8388608 a tt i, clean w32 8388608 b tt j, clean w32 8388608 c tt k, clean w32 8388608 d tt l, f)
+told : (a b c d : ℤ) → (i : nat_abs a ≤ 8388608) → (j : nat_abs b ≤ 8388608) → (k : nat_abs c ≤ 8388608) → (l : nat_abs d ≤ 8388608) → (degree : ℕ) (w v : Weights) (r : ℤ) → mag r < 2 ^ 31 → w ≡ v
+    → r ≡ blended degree w (to_z w32 (of_z w32 a)) (to_z w32 (of_z w32 b)) (to_z w32 (of_z w32 c)) (to_z w32 (of_z w32 d))
+    → to_z w32 (of_z w32 r) ≡ blended degree v a b c d
+told a b c d i j k l degree w v r h f e =
+    back w32 r h ∙ e ∙ rw (clean w32 8388608 a tt i, clean w32 8388608 b tt j, clean w32 8388608 c tt k, clean w32 8388608 d tt l, f)
 
 pub blend-requires : goal.blend-requires
 blend-requires c =

@@ -23,12 +23,12 @@ near : (c : lts.After-base tie.the-claims reads.Pre reads.Post tie.handed_clause
 near c =
     subst Near (sym c.base-base.ensures) (near_base c.args.byte c.args.walk.pen c.requires.0.held)
 
-module _ (split : tie.After-split) (k : ℕ) where
-  kind : split.split.result.command ≡ k → (entry split).args.byte / 2 ≡ k
-  kind e = sym (ap (λ (s : Segment). s.command) split.split.ensures) ∙ e
+-- what the segment is, by the command
+kind : (split : lts.After-split tie.the-claims reads.Pre reads.Post tie.handed_clauses) → (k : ℕ) → split.split-s.result.command ≡ k → split.args.byte / 2 ≡ k
+kind split k e = sym (ap (λ (s : Segment). s.command) split.split-s.ensures) ∙ e
 
-  enough : split.split.result.command ≡ k → 2 * ((entry split).args.walk.used + taken_by k) ≤ length (entry split).args.coordinates.now
-  enough e = let s = entry split in enough_at s.args.coordinates.now s.args.walk s.args.byte k s.pre.0 (kind e)
+enough : (split : lts.After-split tie.the-claims reads.Pre reads.Post tie.handed_clauses) → (k : ℕ) → split.split-s.result.command ≡ k → 2 * (split.args.walk.used + taken_by k) ≤ length split.args.coordinates.now
+enough split k e = enough_at split.args.coordinates.now split.args.walk split.args.byte k split.requires.0 ((kind split k) e)
 
 vertical : (c : lts.At-match-rest tie.the-claims reads.Pre reads.Post tie.handed_clauses) → c.split-s.result.command ≡ 4
 vertical c = omega (arith, kind c.before _ refl)

@@ -38,12 +38,11 @@ used : (from : lts.After-base tie.the-claims reads.Pre reads.Post tie.handed_cla
     → r ≡ traced_as (from.args.walk.used + coordinates_taken from.args.byte) pen₂ curve₂
 used from r pen pen₂ curve curve₂ e p q = e ∙ (λ i. traced_as (from.args.walk.used + from.taken.ensures.0 i) (p i) (q i))
 
-module _ (split : tie.After-split) (k : ℕ) where
-  kind : split.split.result.command ≡ k → (entry (based split)).args.byte / 2 ≡ k
-  kind e = sym (ap (λ (s : Segment). s.command) split.split.ensures) ∙ e
+kind : (split : lts.After-split tie.the-claims reads.Pre reads.Post tie.handed_clauses) → (k : ℕ) → split.split-s.result.command ≡ k → split.args.byte / 2 ≡ k
+kind split k e = sym (ap (λ (s : Segment). s.command) split.split-s.ensures) ∙ e
 
-  enough : split.split.result.command ≡ k → 2 * ((entry (based split)).args.walk.used + taken_by k) ≤ length (entry (based split)).args.coordinates.now
-  enough e = let s = entry (based split) in enough_at s.args.coordinates.now s.args.walk s.args.byte k s.pre.0 (kind e)
+enough : (split : lts.After-split tie.the-claims reads.Pre reads.Post tie.handed_clauses) → (k : ℕ) → split.split-s.result.command ≡ k → 2 * (split.args.walk.used + taken_by k) ≤ length split.args.coordinates.now
+enough split k e = enough_at split.args.coordinates.now split.args.walk split.args.byte k split.requires.0 ((kind split k) e)
 
 smooth-cubic : (arm : lts.At-match-rest tie.the-claims reads.Pre reads.Post tie.handed_clauses) → arm.split-s.result.command ≡ 8
 smooth-cubic arm =

@@ -19,24 +19,24 @@ use Rattle.scene.proofs.rules.draw_rules.Reads as reads
 abbrev code : FieldFault → ℕ
 code f = f.code
 
-module _ (entry : tie.Start) where
-  abbrev draw : List ℕ
-  draw = entry.args.d.now
+-- ---- the rules up to a stage, with what follows them
+abbrev draw : (entry : lts.Start tie.the-claims reads.Pre reads.Post tie.handed_clauses) → List ℕ
+draw entry = entry.args.d.now
 
-  abbrev from-head : FieldFault → FieldFault
-  from-head rest = or_else (head_rules entry.args.lent entry.args.edition draw) rest
+abbrev from-head : (entry : lts.Start tie.the-claims reads.Pre reads.Post tie.handed_clauses) → FieldFault → FieldFault
+from-head entry rest = or_else (head_rules entry.args.lent entry.args.edition (draw entry)) rest
 
-  abbrev to-floats : FieldFault → FieldFault
-  to-floats rest = from-head (or_else (float_rules draw) rest)
+abbrev to-floats : (entry : lts.Start tie.the-claims reads.Pre reads.Post tie.handed_clauses) → FieldFault → FieldFault
+to-floats entry rest = (from-head entry) (or_else (float_rules (draw entry)) rest)
 
-  abbrev to-lists : FieldFault → FieldFault
-  to-lists rest = to-floats (or_else (list_rules draw) rest)
+abbrev to-lists : (entry : lts.Start tie.the-claims reads.Pre reads.Post tie.handed_clauses) → FieldFault → FieldFault
+to-lists entry rest = (to-floats entry) (or_else (list_rules (draw entry)) rest)
 
-  abbrev to-transform : FieldFault → FieldFault
-  to-transform rest = to-lists (or_else (transform_rules entry.args.edition draw) rest)
+abbrev to-transform : (entry : lts.Start tie.the-claims reads.Pre reads.Post tie.handed_clauses) → FieldFault → FieldFault
+to-transform entry rest = (to-lists entry) (or_else (transform_rules entry.args.edition (draw entry)) rest)
 
-  abbrev to-flat : FieldFault → FieldFault
-  to-flat rest = to-transform (or_else (flat_rule draw) rest)
+abbrev to-flat : (entry : lts.Start tie.the-claims reads.Pre reads.Post tie.handed_clauses) → FieldFault → FieldFault
+to-flat entry rest = (to-transform entry) (or_else (flat_rule (draw entry)) rest)
 
 past_head : (headed : lts.Else1 tie.the-claims reads.Pre reads.Post tie.handed_clauses) (f rest : FieldFault) → f ≡ rest → f ≡ from-head headed.before.before.before.before rest
 past_head headed f rest e =

@@ -16,28 +16,21 @@ use Rattle.scene.proofs.rules.path_rules.Tie as tie
 use Rattle.scene.proofs.rules.path_rules.Lts as lts
 use Rattle.scene.proofs.rules.path_rules.Reads as reads
 
-module _ (walked : tie.After-check) where
-  abbrev entry : tie.Start
-  entry = walked.before.before.before.before.before.before
+abbrev draw : (walked : lts.After-check tie.the-claims reads.Pre reads.Post tie.handed_clauses) → List ℕ
+draw walked = walked.args.d.now
 
-  abbrev draw : List ℕ
-  draw = entry.args.d.now
+abbrev edition : (walked : lts.After-check tie.the-claims reads.Pre reads.Post tie.handed_clauses) → ℕ
+edition walked = walked.args.edition
 
-  abbrev edition : ℕ
-  edition = entry.args.edition
+answer : (walked : lts.After-check tie.the-claims reads.Pre reads.Post tie.handed_clauses) → walked.check-checked.result ≡ checked_to (fixed_matrix (matrix_of (draw walked))) (segments_of (draw walked)) (coordinates_of (edition walked) (draw walked)) (segment_count (draw walked))
+answer walked =
+    checked_of (edition walked) (draw walked) _ _ _ _ walked.check-checked.result
+    walked.fixed_matrix.ensures walked.segments.ensures walked.coordinates.ensures walked.segment_count-n.ensures.0
+    walked.check-checked.ensures
 
-  answer : walked.check.result ≡ checked_to (fixed_matrix (matrix_of draw)) (segments_of draw) (coordinates_of edition draw) (segment_count draw)
-  answer =
-      let coordinates = walked.before in
-      let segments = coordinates.before in
-      let matrix = segments.before in
-      checked_of edition draw _ _ _ _ walked.check.result
-      matrix.fixed-matrix.ensures segments.segments.ensures coordinates.coordinates.ensures matrix.before.segment-count.ensures.0
-      walked.check.ensures
-
-  -- the segment of a fault
-  segment : walked.check.result.fault.segment ≤ segment_limit
-  segment = omega (arith, path_segment edition draw walked.check.result answer, entry.pre.0.1)
+-- the segment of a fault
+segment : (walked : lts.After-check tie.the-claims reads.Pre reads.Post tie.handed_clauses) → walked.check-checked.result.fault.segment ≤ segment_limit
+segment walked = omega (arith, path_segment (edition walked) (draw walked) walked.check-checked.result (answer walked), walked.requires.d_len.1)
 
 -- the coordinates used, where there is none
 used : (c : lts.After-struct_known3 tie.the-claims reads.Pre reads.Post tie.handed_clauses) → c.coordinates_at.result + 2 * c.check-checked.result.used ≤ draw_bytes
@@ -45,7 +38,7 @@ used c =
     omega (
       arith,
       c.coordinates_at.ensures.0,
-      path_used (edition c.before.before.before.before.before) (draw c.before.before.before.before.before) c.check-checked.result (answer c.before.before.before.before.before) c.if-fault-ne-ACCEPTED.false (entry c.before.before.before.before.before).requires.0.0,
+      path_used (edition c.before.before.before.before.before) (draw c.before.before.before.before.before) c.check-checked.result (answer c.before.before.before.before.before) c.if-fault-ne-ACCEPTED.false c.requires.d_len.0,
     )
 
 pub check-checked-requires : goal.check-checked-requires
