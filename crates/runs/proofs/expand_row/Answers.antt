@@ -14,10 +14,10 @@ use Rattle.runs.proofs.expand_row.Lts as lts
 use Rattle.runs.proofs.expand_row.Reads as reads
 
 -- the run of the turn lies within the row
-rises : (c : lts.Start tie.the-claims reads.Pre reads.Post goal.the-invariant-loop-j goal.the-decreases-loop-j tie.handed_clauses) → (j : ℕ) → j < c.args.n → start_of c.args.runs.now j < end_of c.args.runs.now j
+rises : (c : lts.Start tie.the-claims reads.Pre reads.Post goal.the-invariant-loop-j goal.the-decreases-loop-j) → (j : ℕ) → j < c.args.n → start_of c.args.runs.now j < end_of c.args.runs.now j
 rises c = c.requires.0.rises
 
-within : (c : lts.Start tie.the-claims reads.Pre reads.Post goal.the-invariant-loop-j goal.the-decreases-loop-j tie.handed_clauses) → (j : ℕ) → j < c.args.n → end_of c.args.runs.now j ≤ length c.args.row.now
+within : (c : lts.Start tie.the-claims reads.Pre reads.Post goal.the-invariant-loop-j goal.the-decreases-loop-j) → (j : ℕ) → j < c.args.n → end_of c.args.runs.now j ≤ length c.args.row.now
 within c = runs_within c.args.runs.now c.args.n (length c.args.row.now) c.requires.0
 
 pub loop-j-init : goal.loop-j-init

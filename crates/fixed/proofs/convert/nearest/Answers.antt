@@ -66,13 +66,13 @@ half_up-requires-else-neg c =
 pub returns-then-neg : goal.returns-then-neg
 returns-then-neg c =
     let a = c.args in
-    to_z-of_z (sfits_of c.half_up.type_inv) ∙ c.half_up.ensures
+    to_z-of_z {w = w64} (sfits_of c.half_up.type_inv) ∙ c.half_up.ensures
     ∙ ap (λ (z : ℤ). floor_div (z +ℤ pos (2 ^ a.s)) (2 * 2 ^ a.s)) ((keep w64 (minus c.before.before) tt).same ∙ neg_is (2 * (a.scale * a.m)))
     ∙ ap (λ (b : Bool). nearest_of b (a.scale * a.m) (2 ^ a.s)) (sym c.if-neg.true)
 
 pub returns-else-neg : goal.returns-else-neg
 returns-else-neg c =
     let a = c.args in
-    to_z-of_z (sfits_of c.half_up-else-neg.type_inv) ∙ c.half_up-else-neg.ensures
+    to_z-of_z {w = w64} (sfits_of c.half_up-else-neg.type_inv) ∙ c.half_up-else-neg.ensures
     ∙ ap (λ (z : ℤ). floor_div (z +ℤ pos (2 ^ a.s)) (2 * 2 ^ a.s)) (keep w64 (twice c.before.before) tt).same
     ∙ ap (λ (b : Bool). nearest_of b (a.scale * a.m) (2 ^ a.s)) (sym c.if-neg.false)

@@ -30,7 +30,7 @@ held : (c : goal.After-to_whole) → to_z w64 (of_z w64 c.to_whole.result) ≡ p
 held c =
     let a = c.args in
     let v = a.v in
-    to_z-of_z (sfits_of c.to_whole.type_inv) ∙ c.to_whole.ensures ∙ unit_nonneg 65536 v (unit c.before)
+    to_z-of_z {w = w64} (sfits_of c.to_whole.type_inv) ∙ c.to_whole.ensures ∙ unit_nonneg 65536 v (unit c.before)
 
 pub to_whole-requires : goal.to_whole-requires
 to_whole-requires c =

@@ -1,4 +1,5 @@
 -- `fixed::convert::to_whole` meets its contract.
+use mir.Syntax.{w64}
 use mathlib.Core.Path.{◌≡◌, ap, ◌∙◌}
 use Prim.Native.Nat.{◌≤◌}
 use lib.Dec.{lit≤}
@@ -29,4 +30,4 @@ scale_pattern-requires c =
 
 pub returns : goal.returns
 returns c =
-    to_z-of_z (sfits_of c.scale_pattern.type_inv) ∙ c.scale_pattern.ensures ∙ ap (scaled c.args.scale) (same c.before)
+    to_z-of_z {w = w64} (sfits_of c.scale_pattern.type_inv) ∙ c.scale_pattern.ensures ∙ ap (scaled c.args.scale) (same c.before)

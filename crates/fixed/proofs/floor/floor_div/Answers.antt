@@ -16,7 +16,7 @@ use Rattle.fixed.proofs.floor.floor_div.Tie as tie
 use Rattle.fixed.proofs.floor.floor_div.Lts as lts
 use Rattle.fixed.proofs.floor.floor_div.Reads as reads
 
-abbrev b : lts.Start reads.Pre reads.Post tie.handed_clauses → Num
+abbrev b : lts.Start reads.Pre reads.Post → Num
 b c = plain c.args.b c.ranges.b (is_positive c.requires)
 
 -- a is negative

@@ -18,10 +18,10 @@ use Rattle.fixed.proofs.floor.floor_mod.Tie as tie
 use Rattle.fixed.proofs.floor.floor_mod.Lts as lts
 use Rattle.fixed.proofs.floor.floor_mod.Reads as reads
 
-abbrev d : lts.Start reads.Pre reads.Post tie.handed_clauses → ℕ
+abbrev d : lts.Start reads.Pre reads.Post → ℕ
 d c = nat_abs c.args.b
 
-abbrev b : lts.Start reads.Pre reads.Post tie.handed_clauses → Num
+abbrev b : lts.Start reads.Pre reads.Post → Num
 b c = plain c.args.b c.ranges.b (is_positive c.requires)
 
 -- b - 1

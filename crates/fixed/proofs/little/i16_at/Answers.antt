@@ -11,11 +11,11 @@ use Rattle.fixed.proofs.little.i16_at.Tie as tie
 use Rattle.fixed.proofs.little.i16_at.Lts as lts
 use Rattle.fixed.proofs.little.i16_at.Reads as reads
 
-abbrev number : lts.After-twos_complement tie.the-claims reads.Pre reads.Post tie.handed_clauses → Num
+abbrev number : lts.After-twos_complement tie.the-claims reads.Pre reads.Post → Num
 number c =
     said (param w64 c.twos_complement.result (sfits_of c.twos_complement.type_inv)) (signed 32768 c.u16_at.result) c.twos_complement.ensures
 
-number_fits : (c : lts.After-twos_complement tie.the-claims reads.Pre reads.Post tie.handed_clauses) → SFits w16 (number c).int
+number_fits : (c : lts.After-twos_complement tie.the-claims reads.Pre reads.Post) → SFits w16 (number c).int
 number_fits c =
     let u16-at = c.u16_at in
     signed_fits w16 u16-at.result u16-at.ensures.1

@@ -12,12 +12,12 @@ use Rattle.fixed.proofs.little.i32_at.Tie as tie
 use Rattle.fixed.proofs.little.i32_at.Lts as lts
 use Rattle.fixed.proofs.little.i32_at.Reads as reads
 
-abbrev number : lts.After-twos_complement tie.the-claims reads.Pre reads.Post tie.handed_clauses → Num
+abbrev number : lts.After-twos_complement tie.the-claims reads.Pre reads.Post → Num
 number c =
     said (param w64 c.twos_complement.result (sfits_of c.twos_complement.type_inv)) (signed 2147483648 c.u32_at.result)
     c.twos_complement.ensures
 
-number_fits : (c : lts.After-twos_complement tie.the-claims reads.Pre reads.Post tie.handed_clauses) → SFits w32 (number c).int
+number_fits : (c : lts.After-twos_complement tie.the-claims reads.Pre reads.Post) → SFits w32 (number c).int
 number_fits c = signed_fits w32 c.u32_at.result (omega arith)
 
 pub overflow_cast-result : goal.overflow_cast-result

@@ -10,7 +10,7 @@ use Rattle.fixed.proofs.little.twos_complement.Tie as tie
 use Rattle.fixed.proofs.little.twos_complement.Lts as lts
 use Rattle.fixed.proofs.little.twos_complement.Reads as reads
 
-abbrev n : lts.Start reads.Pre reads.Post tie.handed_clauses → Num
+abbrev n : lts.Start reads.Pre reads.Post → Num
 n c = of_nat w64 c.args.n 4294967295 (omega arith) tt
 
 abbrev half : goal.Else-n-half → Num
