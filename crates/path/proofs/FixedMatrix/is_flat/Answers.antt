@@ -26,7 +26,7 @@ is_zero z f =
 abbrev entry : (z : ℤ) → nat_abs z ≤ 16777216 → Num
 entry z h = let w : Within 16777216 z = record { size = h } in small w64 16777216 z (fits tt w) w
 
-abbrev scales : lts.Start reads.Pre reads.Post tie.handed_clauses → Num
+abbrev scales : lts.Start reads.Pre reads.Post → Num
 scales c = mul (entry c.args.self.sx c.requires.sx) (entry c.args.self.sy c.requires.sy)
 
 abbrev shears : goal.After-struct_told-2-1 → Num

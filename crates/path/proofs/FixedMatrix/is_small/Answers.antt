@@ -8,7 +8,7 @@ use Rattle.path.proofs.FixedMatrix.is_small.Tie as tie
 use Rattle.path.proofs.FixedMatrix.is_small.Lts as lts
 use Rattle.path.proofs.FixedMatrix.is_small.Reads as reads
 
-across : (c : lts.After-axis_small tie.the-claims reads.Pre reads.Post tie.handed_clauses) → let m = c.args.self in c.axis_small.result ≡ axis_small m.sx m.shx m.tx
+across : (c : lts.After-axis_small tie.the-claims reads.Pre reads.Post) → let m = c.args.self in c.axis_small.result ≡ axis_small m.sx m.shx m.tx
 across c =
     let m = c.args.self in
     small_told m.sx m.shx m.tx c.requires.sx c.requires.shx c.requires.tx c.axis_small.result c.axis_small.ensures

@@ -12,7 +12,7 @@ use Rattle.path.proofs.FixedMatrix.reaches.Tie as tie
 use Rattle.path.proofs.FixedMatrix.reaches.Lts as lts
 use Rattle.path.proofs.FixedMatrix.reaches.Reads as reads
 
-across-small : (c : lts.After-on_grid tie.the-claims reads.Pre reads.Post tie.handed_clauses) → c.on_grid.result ≡ leb (nat_abs (transform c.args.self c.args.p).x) 8388608
+across-small : (c : lts.After-on_grid tie.the-claims reads.Pre reads.Post) → c.on_grid.result ≡ leb (nat_abs (transform c.args.self c.args.p).x) 8388608
 across-small c =
     let a = c.across in
     c.on_grid.ensures ∙ ap (λ (z : ℤ). leb (nat_abs z) 8388608) (back w64 a.result a.type_inv ∙ a.ensures)

@@ -8,7 +8,7 @@ use Rattle.path.proofs.Pen.base.Tie as tie
 use Rattle.path.proofs.Pen.base.Lts as lts
 use Rattle.path.proofs.Pen.base.Reads as reads
 
-flag : (c : lts.After-split tie.the-claims reads.Pre reads.Post tie.handed_clauses) → relative c.args.byte ≡ c.split-s.result.relative
+flag : (c : lts.After-split tie.the-claims reads.Pre reads.Post) → relative c.args.byte ≡ c.split-s.result.relative
 flag c = sym (ap (λ (s : Segment). s.relative) c.split-s.ensures)
 
 pub returns-then-s : goal.returns-then-s

@@ -11,7 +11,7 @@ use Rattle.path.proofs.rules.in_range.Tie as tie
 use Rattle.path.proofs.rules.in_range.Lts as lts
 use Rattle.path.proofs.rules.in_range.Reads as reads
 
-first : (c : lts.After-in_sixteen_bits tie.the-claims reads.Pre reads.Post tie.handed_clauses) → c.in_sixteen_bits.result ≡ in_sixteen_bits c.args.p.x
+first : (c : lts.After-in_sixteen_bits tie.the-claims reads.Pre reads.Post) → c.in_sixteen_bits.result ≡ in_sixteen_bits c.args.p.x
 first c =
     let a = c.args in
     let x : SFits w32 a.p.x = search rules in

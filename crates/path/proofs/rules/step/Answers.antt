@@ -20,35 +20,35 @@ use Rattle.path.proofs.rules.step.Lts as lts
 use Rattle.path.proofs.rules.step.Reads as reads
 
 -- the segment's code and the answer, of what the function was given
-abbrev code_of : lts.Start tie.the-claims reads.Pre reads.Post tie.handed_clauses → ℕ
+abbrev code_of : lts.Start tie.the-claims reads.Pre reads.Post → ℕ
 code_of s = let a = s.args in segment_code a.m a.coordinates.now a.walk a.byte
 
-abbrev answer : lts.Start tie.the-claims reads.Pre reads.Post tie.handed_clauses → Step
+abbrev answer : lts.Start tie.the-claims reads.Pre reads.Post → Step
 answer s = let a = s.args in step_of a.m a.coordinates.now a.walk a.byte
 
-illegal : (s : lts.Start tie.the-claims reads.Pre reads.Post tie.handed_clauses) → code_of s ≡ illegal_argument → Refused illegal_argument ≡ answer s
+illegal : (s : lts.Start tie.the-claims reads.Pre reads.Post) → code_of s ≡ illegal_argument → Refused illegal_argument ≡ answer s
 illegal s e = let a = s.args in step_refused a.m a.coordinates.now a.walk a.byte illegal_argument e (refuses illegal_argument refl)
 
-is-command : (split : lts.After-split tie.the-claims reads.Pre reads.Post tie.handed_clauses) → split.split-s.result.command ≡ split.args.byte / 2
+is-command : (split : lts.After-split tie.the-claims reads.Pre reads.Post) → split.split-s.result.command ≡ split.args.byte / 2
 is-command split = ap (λ (s : Segment). s.command) split.split-s.ensures
 
-segment : (c : lts.Else1 tie.the-claims reads.Pre reads.Post tie.handed_clauses) → c.args.byte < 18
+segment : (c : lts.Else1 tie.the-claims reads.Pre reads.Post) → c.args.byte < 18
 segment c = omega (arith, is-command c.before, c.if-command-ge-FIRST_ARC.false)
 
 -- ---- the coordinates
-there : (c : lts.After-struct_known tie.the-claims reads.Pre reads.Post tie.handed_clauses)
+there : (c : lts.After-struct_known tie.the-claims reads.Pre reads.Post)
     → 2 * c.args.walk.used ≤ length c.args.coordinates.now
 there c =
     c.requires.1.there
 
-enough : (c : lts.Else3 tie.the-claims reads.Pre reads.Post tie.handed_clauses) → 2 * (c.args.walk.used + coordinates_taken c.args.byte) ≤ length c.args.coordinates.now
+enough : (c : lts.Else3 tie.the-claims reads.Pre reads.Post) → 2 * (c.args.walk.used + coordinates_taken c.args.byte) ≤ length c.args.coordinates.now
 enough c =
     let taken = c.taken in
     let a = c.args in
     subst (λ (n : ℕ). 2 * (a.walk.used + n) ≤ length a.coordinates.now) taken.ensures.0 c.if-coordinates-walk.false
 
 -- they are judged
-judged : (c : lts.After-accepts tie.the-claims reads.Pre reads.Post tie.handed_clauses) → code_of c.before.before.before.before.before.before.before.before.before ≡ cond c.accepts.result accepted_code illegal_argument
+judged : (c : lts.After-accepts tie.the-claims reads.Pre reads.Post) → code_of c.before.before.before.before.before.before.before.before.before ≡ cond c.accepts.result accepted_code illegal_argument
 unfolding traced_by
 judged c =
     let trace = c.trace-t in

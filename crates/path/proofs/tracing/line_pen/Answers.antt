@@ -16,25 +16,25 @@ use Rattle.path.proofs.tracing.line_pen.Tie as tie
 use Rattle.path.proofs.tracing.line_pen.Lts as lts
 use Rattle.path.proofs.tracing.line_pen.Reads as reads
 
-abbrev coordinate : lts.After-split tie.the-claims reads.Pre reads.Post tie.handed_clauses → ℕ → ℤ
+abbrev coordinate : lts.After-split tie.the-claims reads.Pre reads.Post → ℕ → ℤ
 coordinate split = let a = split.args in coordinate_from a.coordinates.now a.walk.used
 
-near : (c : lts.After-base tie.the-claims reads.Pre reads.Post tie.handed_clauses) → Near c.base-base.result
+near : (c : lts.After-base tie.the-claims reads.Pre reads.Post) → Near c.base-base.result
 near c =
     subst Near (sym c.base-base.ensures) (near_base c.args.byte c.args.walk.pen c.requires.0.held)
 
 -- what the segment is, by the command
-kind : (split : lts.After-split tie.the-claims reads.Pre reads.Post tie.handed_clauses) → (k : ℕ) → split.split-s.result.command ≡ k → split.args.byte / 2 ≡ k
+kind : (split : lts.After-split tie.the-claims reads.Pre reads.Post) → (k : ℕ) → split.split-s.result.command ≡ k → split.args.byte / 2 ≡ k
 kind split k e = sym (ap (λ (s : Segment). s.command) split.split-s.ensures) ∙ e
 
-enough : (split : lts.After-split tie.the-claims reads.Pre reads.Post tie.handed_clauses) → (k : ℕ) → split.split-s.result.command ≡ k → 2 * (split.args.walk.used + taken_by k) ≤ length split.args.coordinates.now
+enough : (split : lts.After-split tie.the-claims reads.Pre reads.Post) → (k : ℕ) → split.split-s.result.command ≡ k → 2 * (split.args.walk.used + taken_by k) ≤ length split.args.coordinates.now
 enough split k e = enough_at split.args.coordinates.now split.args.walk split.args.byte k split.requires.0 ((kind split k) e)
 
-vertical : (c : lts.At-match-rest tie.the-claims reads.Pre reads.Post tie.handed_clauses) → c.split-s.result.command ≡ 4
+vertical : (c : lts.At-match-rest tie.the-claims reads.Pre reads.Post) → c.split-s.result.command ≡ 4
 vertical c = omega (arith, kind c.before _ refl)
 
 -- its point, by the definition of its base
-at_base : (split : lts.After-split tie.the-claims reads.Pre reads.Post tie.handed_clauses) (p : Point) → p ≡ pair_at split.base-base.result (coordinate split) 0
+at_base : (split : lts.After-split tie.the-claims reads.Pre reads.Post) (p : Point) → p ≡ pair_at split.base-base.result (coordinate split) 0
     → p ≡ pair_at (base split.args.byte split.args.walk.pen) (coordinate split) 0
 at_base split p e = e ∙ ap (λ (o : Point). pair_at o (coordinate split) 0) split.base-base.ensures
 

@@ -10,13 +10,13 @@ use Rattle.path.proofs.tracing.offset.Tie as tie
 use Rattle.path.proofs.tracing.offset.Lts as lts
 use Rattle.path.proofs.tracing.offset.Reads as reads
 
-abbrev o : lts.After-i16_at tie.the-claims reads.Pre reads.Post tie.handed_clauses → Num
+abbrev o : lts.After-i16_at tie.the-claims reads.Pre reads.Post → Num
 o c = small w32 32768 c.args.o c.ranges.o (record { size = c.requires.1 })
 
-abbrev coordinate : lts.After-i16_at tie.the-claims reads.Pre reads.Post tie.handed_clauses → Num
+abbrev coordinate : lts.After-i16_at tie.the-claims reads.Pre reads.Post → Num
 coordinate c = param w16 c.i16_at.result (sfits_of c.i16_at.type_inv)
 
-abbrev sum : lts.After-i16_at tie.the-claims reads.Pre reads.Post tie.handed_clauses → Num
+abbrev sum : lts.After-i16_at tie.the-claims reads.Pre reads.Post → Num
 sum c = add (o c) (keep w32 (coordinate c) tt)
 
 pub overflow_add-used : goal.overflow_add-used

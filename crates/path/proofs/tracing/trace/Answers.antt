@@ -9,7 +9,7 @@ use Rattle.path.proofs.tracing.trace.Tie as tie
 use Rattle.path.proofs.tracing.trace.Lts as lts
 use Rattle.path.proofs.tracing.trace.Reads as reads
 
-is-command : (c : lts.After-split tie.the-claims reads.Pre reads.Post tie.handed_clauses) → c.split-s.result.command ≡ c.args.byte / 2
+is-command : (c : lts.After-split tie.the-claims reads.Pre reads.Post) → c.split-s.result.command ≡ c.args.byte / 2
 is-command c = ap (λ (s : Segment). s.command) c.split-s.ensures
 
 pub trace_line-requires : goal.trace_line-requires

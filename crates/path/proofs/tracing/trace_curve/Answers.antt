@@ -19,32 +19,32 @@ use Rattle.path.proofs.tracing.trace_curve.Tie as tie
 use Rattle.path.proofs.tracing.trace_curve.Lts as lts
 use Rattle.path.proofs.tracing.trace_curve.Reads as reads
 
-abbrev coordinate : lts.After-base tie.the-claims reads.Pre reads.Post tie.handed_clauses → ℕ → ℤ
+abbrev coordinate : lts.After-base tie.the-claims reads.Pre reads.Post → ℕ → ℤ
 coordinate from = let a = from.args in coordinate_from a.coordinates.now a.walk.used
 
-near : (from : lts.After-base tie.the-claims reads.Pre reads.Post tie.handed_clauses) → Near from.base-base.result
+near : (from : lts.After-base tie.the-claims reads.Pre reads.Post) → Near from.base-base.result
 near from =
     subst Near (sym from.base-base.ensures) (near_base from.args.byte from.args.walk.pen from.requires.0.held)
 
-abbrev pointAt : lts.After-base tie.the-claims reads.Pre reads.Post tie.handed_clauses → ℕ → Point
+abbrev pointAt : lts.After-base tie.the-claims reads.Pre reads.Post → ℕ → Point
 pointAt from j = let a = from.args in pair_at (base a.byte a.walk.pen) (coordinate from) j
 
-at_base : (from : lts.After-base tie.the-claims reads.Pre reads.Post tie.handed_clauses) (j : ℕ) (p : Point) → p ≡ pair_at from.base-base.result (coordinate from) j → p ≡ pointAt from j
+at_base : (from : lts.After-base tie.the-claims reads.Pre reads.Post) (j : ℕ) (p : Point) → p ≡ pair_at from.base-base.result (coordinate from) j → p ≡ pointAt from j
 at_base from j p e = e ∙ ap (λ (o : Point). pair_at o (coordinate from) j) from.base-base.ensures
 
 -- what is returned, by how many coordinates are used
-used : (from : lts.After-base tie.the-claims reads.Pre reads.Post tie.handed_clauses) (r : Traced) (pen pen₂ : Pen) (curve curve₂ : Curve)
+used : (from : lts.After-base tie.the-claims reads.Pre reads.Post) (r : Traced) (pen pen₂ : Pen) (curve curve₂ : Curve)
     → r ≡ traced_as (from.args.walk.used + from.taken.result) pen curve → pen ≡ pen₂ → curve ≡ curve₂
     → r ≡ traced_as (from.args.walk.used + coordinates_taken from.args.byte) pen₂ curve₂
 used from r pen pen₂ curve curve₂ e p q = e ∙ (λ i. traced_as (from.args.walk.used + from.taken.ensures.0 i) (p i) (q i))
 
-kind : (split : lts.After-split tie.the-claims reads.Pre reads.Post tie.handed_clauses) → (k : ℕ) → split.split-s.result.command ≡ k → split.args.byte / 2 ≡ k
+kind : (split : lts.After-split tie.the-claims reads.Pre reads.Post) → (k : ℕ) → split.split-s.result.command ≡ k → split.args.byte / 2 ≡ k
 kind split k e = sym (ap (λ (s : Segment). s.command) split.split-s.ensures) ∙ e
 
-enough : (split : lts.After-split tie.the-claims reads.Pre reads.Post tie.handed_clauses) → (k : ℕ) → split.split-s.result.command ≡ k → 2 * (split.args.walk.used + taken_by k) ≤ length split.args.coordinates.now
+enough : (split : lts.After-split tie.the-claims reads.Pre reads.Post) → (k : ℕ) → split.split-s.result.command ≡ k → 2 * (split.args.walk.used + taken_by k) ≤ length split.args.coordinates.now
 enough split k e = enough_at split.args.coordinates.now split.args.walk split.args.byte k split.requires.0 ((kind split k) e)
 
-smooth-cubic : (arm : lts.At-match-rest tie.the-claims reads.Pre reads.Post tie.handed_clauses) → arm.split-s.result.command ≡ 8
+smooth-cubic : (arm : lts.At-match-rest tie.the-claims reads.Pre reads.Post) → arm.split-s.result.command ≡ 8
 smooth-cubic arm =
     omega (arith, kind arm.before _ refl, arm.requires.0.segment, arm.requires.1)
 
