@@ -35,6 +35,7 @@ use Rattle.path.proofs.Faults.{accepted_next, checked_accepted}
 
 two : (a b : Bool) → T a → T b → T (a && b)
 two true b h k = k
+two false b h k = elim h [ ]
 
 -- three points in range
 three : (p q r : Point) → T (in_range p) → T (in_range q) → T (in_range r) → T (in_range p && (in_range q && in_range r))

@@ -41,13 +41,12 @@ step-s-requires c =
 
 pub returns-in-Refused : goal.returns-in-Refused
 returns-in-Refused c =
-    let g = c.s-in-Refused-1.given in
     let l = c.loop-i in
     let test = c.loop-i-test in
     let a = c.args in
-    let r = from_refused a.m a.coordinates.now (walk_to a.segments.now a.coordinates.now l.i) (get_or a.segments.now l.i 0) g.0.0
-    (sym g.1 ∙ stepped c.before.before.before.before) in
-    checked_refused a.m a.segments.now a.coordinates.now l.i g.0.0 a.n test.true l.invariant.2 r.0 r.1
+    let r = from_refused a.m a.coordinates.now (walk_to a.segments.now a.coordinates.now l.i) (get_or a.segments.now l.i 0) c.in-Refused.code
+    (sym c.in-Refused.is ∙ stepped c.before.before) in
+    checked_refused a.m a.segments.now a.coordinates.now l.i c.in-Refused.code a.n test.true l.invariant.2 r.0 r.1
 
 pub overflow_add-i : goal.overflow_add-i
 overflow_add-i c =
@@ -60,11 +59,10 @@ loop-i-smaller c =
 pub loop-i-preserved : goal.loop-i-preserved
 unfolding traced_by
 loop-i-preserved c =
-    let g = c.s-1.given in
     let l = c.loop-i in
     let a = c.args in
-    let r = from_drawn a.m a.coordinates.now (walk_to a.segments.now a.coordinates.now l.i) (get_or a.segments.now l.i 0) g.0.0
-    (sym g.1 ∙ stepped c.before.before.before.before.before) in (
+    let r = from_drawn a.m a.coordinates.now (walk_to a.segments.now a.coordinates.now l.i) (get_or a.segments.now l.i 0) c.in-Drawn.t
+    (sym c.in-Drawn.is ∙ stepped c.before.before.before) in (
       omega arith,
       ap (λ (t : Traced). t.walk) r.1 ∙ ap (walk_to a.segments.now a.coordinates.now) (sym (add-one l.i)),
       ap (λ (n : ℕ). (fault_to a.m a.segments.now a.coordinates.now n).code) (add-one l.i)

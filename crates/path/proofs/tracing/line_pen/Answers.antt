@@ -30,9 +30,6 @@ kind split k e = sym (ap (λ (s : Segment). s.command) split.split-s.ensures) �
 enough : (split : lts.After-split tie.the-claims reads.Pre reads.Post) → (k : ℕ) → split.split-s.result.command ≡ k → 2 * (split.args.walk.used + taken_by k) ≤ length split.args.coordinates.now
 enough split k e = enough_at split.args.coordinates.now split.args.walk split.args.byte k split.requires.0 ((kind split k) e)
 
-vertical : (c : lts.At-match-rest tie.the-claims reads.Pre reads.Post) → c.split-s.result.command ≡ 4
-vertical c = omega (arith, kind c.before _ refl)
-
 -- its point, by the definition of its base
 at_base : (split : lts.After-split tie.the-claims reads.Pre reads.Post) (p : Point) → p ≡ pair_at split.base-base.result (coordinate split) 0
     → p ≡ pair_at (base split.args.byte split.args.walk.pen) (coordinate split) 0
@@ -40,38 +37,39 @@ at_base split p e = e ∙ ap (λ (o : Point). pair_at o (coordinate split) 0) sp
 
 pub pair_at-requires : goal.pair_at-requires
 pair_at-requires c =
-    (omega (arith, enough c.before.before 1 c.in-1.keys2), near c.before.before.before)
+    (omega (arith, enough c.before.before 1 c.in-1.is), near c.before.before.before)
 
 pub pair_at-requires-in-2 : goal.pair_at-requires-in-2
 pair_at-requires-in-2 c =
-    (omega (arith, enough c.before.before 2 c.in-2.keys3), near c.before.before.before)
+    (omega (arith, enough c.before.before 2 c.in-2.is), near c.before.before.before)
 
 pub offset-requires : goal.offset-requires
 offset-requires c =
-    (omega (arith, enough c.before.before.before 3 c.in-3.keys4), offset_asked c.base-base.result.x (near c.before.before.before.before).x)
+    (omega (arith, enough c.before.before.before 3 c.in-3.is), offset_asked c.base-base.result.x (near c.before.before.before.before).x)
 
 pub offset-requires-in_default : goal.offset-requires-in_default
 offset-requires-in_default c =
-    (omega (arith, enough c.before.before.before 4 (vertical c.before.before)), offset_asked c.base-base.result.y (near c.before.before.before.before).y)
+    let vertical : c.split-s.result.command ≡ 4 = omega (arith, kind c.before.before.before _ refl) in
+    (omega (arith, enough c.before.before.before 4 vertical), offset_asked c.base-base.result.y (near c.before.before.before.before).y)
 
 pub returns-in-0 : goal.returns-in-0
 returns-in-0 c =
     let a = c.args in
-    c.close.ensures ∙ pen_close a.walk.pen a.byte (coordinate c.before.before.before) (kind c.before.before.before 0 c.in-0.keys1)
+    c.close.ensures ∙ pen_close a.walk.pen a.byte (coordinate c.before.before.before) (kind c.before.before.before 0 c.in-0.is)
 
 pub returns-in-1 : goal.returns-in-1
 returns-in-1 c =
     let end = c.pair_at in
     let a = c.args in
     c.move_to.ensures
-    ∙ pen_move a.walk.pen a.byte (coordinate c.before.before.before.before) (kind c.before.before.before.before 1 c.in-1.keys2) end.result (at_base c.before.before.before.before end.result end.ensures)
+    ∙ pen_move a.walk.pen a.byte (coordinate c.before.before.before.before) (kind c.before.before.before.before 1 c.in-1.is) end.result (at_base c.before.before.before.before end.result end.ensures)
 
 pub returns-in-2 : goal.returns-in-2
 returns-in-2 c =
     let end = c.pair_at-in-2 in
     let a = c.args in
     c.line_to.ensures
-    ∙ pen_line a.walk.pen a.byte (coordinate c.before.before.before.before) (kind c.before.before.before.before 2 c.in-2.keys3) end.result (at_base c.before.before.before.before end.result end.ensures)
+    ∙ pen_line a.walk.pen a.byte (coordinate c.before.before.before.before) (kind c.before.before.before.before 2 c.in-2.is) end.result (at_base c.before.before.before.before end.result end.ensures)
 
 pub returns-in-3 : goal.returns-in-3
 returns-in-3 c =
@@ -79,14 +77,15 @@ returns-in-3 c =
     let a = c.args in
     let x = offset_told c.base-base.result.x (near c.before.before.before.before.before.before).x end.result (coordinate c.before.before.before.before.before 0) end.type_inv end.ensures in
     c.horizontal_to.ensures
-    ∙ pen_horizontal a.walk.pen a.byte (coordinate c.before.before.before.before.before) (kind c.before.before.before.before.before 3 c.in-3.keys4) _
+    ∙ pen_horizontal a.walk.pen a.byte (coordinate c.before.before.before.before.before) (kind c.before.before.before.before.before 3 c.in-3.is) _
     (x ∙ ap (λ (p : Point). p.x +ℤ coordinate c.before.before.before.before.before 0) c.base-base.ensures)
 
 pub returns-in_default : goal.returns-in_default
 returns-in_default c =
+    let vertical : c.split-s.result.command ≡ 4 = omega (arith, kind c.before.before.before.before.before _ refl) in
     let end = c.offset-in_default in
     let a = c.args in
     let y = offset_told c.base-base.result.y (near c.before.before.before.before.before.before).y end.result (coordinate c.before.before.before.before.before 0) end.type_inv end.ensures in
     c.vertical_to.ensures
-    ∙ pen_vertical a.walk.pen a.byte (coordinate c.before.before.before.before.before) (kind c.before.before.before.before.before 4 (vertical c.before.before.before.before)) _
+    ∙ pen_vertical a.walk.pen a.byte (coordinate c.before.before.before.before.before) (kind c.before.before.before.before.before 4 vertical) _
     (y ∙ ap (λ (p : Point). p.y +ℤ coordinate c.before.before.before.before.before 0) c.base-base.ensures)

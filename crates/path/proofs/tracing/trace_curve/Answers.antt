@@ -44,10 +44,6 @@ kind split k e = sym (ap (λ (s : Segment). s.command) split.split-s.ensures) �
 enough : (split : lts.After-split tie.the-claims reads.Pre reads.Post) → (k : ℕ) → split.split-s.result.command ≡ k → 2 * (split.args.walk.used + taken_by k) ≤ length split.args.coordinates.now
 enough split k e = enough_at split.args.coordinates.now split.args.walk split.args.byte k split.requires.0 ((kind split k) e)
 
-smooth-cubic : (arm : lts.At-match-rest tie.the-claims reads.Pre reads.Post) → arm.split-s.result.command ≡ 8
-smooth-cubic arm =
-    omega (arith, kind arm.before _ refl, arm.requires.0.segment, arm.requires.1)
-
 pub taken-requires : goal.taken-requires
 taken-requires c =
     let pre = c.requires in
@@ -64,15 +60,15 @@ pair_at-p-requires c =
 
 pub pair_at-q-requires : goal.pair_at-q-requires
 pair_at-q-requires c =
-    (omega (arith, enough c.before.before 5 c.in-5.keys1), near c.before.before.before.before)
+    (omega (arith, enough c.before.before 5 c.in-5.is), near c.before.before.before.before)
 
 pub pair_at-q-requires-in-6 : goal.pair_at-q-requires-in-6
 pair_at-q-requires-in-6 c =
-    (omega (arith, enough c.before.before 6 c.in-6.keys2), near c.before.before.before.before)
+    (omega (arith, enough c.before.before 6 c.in-6.is), near c.before.before.before.before)
 
 pub pair_at-r-requires : goal.pair_at-r-requires
 pair_at-r-requires c =
-    (omega (arith, enough c.before.before.before 6 c.in-6.keys2), near c.before.before.before.before.before)
+    (omega (arith, enough c.before.before.before 6 c.in-6.is), near c.before.before.before.before.before)
 
 pub reflected-c-requires : goal.reflected-c-requires
 reflected-c-requires c =
@@ -88,7 +84,8 @@ reflected-c-requires-in_default c =
 
 pub pair_at-q-requires-in_default : goal.pair_at-q-requires-in_default
 pair_at-q-requires-in_default c =
-    (omega (arith, enough c.before.before.before 8 (smooth-cubic c.before.before)), near c.before.before.before.before.before)
+    let smooth : c.split-s.result.command ≡ 8 = omega (arith, kind c.before.before.before _ refl, c.requires.0.segment, c.requires.1) in
+    (omega (arith, enough c.before.before.before 8 smooth), near c.before.before.before.before.before)
 
 pub returns-in-5 : goal.returns-in-5
 unfolding traced_by
@@ -97,7 +94,7 @@ returns-in-5 c =
     let q = c.pair_at-q in
     let a = c.args in
     used c.before.before.before.before.before.before.before.before _ _ _ _ _ c.traced.ensures c.quad_to.ensures c.quad.ensures
-    ∙ traced_quad a.walk.pen a.byte (coordinate c.before.before.before.before.before.before.before.before) (kind c.before.before.before.before.before.before 5 c.in-5.keys1) _ p.result q.result
+    ∙ traced_quad a.walk.pen a.byte (coordinate c.before.before.before.before.before.before.before.before) (kind c.before.before.before.before.before.before 5 c.in-5.is) _ p.result q.result
     (at_base c.before.before.before.before.before.before.before.before 0 p.result p.ensures) (at_base c.before.before.before.before.before.before.before.before 2 q.result q.ensures)
 
 pub returns-in-6 : goal.returns-in-6
@@ -108,7 +105,7 @@ returns-in-6 c =
     let r = c.pair_at-r in
     let a = c.args in
     used c.before.before.before.before.before.before.before.before.before _ _ _ _ _ c.traced-in-6.ensures c.cubic_to.ensures c.cubic.ensures
-    ∙ traced_cubic a.walk.pen a.byte (coordinate c.before.before.before.before.before.before.before.before.before) (kind c.before.before.before.before.before.before.before 6 c.in-6.keys2) _ p.result q.result r.result
+    ∙ traced_cubic a.walk.pen a.byte (coordinate c.before.before.before.before.before.before.before.before.before) (kind c.before.before.before.before.before.before.before 6 c.in-6.is) _ p.result q.result r.result
     (at_base c.before.before.before.before.before.before.before.before.before 0 p.result p.ensures) (at_base c.before.before.before.before.before.before.before.before.before 2 q.result q.ensures) (at_base c.before.before.before.before.before.before.before.before.before 4 r.result r.ensures)
 
 pub returns-in-7 : goal.returns-in-7
@@ -118,16 +115,17 @@ returns-in-7 c =
     let a = c.args in
     let curve = c.quad-in-7.ensures ∙ ap (λ (d : Point). quad_to d p.result) c.reflected-c.ensures in
     used c.before.before.before.before.before.before.before.before _ _ _ _ _ c.traced-in-7.ensures c.smooth_quad_to.ensures curve
-    ∙ traced_smooth_quad a.walk.pen a.byte (coordinate c.before.before.before.before.before.before.before.before) (kind c.before.before.before.before.before.before 7 c.in-7.keys3) _ p.result
+    ∙ traced_smooth_quad a.walk.pen a.byte (coordinate c.before.before.before.before.before.before.before.before) (kind c.before.before.before.before.before.before 7 c.in-7.is) _ p.result
     (at_base c.before.before.before.before.before.before.before.before 0 p.result p.ensures)
 
 pub returns-in_default : goal.returns-in_default
 unfolding traced_by
 returns-in_default c =
+    let smooth : c.split-s.result.command ≡ 8 = omega (arith, kind c.before.before.before.before.before.before.before _ refl, c.requires.0.segment, c.requires.1) in
     let p = c.pair_at-p in
     let q = c.pair_at-q-in_default in
     let a = c.args in
     let curve = c.cubic-in_default.ensures ∙ ap (λ (d : Point). cubic_to d p.result q.result) c.reflected-c-in_default.ensures in
     used c.before.before.before.before.before.before.before.before.before _ _ _ _ _ c.traced-in_default.ensures c.smooth_cubic_to.ensures curve
-    ∙ traced_smooth_cubic a.walk.pen a.byte (coordinate c.before.before.before.before.before.before.before.before.before) (kind c.before.before.before.before.before.before.before 8 (smooth-cubic c.before.before.before.before.before.before)) _ p.result q.result
+    ∙ traced_smooth_cubic a.walk.pen a.byte (coordinate c.before.before.before.before.before.before.before.before.before) (kind c.before.before.before.before.before.before.before 8 smooth) _ p.result q.result
     (at_base c.before.before.before.before.before.before.before.before.before 0 p.result p.ensures) (at_base c.before.before.before.before.before.before.before.before.before 2 q.result q.ensures)

@@ -6,7 +6,7 @@ use mir.Facts.{to_z-of_z}
 use borrow.Author.Rules.{rules}
 use Rattle.path.proofs.transform.axis_small.Goals as goal
 
-first : (c : goal.After-size) → c.size.result ≡ nat_abs c.args.a
+first : (c : goal.After-size-2) → c.size.result ≡ nat_abs c.args.a
 first c = c.size.ensures ∙ ap nat_abs (to_z-of_z c.ranges.a)
 
 second : (c : goal.After-size-2) → c.size-2.result ≡ nat_abs c.args.b
@@ -17,16 +17,16 @@ third c = c.size-3.ensures ∙ ap nat_abs (to_z-of_z c.ranges.t)
 
 pub overflow_add-result : goal.overflow_add-result
 overflow_add-result c =
-    omega (arith, first c.before, second c, c.requires)
+    omega (arith, first c, second c, c.requires)
 
 pub overflow_mul-result : goal.overflow_mul-result
 overflow_mul-result c =
-    omega (arith, first c.before, second c, c.requires)
+    omega (arith, first c, second c, c.requires)
 
 pub overflow_add-result-2 : goal.overflow_add-result-2
 overflow_add-result-2 c =
-    omega (arith, first c.before.before, second c.before, third c, c.requires)
+    omega (arith, first c.before, second c.before, third c, c.requires)
 
 pub returns : goal.returns
 returns c =
-    rw (first c.before.before, second c.before, third c)
+    rw (first c.before, second c.before, third c)
