@@ -15,10 +15,10 @@ use Rattle.reason.proofs.begin.Tie as tie
 use Rattle.reason.proofs.begin.Lts as lts
 use Rattle.reason.proofs.begin.Reads as reads
 
-abbrev mask : lts.Start tie.the-claims reads.Pre reads.Post tie.handed_clauses → Mask
+abbrev mask : lts.Start tie.the-claims reads.Pre reads.Post → Mask
 mask entry = mask_of entry.args.masked entry.args.mask.now
 
-ready : (c : lts.Else1 tie.the-claims reads.Pre reads.Post tie.handed_clauses)
+ready : (c : lts.Else1 tie.the-claims reads.Pre reads.Post)
     → Ready c.args.scene.now (mask c.before.before.before.before.before) c.args.x c.args.y
 ready c =
     let a = c.args in

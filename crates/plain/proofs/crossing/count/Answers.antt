@@ -11,12 +11,12 @@ use Rattle.plain.proofs.crossing.count.Lts as lts
 use Rattle.plain.proofs.crossing.count.Reads as reads
 
 -- what the tests tell of the edge, and of the edge with its ends exchanged
-spanned : (c : lts.After-is_between tie.the-claims reads.Pre reads.Post tie.handed_clauses)
+spanned : (c : lts.After-is_between tie.the-claims reads.Pre reads.Post)
     → c.is_between.result ≡ spans_up c.args.e c.args.y
 spanned c =
     rw (clean c.args.e.y0 c.requires.0.y0, clean c.args.e.y1 c.requires.0.y1, clean c.args.y c.requires.2) at c.is_between.ensures
 
-left : (c : lts.After-is_left tie.the-claims reads.Pre reads.Post tie.handed_clauses)
+left : (c : lts.After-is_left tie.the-claims reads.Pre reads.Post)
     → c.is_left.result ≡ left_up c.args.e c.args.x c.args.y
 left c =
     rw (
@@ -28,12 +28,12 @@ left c =
       clean c.args.y c.requires.2,
     ) at c.is_left.ensures
 
-spanned-turned : (c : lts.After-is_between2 tie.the-claims reads.Pre reads.Post tie.handed_clauses)
+spanned-turned : (c : lts.After-is_between2 tie.the-claims reads.Pre reads.Post)
     → c.is_between-2.result ≡ spans_up (turned c.args.e) c.args.y
 spanned-turned c =
     rw (clean c.args.e.y0 c.requires.0.y0, clean c.args.e.y1 c.requires.0.y1, clean c.args.y c.requires.2) at c.is_between-2.ensures
 
-left-turned : (c : lts.After-is_left2 tie.the-claims reads.Pre reads.Post tie.handed_clauses)
+left-turned : (c : lts.After-is_left2 tie.the-claims reads.Pre reads.Post)
     → c.is_left-then-is_between-2.result ≡ left_up (turned c.args.e) c.args.x c.args.y
 left-turned c =
     rw (

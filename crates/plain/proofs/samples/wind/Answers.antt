@@ -13,6 +13,9 @@ use Rattle.coverage.specs.Winding.{winding, counts}
 use Rattle.plain.proofs.Wound.{winding_more, winding_small}
 use borrow.Author.Rules.{rules}
 use Rattle.plain.proofs.samples.wind.Goals as goal
+use Rattle.plain.proofs.samples.wind.Tie as tie
+use Rattle.plain.proofs.samples.wind.Lts as lts
+use Rattle.plain.proofs.samples.wind.Reads as reads
 
 -- the sum with one edge more
 summed : (c : goal.After-count-sum)

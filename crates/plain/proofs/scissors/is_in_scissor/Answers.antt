@@ -16,7 +16,7 @@ use Rattle.plain.proofs.scissors.is_in_scissor.Lts as lts
 use Rattle.plain.proofs.scissors.is_in_scissor.Reads as reads
 
 -- what the test of the column tells
-column-held : (c : lts.After-is_within tie.the-claims reads.Pre reads.Post tie.handed_clauses)
+column-held : (c : lts.After-is_within tie.the-claims reads.Pre reads.Post)
     → let a = c.args in
     c.is_within.result ≡ spans_pixel (i32_at a.scissors.now (16 * a.i)) (i32_at a.scissors.now (16 * a.i + 8)) a.x
 column-held c =

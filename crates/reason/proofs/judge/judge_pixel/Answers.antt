@@ -16,7 +16,7 @@ use Rattle.reason.proofs.judge.judge_pixel.Reads as reads
 abbrev code : Fault → ℕ
 code f = f.code
 
-block : (c : lts.Else1 tie.the-claims reads.Pre reads.Post tie.handed_clauses) → 512 ≤ length c.args.s.now
+block : (c : lts.Else1 tie.the-claims reads.Pre reads.Post) → 512 ≤ length c.args.s.now
 block c =
     accepted_block c.args.masked c.args.s.now (sym (ap code c.verdict-f.ensures) ∙ c.if-f-ne-ACCEPTED.false)
 

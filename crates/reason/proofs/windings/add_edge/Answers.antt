@@ -17,6 +17,9 @@ use Rattle.reason.specs.Summed.{winding_at}
 use Rattle.reason.proofs.Summed.{wound_all, winding_one}
 use borrow.Author.Rules.{rules}
 use Rattle.reason.proofs.windings.add_edge.Goals as goal
+use Rattle.reason.proofs.windings.add_edge.Tie as tie
+use Rattle.reason.proofs.windings.add_edge.Lts as lts
+use Rattle.reason.proofs.windings.add_edge.Reads as reads
 
 -- a sample's place is small
 placed : (i m : ℕ) (z : ℤ) → i < 1024 → m < 4 → z ≡ sample (4 * i + m) → nat_abs z ≤ 8388608

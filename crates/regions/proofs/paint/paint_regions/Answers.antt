@@ -16,7 +16,7 @@ use Rattle.regions.proofs.paint.paint_regions.Tie as tie
 use Rattle.regions.proofs.paint.paint_regions.Lts as lts
 use Rattle.regions.proofs.paint.paint_regions.Reads as reads
 
-abbrev drawn : lts.Start tie.the-claims reads.Pre reads.Post goal.the-invariant-loop-k goal.the-decreases-loop-k tie.handed_clauses → ℕ → ℕ → Pixel
+abbrev drawn : lts.Start tie.the-claims reads.Pre reads.Post goal.the-invariant-loop-i goal.the-decreases-loop-i tie.handed_clauses → ℕ → ℕ → Pixel
 drawn s = pixel_at s.args.scene.now (mask_at s.args.width s.args.mask.now)
 
 pub loop-k-init : goal.loop-k-init

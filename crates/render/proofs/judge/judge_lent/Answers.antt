@@ -17,7 +17,7 @@ product w h a b =
     let d : h ≤ 65535 = omega arith in
     mul-le-mul c d
 
-abbrev mask : lts.Start tie.the-claims reads.Pre reads.Post tie.handed_clauses → Mask
+abbrev mask : lts.Start tie.the-claims reads.Pre reads.Post → Mask
 mask entry = mask_of entry.args.masked entry.args.mask.now
 
 pub overflow_mul-pixels : goal.overflow_mul-pixels

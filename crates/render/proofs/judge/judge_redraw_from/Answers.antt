@@ -10,7 +10,7 @@ use Rattle.render.proofs.judge.judge_redraw_from.Lts as lts
 use Rattle.render.proofs.judge.judge_redraw_from.Reads as reads
 
 -- the old scene's rules, which come first, are kept
-from_old : (entry : lts.Start tie.the-claims reads.Pre reads.Post tie.handed_clauses) (r rest : Refusal) → r ≡ rest → r ≡ or_else (scene_refusal entry.args.masked entry.args.old.now 0) rest
+from_old : (entry : lts.Start tie.the-claims reads.Pre reads.Post) (r rest : Refusal) → r ≡ rest → r ≡ or_else (scene_refusal entry.args.masked entry.args.old.now 0) rest
 from_old entry r rest = first_passed nothing _ r rest (sym (scene_passes entry.args.masked entry.args.old.now 0 entry.requires)) refl
 
 pub returns-then-new_broken-ne-ACCEPTED : goal.returns-then-new_broken-ne-ACCEPTED

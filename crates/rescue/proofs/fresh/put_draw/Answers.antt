@@ -11,11 +11,8 @@ use Rattle.rescue.specs.Fresh.{fresh_block, fresh_draw}
 use Rattle.scene.proofs.Copies.{part_kept, part_turn}
 use borrow.Author.Rules.{rules}
 use Rattle.rescue.proofs.fresh.put_block.Reads as put-block-reads
+use Rattle.rescue.proofs.fresh.put_draw.Invariants.{block}
 use Rattle.rescue.proofs.fresh.put_draw.Goals as goal
-
--- block k of draw i
-abbrev block : List ℕ → ℕ → ℕ → List ℕ
-block d i k = fresh_block (block_of i + k) (take payload_bytes (drop (payload_bytes * k) d))
 
 -- the part that is lent has the bytes of a block
 lent : (out : List ℕ) (j : ℕ) → block_bytes * j + block_bytes ≤ length out

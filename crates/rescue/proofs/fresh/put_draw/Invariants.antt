@@ -13,6 +13,10 @@ use borrow.Author.Rules.{rules}
 use Rattle.rescue.proofs.fresh.put_block.Reads as put-block-reads
 use Rattle.rescue.proofs.fresh.put_draw.Given as goal
 
+-- block k of draw i
+abbrev pub block : List ℕ → ℕ → ℕ → List ℕ
+block d i k = fresh_block (block_of i + k) (take payload_bytes (drop (payload_bytes * k) d))
+
 abbrev pub invariant-loop-j : goal.invariant-loop-j
 invariant-loop-j l = (l.j ≤ draw_blocks) × (length l.out ≡ length l.initial.out) × (take (block_bytes * l.j) l.out ≡ upto l.j (block l.d l.i))
 

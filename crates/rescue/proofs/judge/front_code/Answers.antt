@@ -15,14 +15,14 @@ use Rattle.rescue.proofs.judge.front_code.Tie as tie
 use Rattle.rescue.proofs.judge.front_code.Lts as lts
 use Rattle.rescue.proofs.judge.front_code.Reads as reads
 
-abbrev scene : lts.Else1 tie.the-claims reads.Pre reads.Post tie.handed_clauses → List ℕ
+abbrev scene : lts.Else1 tie.the-claims reads.Pre reads.Post → List ℕ
 scene whole = whole.args.s.now
 
 -- block 0 has its check
-right-first : (right : lts.Else3 tie.the-claims reads.Pre reads.Post tie.handed_clauses) → block_right (scene right.before.before.before) 0 ≡ true
+right-first : (right : lts.Else3 tie.the-claims reads.Pre reads.Post) → block_right (scene right.before.before.before) 0 ≡ true
 right-first right = sym right.block_right.ensures ∙ not-false _ right.if-not-block_right.false-raw
 
-calm : (fit : lts.Else4 tie.the-claims reads.Pre reads.Post tie.handed_clauses) → (header_rules (scene fit.before.before.before.before.before.before)).code ≡ 0
+calm : (fit : lts.Else4 tie.the-claims reads.Pre reads.Post) → (header_rules (scene fit.before.before.before.before.before.before)).code ≡ 0
 calm fit = sym (ap (λ f. f.code) fit.header_rules-header.ensures) ∙ fit.if-header-ne-ACCEPTED.false
 
 pub returns-then-s-ne0 : goal.returns-then-s-ne0

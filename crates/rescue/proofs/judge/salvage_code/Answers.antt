@@ -8,7 +8,7 @@ use Rattle.rescue.proofs.judge.salvage_code.Tie as tie
 use Rattle.rescue.proofs.judge.salvage_code.Lts as lts
 use Rattle.rescue.proofs.judge.salvage_code.Reads as reads
 
-calm : (sound : lts.Else1 tie.the-claims reads.Pre reads.Post tie.handed_clauses) → front_code sound.args.s.now ≡ 0
+calm : (sound : lts.Else1 tie.the-claims reads.Pre reads.Post) → front_code sound.args.s.now ≡ 0
 calm sound = sym sound.front_code-code.ensures ∙ sound.if-code-ne-ACCEPTED.false
 
 pub returns-then-code-ne-ACCEPTED : goal.returns-then-code-ne-ACCEPTED
