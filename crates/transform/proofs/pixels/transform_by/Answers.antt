@@ -1,6 +1,5 @@
 -- `transform::pixels::transform_by` meets its contract, channel by channel.
 use mathlib.Core.Path.{◌≡◌, sym, ap, ◌∙◌}
-use borrow.Author.Rules.{rules}
 use mir.Syntax.{w32}
 use Rattle.color.specs.declared.Pixel.{Pixel}
 use Rattle.color.specs.Channels.{premultiplied}
@@ -13,7 +12,7 @@ use Rattle.transform.proofs.pixels.transform_by.Lts as lts
 use Rattle.transform.proofs.pixels.transform_by.Reads as reads
 
 -- the pixel before it is premultiplied
-abbrev made : lts.After-transform_channel tie.the-claims reads.Pre reads.Post tie.handed_clauses → Pixel
+abbrev made : lts.After-transform_channel tie.the-claims reads.Pre reads.Post → Pixel
 made after-alpha =
     record {
       r = after-alpha.transform_color.result;
@@ -22,7 +21,7 @@ made after-alpha =
       a = after-alpha.transform_channel.result;
     }
 
-made-is : (after-alpha : lts.After-transform_channel tie.the-claims reads.Pre reads.Post tie.handed_clauses)
+made-is : (after-alpha : lts.After-transform_channel tie.the-claims reads.Pre reads.Post)
     → made after-alpha ≡ transform_channels after-alpha.args.t (unpremultiplied after-alpha.args.p)
 made-is after-alpha =
     let t = after-alpha.args.t in
