@@ -1,6 +1,6 @@
 -- What the row functions go by: runs of a row, and a paint that hides what is under it. Bookkeeping of the engine: no promise to a
 -- caller outside cites it, and a reviewer of the paper need not read it.
-use Rattle.std.specs.Prelude.{◌≡◌, Bool, true, false, cond, List, ℕ, ◌+◌, ◌-◌, ◌*◌, ◌<◌, eqb, length}
+use Rattle.std.specs.Prelude.{◌≡◌, Bool, true, false, cond, List, ℕ, ◌+◌, ◌-◌, ◌*◌, ◌<◌, eqb}
 use Rattle.runs.specs.Runs.{start_of}
 use Rattle.color.specs.declared.Pixel.{Pixel}
 use Rattle.raster.specs.declared.Range.{Range}

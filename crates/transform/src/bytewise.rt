@@ -40,7 +40,7 @@ pub fn is_opaque(row: &[u8], n: usize) -> bool
 
 // A pixel as one number, which no other pixel has, the alpha highest.
 pub fn word(p: Pixel) -> u32
-    ensures* { λ r. ⌜ p ≡ record { r = r % 256; g = r / 256 % 256; b = r / 65536 % 256; a = r / 16777216 } ⌝ }
+    ensures { p ≡ record { r = result % 256; g = result / 256 % 256; b = result / 65536 % 256; a = result / 16777216 } }
 {
     (p.r as u32) + (p.g as u32) * 256 + (p.b as u32) * 65536 + (p.a as u32) * 16777216
 }

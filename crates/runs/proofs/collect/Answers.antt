@@ -8,7 +8,6 @@ use Rattle.lists.specs.Lists.{tab}
 use Rattle.lists.proofs.Laws.{tab_ext}
 use Rattle.runs.specs.Runs.{expand, Runs}
 use Rattle.runs.proofs.Expand.{tab_run}
-use borrow.Author.Rules.{rules}
 use Rattle.runs.proofs.collect.Goals as goal
 
 -- one run more

@@ -1,14 +1,9 @@
 -- `runs::collect` meets its contract.
-use mathlib.Core.Path.{◌≡◌, refl, sym, ap, subst, ◌∙◌}
-use mathlib.Core.List.{List, ◌++◌}
-use Prim.Native.Nat.{ℕ, ◌-◌, ◌≤◌, ◌<◌}
-use native.Mathlib.Omega.{arith}
-use lib.ListN.{length, get_or, replicate}
+use mathlib.Core.Path.{◌≡◌}
+use Prim.Native.Nat.{◌-◌, ◌≤◌}
+use lib.ListN.{length, get_or}
 use Rattle.lists.specs.Lists.{tab}
-use Rattle.lists.proofs.Laws.{tab_ext}
 use Rattle.runs.specs.Runs.{expand, Runs}
-use Rattle.runs.proofs.Expand.{tab_run}
-use borrow.Author.Rules.{rules}
 use Rattle.runs.proofs.collect.Given as goal
 
 -- `runs::collect` meets its contract.

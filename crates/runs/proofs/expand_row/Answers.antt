@@ -1,24 +1,13 @@
-use mathlib.Core.Path.{◌≡◌, refl, sym, ap, ap₂, subst, ◌∙◌}
+use mathlib.Core.Path.{◌≡◌, refl, sym, ap, subst, ◌∙◌}
 use mathlib.Core.List.{List, ◌++◌}
 use Prim.Native.Nat.{ℕ, suc, ◌+◌, ◌-◌, ◌≤◌, ◌<◌}
 use native.Mathlib.Omega.{arith}
-use lib.ListN.{length, get_or, replicate, take, drop}
+use lib.ListN.{length, take, drop}
 use Rattle.lists.specs.Lists.{tab, over}
-use Rattle.lists.proofs.Laws.{over_part, over_all, over_length, part_length}
+use Rattle.lists.proofs.Laws.{over_all, over_length, part_length}
 use Rattle.runs.specs.Runs.{expand, start_of, end_of, level_of, Runs}
-use Rattle.runs.proofs.Expand.{runs_few, runs_length, runs_within, laid_run, first_length}
-use borrow.Author.Rules.{rules}
+use Rattle.runs.proofs.Expand.{runs_length, runs_within, laid_run, first_length}
 use Rattle.runs.proofs.expand_row.Goals as goal
-use Rattle.runs.proofs.expand_row.Tie as tie
-use Rattle.runs.proofs.expand_row.Lts as lts
-use Rattle.runs.proofs.expand_row.Reads as reads
-
--- the run of the turn lies within the row
-rises : (c : lts.Start tie.the-claims reads.Pre reads.Post goal.the-invariant-loop-j goal.the-decreases-loop-j) → (j : ℕ) → j < c.args.n → start_of c.args.runs.now j < end_of c.args.runs.now j
-rises c = c.requires.0.rises
-
-within : (c : lts.Start tie.the-claims reads.Pre reads.Post goal.the-invariant-loop-j goal.the-decreases-loop-j) → (j : ℕ) → j < c.args.n → end_of c.args.runs.now j ≤ length c.args.row.now
-within c = runs_within c.args.runs.now c.args.n (length c.args.row.now) c.requires.0
 
 pub loop-j-init : goal.loop-j-init
 loop-j-init c =
@@ -30,15 +19,15 @@ overflow_cast-e c =
 
 pub slice_bounds-fill-count : goal.slice_bounds-fill-count
 slice_bounds-fill-count c =
-    omega (arith, c.loop-j.invariant.1, rises c.before.before.before.before.before.before c.loop-j.j c.loop-j-test.true)
+    omega (arith, c.loop-j.invariant.1, c.requires.0.rises c.loop-j.j c.loop-j-test.true)
 
 pub slice_bounds-fill-start : goal.slice_bounds-fill-start
 slice_bounds-fill-start c =
-    slice_bounds-fill-count c.before
+    omega (arith, c.loop-j.invariant.1, c.requires.0.rises c.loop-j.j c.loop-j-test.true)
 
 pub slice_bounds-fill-end : goal.slice_bounds-fill-end
 slice_bounds-fill-end c =
-    omega (arith, c.loop-j.invariant.2, within c.before.before.before.before.before.before c.loop-j.j c.loop-j-test.true)
+    omega (arith, c.loop-j.invariant.2, runs_within c.args.runs.now c.args.n (length c.args.row.now) c.requires.0 c.loop-j.j c.loop-j-test.true)
 
 pub loop-j-preserved : goal.loop-j-preserved
 loop-j-preserved c =
@@ -57,7 +46,7 @@ loop-j-preserved c =
       sym (ap (start_of runs) one),
       ap length laid
           ∙ over_length (expand runs (j + 1)) d
-          (subst (λ (m : ℕ). m ≤ length d) (sym (first_length runs c.args.n (length d) r (j + 1) next ∙ ap (start_of runs) one)) (within c.before.before.before.before.before.before.before.before.before.before.before j l)),
+          (subst (λ (m : ℕ). m ≤ length d) (sym (first_length runs c.args.n (length d) r (j + 1) next ∙ ap (start_of runs) one)) (runs_within c.args.runs.now c.args.n (length c.args.row.now) c.requires.0 j l)),
       laid,
     )
   where

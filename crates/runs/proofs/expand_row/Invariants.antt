@@ -1,13 +1,8 @@
-use mathlib.Core.Path.{◌≡◌, refl, sym, ap, ap₂, subst, ◌∙◌}
-use mathlib.Core.List.{List, ◌++◌}
-use Prim.Native.Nat.{ℕ, suc, ◌+◌, ◌-◌, ◌≤◌, ◌<◌}
-use native.Mathlib.Omega.{arith}
-use lib.ListN.{length, get_or, replicate, take, drop}
-use Rattle.lists.specs.Lists.{tab, over}
-use Rattle.lists.proofs.Laws.{over_part, over_all, over_length, part_length}
-use Rattle.runs.specs.Runs.{expand, start_of, end_of, level_of, Runs}
-use Rattle.runs.proofs.Expand.{runs_few, runs_length, runs_within, laid_run, first_length}
-use borrow.Author.Rules.{rules}
+use mathlib.Core.Path.{◌≡◌}
+use Prim.Native.Nat.{◌-◌, ◌≤◌}
+use lib.ListN.{length}
+use Rattle.lists.specs.Lists.{over}
+use Rattle.runs.specs.Runs.{expand, start_of}
 use Rattle.runs.proofs.expand_row.Given as goal
 
 abbrev pub invariant-loop-j : goal.invariant-loop-j

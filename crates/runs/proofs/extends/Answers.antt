@@ -2,7 +2,6 @@ use mathlib.Core.Path.{sym, subst}
 use native.Mathlib.Omega.{arith}
 use borrow.Author.Tests.{eqb-true}
 use lib.Dec.{T}
-use borrow.Author.Rules.{rules}
 use Rattle.runs.proofs.extends.Goals as goal
 
 pub returns-then-n-eq0 : goal.returns-then-n-eq0

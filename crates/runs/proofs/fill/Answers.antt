@@ -1,8 +1,7 @@
-use mathlib.Core.Path.{◌≡◌, refl}
-use Prim.Native.Nat.{ℕ, ◌-◌, ◌≤◌}
+use mathlib.Core.Path.{refl}
+use Prim.Native.Nat.{ℕ}
 use native.Mathlib.Omega.{arith}
 use lib.ListN.{length, length-set}
-use Rattle.lists.specs.Lists.{tab, over}
 use Rattle.lists.proofs.Laws.{tab_turn, tab_all}
 use borrow.Author.Rules.{rules}
 use Rattle.runs.proofs.fill.Goals as goal

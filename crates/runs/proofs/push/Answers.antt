@@ -5,32 +5,22 @@ use native.Mathlib.Omega.{arith}
 use lib.ListN.{length, set, replicate, length-set}
 use Rattle.runs.specs.Runs.{expand, level_of, Runs}
 use Rattle.runs.proofs.Expand.{runs_few, push_runs, push_expand, merge_runs, merge_expand}
-use borrow.Author.Rules.{rules}
 use Rattle.runs.proofs.push.Goals as goal
-
-few : (c : goal.Else-p-e) → c.args.n ≤ c.args.p
-few c = runs_few c.args.runs.now c.args.n c.args.p c.requires.runs
 
 pub returns-then-p-e : goal.returns-then-p-e
 returns-then-p-e c =
     let a = c.args in
-    record { runs_2 = ((
-      (subst (λ (e : ℕ). Runs a.runs.now a.n e) c.if-p-e.true c.requires.runs, refl),
-      sym (ap (λ (m : ℕ). expand a.runs.now a.n ++ replicate m a.k) (rest a.p a.e c.if-p-e.true) ∙ append-nil (expand a.runs.now a.n)),
-    )
+    record {
+      runs_2 = (subst (λ (e : ℕ). Runs a.runs.now a.n e) c.if-p-e.true c.requires.runs, refl);
+      result_after = sym (ap (λ (m : ℕ). expand a.runs.now a.n ++ replicate m a.k) (rest a.p a.e c.if-p-e.true) ∙ append-nil (expand a.runs.now a.n));
+    }
   where
     rest : (p e : ℕ) → p ≡ e → e - p ≡ 0
-    rest p e q = omega arith).0; result_after = ((
-      (subst (λ (e : ℕ). Runs a.runs.now a.n e) c.if-p-e.true c.requires.runs, refl),
-      sym (ap (λ (m : ℕ). expand a.runs.now a.n ++ replicate m a.k) (rest a.p a.e c.if-p-e.true) ∙ append-nil (expand a.runs.now a.n)),
-    )
-  where
-    rest : (p e : ℕ) → p ≡ e → e - p ≡ 0
-    rest p e q = omega arith).1; }
+    rest p e q = omega arith
 
 pub extends-requires : goal.extends-requires
 extends-requires c =
-    omega (arith, few c, c.requires.p_le_e)
+    omega (arith, runs_few c.args.runs.now c.args.n c.args.p c.requires.runs, c.requires.p_le_e)
 
 pub overflow_sub-runs : goal.overflow_sub-runs
 overflow_sub-runs c =
@@ -38,47 +28,56 @@ overflow_sub-runs c =
 
 pub offset_bounds-runs-n : goal.offset_bounds-runs-n
 offset_bounds-runs-n c =
-    omega (arith, few c.before.before, c.requires.p_le_e)
+    omega (arith, runs_few c.args.runs.now c.args.n c.args.p c.requires.runs, c.requires.p_le_e)
 
 pub bounds-runs-n : goal.bounds-runs-n
 bounds-runs-n c =
-    omega (arith, few c.before.before, c.requires.p_le_e)
+    omega (arith, runs_few c.args.runs.now c.args.n c.args.p c.requires.runs, c.requires.p_le_e)
+
+-- the last run made longer
+longer_runs : (runs : List ℕ) (n p e k : ℕ) → Runs runs n p → 0 < n → p < e → k < 32 → n ≤ length runs
+    → Runs (set runs (n - 1) (e * 32 + k)) n e
+longer_runs runs n p e k r z l g f =
+    let one : n - 1 + 1 ≡ n = omega arith in
+    let r' : Runs runs (n - 1 + 1) p = subst (λ (m : ℕ). Runs runs m p) (sym one) r in
+    subst (λ (m : ℕ). Runs (set runs (n - 1) (e * 32 + k)) m e) one (merge_runs runs (n - 1) p r' e k g l (omega arith))
+
+longer_expand : (runs : List ℕ) (n p e k : ℕ) → Runs runs n p → 0 < n → p < e → k < 32 → n ≤ length runs → level_of runs (n - 1) ≡ k
+    → expand (set runs (n - 1) (e * 32 + k)) n ≡ expand runs n ++ replicate (e - p) k
+longer_expand runs n p e k r z l g f q =
+    let one : n - 1 + 1 ≡ n = omega arith in
+    let r' : Runs runs (n - 1 + 1) p = subst (λ (m : ℕ). Runs runs m p) (sym one) r in
+    subst (λ (m : ℕ). expand (set runs (n - 1) (e * 32 + k)) m ≡ expand runs m ++ replicate (e - p) k) one
+    (merge_expand runs (n - 1) p r' e k g l (omega arith) q)
 
 pub returns-then-extends : goal.returns-then-extends
 returns-then-extends c =
     let a = c.args in
     let x = c.extends.ensures c.if-extends.true in
     let l : a.p < a.e = omega (arith, c.requires.p_le_e, c.if-p-e.false) in
-    longer a.runs.now a.n a.p a.e a.k c.requires.runs x.0 l (omega (arith, c.requires.p_le_e)) (omega (arith, few c.before.before, c.requires.p_le_e)) x.1
-  where
-    longer : (runs : List ℕ) (n p e k : ℕ) → Runs runs n p → 0 < n → p < e → k < 32 → n ≤ length runs → level_of runs (n - 1) ≡ k
-        → (Runs (set runs (n - 1) (e * 32 + k)) n e × (length (set runs (n - 1) (e * 32 + k)) ≡ length runs))
-        × (expand (set runs (n - 1) (e * 32 + k)) n ≡ expand runs n ++ replicate (e - p) k)
-    longer runs n p e k r z l g f q =
-        let one : n - 1 + 1 ≡ n = omega arith in
-        let r' : Runs runs (n - 1 + 1) p = subst (λ (m : ℕ). Runs runs m p) (sym one) r in
-    record { runs_2 = (
-            subst (λ (m : ℕ). Runs (set runs (n - 1) (e * 32 + k)) m e) one (merge_runs runs (n - 1) p r' e k g l (omega arith)),
-            length-set runs (n - 1) (e * 32 + k),
-          ); result_after = subst (λ (m : ℕ). expand (set runs (n - 1) (e * 32 + k)) m ≡ expand runs m ++ replicate (e - p) k) one
-              (merge_expand runs (n - 1) p r' e k g l (omega arith) q); }
+    let g : a.k < 32 = omega (arith, c.requires.p_le_e) in
+    let f : a.n ≤ length a.runs.now = omega (arith, runs_few a.runs.now a.n a.p c.requires.runs, c.requires.p_le_e) in
+    record {
+      runs_2 = (longer_runs a.runs.now a.n a.p a.e a.k c.requires.runs x.0 l g f, length-set a.runs.now (a.n - 1) (a.e * 32 + a.k));
+      result_after = longer_expand a.runs.now a.n a.p a.e a.k c.requires.runs x.0 l g f x.1;
+    }
 
 pub offset_bounds-runs-n-2 : goal.offset_bounds-runs-n-2
 offset_bounds-runs-n-2 c =
-    omega (arith, few c.before.before, c.requires.p_le_e)
+    omega (arith, runs_few c.args.runs.now c.args.n c.args.p c.requires.runs, c.requires.p_le_e)
 
 pub bounds-runs-n-2 : goal.bounds-runs-n-2
 bounds-runs-n-2 c =
-    omega (arith, few c.before.before, c.requires.p_le_e, c.if-p-e.false)
+    omega (arith, runs_few c.args.runs.now c.args.n c.args.p c.requires.runs, c.requires.p_le_e, c.if-p-e.false)
 
 pub overflow_add-result : goal.overflow_add-result
 overflow_add-result c =
-    omega (arith, few c.before.before, c.requires.p_le_e)
+    omega (arith, runs_few c.args.runs.now c.args.n c.args.p c.requires.runs, c.requires.p_le_e)
 
 pub returns : goal.returns
 returns c =
     let a = c.args in
     let l : a.p < a.e = omega (arith, c.requires.p_le_e, c.if-p-e.false) in
-    let m : a.n < length a.runs.now = omega (arith, few c.before.before, c.requires.p_le_e) in
+    let m : a.n < length a.runs.now = omega (arith, runs_few c.args.runs.now c.args.n c.args.p c.requires.runs, c.requires.p_le_e) in
     let g : a.k < 32 = omega (arith, c.requires.p_le_e) in
-    record { runs_2 = (push_runs a.runs.now a.n a.p c.requires.runs a.e a.k g l m, length-set a.runs.now a.n (a.e * 32 + a.k)); result_after = push_expand a.runs.now a.n a.p c.requires.runs a.e a.k g m; }
+    record { runs_2 = (push_runs a.runs.now a.n a.p c.requires.runs a.e a.k g l m, length-set a.runs.now a.n (a.e * 32 + a.k)); result_after = push_expand a.runs.now a.n a.p c.requires.runs a.e a.k g m }

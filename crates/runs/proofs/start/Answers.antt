@@ -1,10 +1,9 @@
-use mathlib.Core.Path.{◌≡◌, sym, ap, ◌∙◌}
+use mathlib.Core.Path.{◌≡◌, sym, ap}
 use mathlib.Core.List.{List}
 use Prim.Native.Nat.{ℕ, suc, ◌-◌, ◌/◌, ◌<◌}
 use native.Mathlib.Omega.{arith}
 use lib.ListN.{get_or}
 use Rattle.runs.specs.Runs.{start_of}
-use borrow.Author.Rules.{rules}
 use Rattle.runs.proofs.start.Goals as goal
 
 later : (runs : List ℕ) (j : ℕ) → 0 < j → get_or runs (j - 1) 0 / 32 ≡ start_of runs j

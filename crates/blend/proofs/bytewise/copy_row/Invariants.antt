@@ -1,11 +1,8 @@
 -- `blend::copy_row` meets its contract: the bytes before i are copied, and the others are as they were. Assumes nothing.
-use mathlib.Core.Path.{◌≡◌, refl, sym, ◌∙◌}
-use Prim.Native.Nat.{ℕ, ◌-◌, ◌≤◌}
-use native.Mathlib.Omega.{arith}
-use lib.ListN.{length, get_or, length-set}
+use mathlib.Core.Path.{◌≡◌}
+use Prim.Native.Nat.{◌-◌, ◌≤◌}
+use lib.ListN.{length, get_or}
 use Rattle.lists.specs.Lists.{tab, over}
-use Rattle.lists.proofs.Laws.{tab_turn, tab_all, tab_ext}
-use borrow.Author.Rules.{rules}
 use Rattle.blend.proofs.bytewise.copy_row.Given as goal
 
 -- `blend::copy_row` meets its contract: the bytes before i are copied, and the others are as they were. Assumes nothing.

@@ -1,7 +1,6 @@
 -- `blend::four` meets its contract: the four bytes of the number are the same. Assumes nothing.
 use native.Mathlib.Omega.{arith}
 use Rattle.blend.proofs.Bytes.{four_bytes}
-use borrow.Author.Rules.{rules}
 use Rattle.blend.proofs.bytewise.four.Goals as goal
 
 pub returns : goal.returns

@@ -1,5 +1,5 @@
 -- `blend::is_opaque` meets its contract: up to i every pixel has all bits that are left. Assumes nothing.
-use Prim.Native.Nat.{ℕ, ◌+◌, ◌-◌, ◌*◌, ◌≤◌, ◌<◌}
+use Prim.Native.Nat.{◌+◌, ◌*◌, ◌≤◌}
 use native.Mathlib.Omega.{arith}
 use native.Mathlib.Nat.{le_trans}
 use lib.Bits.{bit_and, and_le_l, and_le_r}

@@ -1,14 +1,7 @@
 -- `blend::is_opaque` meets its contract: up to i every pixel has all bits that are left. Assumes nothing.
-use Prim.Native.Nat.{ℕ, ◌+◌, ◌-◌, ◌*◌, ◌≤◌, ◌<◌}
-use native.Mathlib.Omega.{arith}
-use native.Mathlib.Nat.{le_trans}
-use lib.Bits.{bit_and, and_le_l, and_le_r}
-use borrow.Author.Count.{below_more}
-use borrow.Author.Tests.{leb-true}
+use Prim.Native.Nat.{ℕ, ◌-◌, ◌≤◌, ◌<◌}
 use Rattle.raster.specs.Surface.{pixel_in}
 use Rattle.blend.specs.Spans.{word_of}
-use Rattle.blend.proofs.Bytes.{word_opaque}
-use borrow.Author.Rules.{rules}
 use Rattle.blend.proofs.bytewise.is_opaque.Given as goal
 
 -- `blend::is_opaque` meets its contract: up to i every pixel has all bits that are left. Assumes nothing.

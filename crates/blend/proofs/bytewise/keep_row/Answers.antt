@@ -1,9 +1,6 @@
 -- `blend::keep_row` meets its contract: the pixels before i are stored, and the others are as they were. Assumes nothing.
 use mathlib.Core.Path.{ap, ◌∙◌}
-use Prim.Native.Nat.{◌-◌, ◌≤◌}
 use native.Mathlib.Omega.{arith}
-use Rattle.raster.specs.Surface.{pixel_in}
-use Rattle.raster.specs.Rows.{Stored}
 use Rattle.raster.proofs.Runs.{stored_none, stored_turn, stored_all}
 use Rattle.blend.specs.Spans.{keep_pixel}
 use borrow.Author.Rules.{rules}

@@ -1,9 +1,8 @@
 -- `blend::masked_row` meets its contract: the bytes before i are stored, and the others are as they were. Assumes nothing.
-use mathlib.Core.Path.{◌≡◌, ap, ◌∙◌}
-use Prim.Native.Nat.{ℕ, ◌-◌, ◌*◌, ◌≤◌}
+use mathlib.Core.Path.{ap, ◌∙◌}
+use Prim.Native.Nat.{ℕ, ◌*◌}
 use native.Mathlib.Omega.{arith}
-use lib.ListN.{length, get_or, length-set}
-use Rattle.lists.specs.Lists.{tab, over}
+use lib.ListN.{get_or, length-set}
 use Rattle.lists.proofs.Laws.{tab_turn, tab_all, tab_read}
 use Rattle.blend.specs.PorterDuff.{stored}
 use Rattle.blend.proofs.Bytes.{masked_at, masked_bytes}

@@ -1,9 +1,8 @@
 -- `blend::over_row_under` meets its contract: the bytes before i are blended and stored, and the others are as they were. Assumes nothing.
 use mathlib.Core.Path.{◌≡◌, ap, ◌∙◌}
-use Prim.Native.Nat.{ℕ, ◌-◌, ◌*◌, ◌≤◌}
+use Prim.Native.Nat.{ℕ, ◌*◌}
 use native.Mathlib.Omega.{arith}
 use lib.ListN.{length, get_or, length-set}
-use Rattle.lists.specs.Lists.{tab, over}
 use Rattle.lists.proofs.Laws.{tab_turn, tab_all, tab_read}
 use Rattle.raster.specs.Surface.{pixel_in}
 use Rattle.raster.proofs.Pixels.{run_length}

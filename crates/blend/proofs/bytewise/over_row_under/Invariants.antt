@@ -1,16 +1,9 @@
 -- `blend::over_row_under` meets its contract: the bytes before i are blended and stored, and the others are as they were. Assumes nothing.
-use mathlib.Core.Path.{◌≡◌, ap, ◌∙◌}
-use Prim.Native.Nat.{ℕ, ◌-◌, ◌*◌, ◌≤◌}
-use native.Mathlib.Omega.{arith}
-use lib.ListN.{length, get_or, length-set}
+use mathlib.Core.Path.{◌≡◌}
+use Prim.Native.Nat.{◌-◌, ◌*◌, ◌≤◌}
+use lib.ListN.{length}
 use Rattle.lists.specs.Lists.{tab, over}
-use Rattle.lists.proofs.Laws.{tab_turn, tab_all, tab_read}
-use Rattle.raster.specs.Surface.{pixel_in}
-use Rattle.raster.proofs.Pixels.{run_length}
-use Rattle.blend.specs.PorterDuff.{blended, stored_unmasked}
-use Rattle.blend.specs.Spans.{keep_pixel}
-use Rattle.blend.proofs.Bytes.{over_stored_at, over_stored_bytes}
-use borrow.Author.Rules.{rules}
+use Rattle.blend.proofs.Bytes.{over_stored_at}
 use Rattle.blend.proofs.bytewise.over_row_under.Given as goal
 
 -- `blend::over_row_under` meets its contract: the bytes before i are blended and stored, and the others are as they were. Assumes nothing.

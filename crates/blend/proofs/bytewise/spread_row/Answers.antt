@@ -1,10 +1,6 @@
 -- `blend::spread_row` meets its contract: the pixels before i are stored, and the others are as they were. Assumes nothing.
-use Prim.Native.Nat.{◌-◌, ◌≤◌}
 use native.Mathlib.Omega.{arith}
-use lib.ListN.{get_or}
-use Rattle.raster.specs.Rows.{Stored}
 use Rattle.raster.proofs.Runs.{stored_none, stored_turn, stored_all}
-use Rattle.blend.specs.Spans.{four_of}
 use borrow.Author.Rules.{rules}
 use Rattle.blend.proofs.bytewise.spread_row.Goals as goal
 

@@ -1,13 +1,9 @@
 -- `blend::store_row` meets its contract: the bytes before i are stored, and the others are as they were. Assumes nothing.
-use mathlib.Core.Path.{◌≡◌, ap, ◌∙◌}
-use Prim.Native.Nat.{ℕ, ◌-◌, ◌*◌, ◌≤◌}
-use native.Mathlib.Omega.{arith}
-use lib.ListN.{length, get_or, length-set}
+use mathlib.Core.Path.{◌≡◌}
+use Prim.Native.Nat.{◌-◌, ◌*◌, ◌≤◌}
+use lib.ListN.{length}
 use Rattle.lists.specs.Lists.{tab, over}
-use Rattle.lists.proofs.Laws.{tab_turn, tab_all, tab_read}
-use Rattle.blend.specs.PorterDuff.{stored_unmasked}
-use Rattle.blend.proofs.Bytes.{stored_at, stored_bytes}
-use borrow.Author.Rules.{rules}
+use Rattle.blend.proofs.Bytes.{stored_at}
 use Rattle.blend.proofs.bytewise.store_row.Given as goal
 
 -- `blend::store_row` meets its contract: the bytes before i are stored, and the others are as they were. Assumes nothing.

@@ -1,5 +1,4 @@
 -- `blend::destination_factor` meets its contract: each way of its tests is a case of the definition. Assumes nothing.
-use borrow.Author.Rules.{rules}
 use borrow.Author.Tests.{eq-eqb, ne_eqb}
 use Rattle.blend.specs.PorterDuff.{destination_factor}
 use Rattle.blend.proofs.factor.destination_factor.Goals as goal

@@ -1,5 +1,4 @@
 -- `blend::source_factor` meets its contract: each way of its tests is a case of the definition. Assumes nothing.
-use borrow.Author.Rules.{rules}
 use borrow.Author.Tests.{eq-eqb, ne_eqb}
 use Rattle.blend.specs.PorterDuff.{source_factor}
 use Rattle.blend.proofs.factor.source_factor.Goals as goal

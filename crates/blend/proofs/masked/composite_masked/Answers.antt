@@ -5,7 +5,6 @@ use Rattle.raster.specs.Surface.{pixel_in}
 use Rattle.raster.proofs.Runs.{run_is}
 use Rattle.blend.specs.PorterDuff.{composite_on}
 use Rattle.blend.proofs.Masks.{uncovered_masked}
-use borrow.Author.Rules.{rules}
 use Rattle.blend.proofs.masked.composite_masked.Goals as goal
 
 pub returns-then-coverage-eq0 : goal.returns-then-coverage-eq0

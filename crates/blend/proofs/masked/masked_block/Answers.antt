@@ -9,7 +9,6 @@ use Rattle.raster.proofs.Pixels.{run_length}
 use Rattle.blend.specs.Unmasked.{unmasked_on}
 use Rattle.blend.specs.Spans.{four_of}
 use Rattle.blend.proofs.Masks.{masked_pixels}
-use borrow.Author.Rules.{rules}
 use Rattle.blend.proofs.masked.masked_block.Goals as goal
 
 pub composite_painted-requires : goal.composite_painted-requires
@@ -23,7 +22,7 @@ masked_row-requires c =
       c.requires.coverage_bound.0,
       ap length c.composite_painted.ensures
           ∙ run_length a.n (λ i. unmasked_on a.mode 16 (pixel_in a.src.now i) (pixel_in b i)),
-      ap length c.Spread_row.ensures ∙ run_length a.n (λ i. four_of (get_or a.mask.now i 0)),
+      ap length c.spread_row.ensures ∙ run_length a.n (λ i. four_of (get_or a.mask.now i 0)),
       c.requires.coverage_bound.3,
     )
 
@@ -31,8 +30,8 @@ pub returns : goal.returns
 returns c =
     let a = c.args in
     let made = c.composite_painted in
-    let spread = c.Spread_row in
-    masked_pixels a.n a.mode a.coverage a.mask.now a.src.now a.row.now made.new.row spread.new.1.0 _
+    let spread = c.spread_row in
+    masked_pixels a.n a.mode a.coverage a.mask.now a.src.now a.row.now made.new.row spread.new.wide _
     (made.ensures
     ∙ ap (λ (d : List ℕ). run a.n (λ i. unmasked_on a.mode 16 (pixel_in a.src.now i) (pixel_in d i))) c.copy_row.ensures)
     spread.ensures c.masked_row.ensures

@@ -2,15 +2,13 @@
 use mathlib.Core.Path.{◌≡◌, ap₂, ◌∙◌}
 use Prim.Native.Nat.{ℕ, ◌-◌, ◌*◌, ◌≤◌}
 use native.Mathlib.Omega.{arith}
-use lib.ListN.{length, get_or, take, drop}
+use lib.ListN.{get_or, take, drop}
 use Rattle.lists.proofs.Laws.{part_length}
 use Rattle.color.specs.declared.Pixel.{Pixel}
 use Rattle.raster.specs.Surface.{pixel_in}
-use Rattle.raster.specs.Rows.{Stored}
 use Rattle.raster.proofs.Runs.{stored_none, stored_all}
 use Rattle.blend.specs.PorterDuff.{composite_on}
 use Rattle.blend.proofs.Spans.{part_turn, part_paint, part_mask}
-use borrow.Author.Rules.{rules}
 use Rattle.blend.proofs.masked.masked_blocks.Goals as goal
 
 pub loop-i-init : goal.loop-i-init

@@ -1,16 +1,10 @@
 -- `blend::masked_blocks` meets its contract: the pixels before i are stored, and the others are as they were. Assumes nothing.
-use mathlib.Core.Path.{◌≡◌, ap₂, ◌∙◌}
-use Prim.Native.Nat.{ℕ, ◌-◌, ◌*◌, ◌≤◌}
-use native.Mathlib.Omega.{arith}
-use lib.ListN.{length, get_or, take, drop}
-use Rattle.lists.proofs.Laws.{part_length}
-use Rattle.color.specs.declared.Pixel.{Pixel}
+use mathlib.Core.Path.{◌≡◌}
+use Prim.Native.Nat.{◌-◌, ◌≤◌}
+use lib.ListN.{length, get_or}
 use Rattle.raster.specs.Surface.{pixel_in}
 use Rattle.raster.specs.Rows.{Stored}
-use Rattle.raster.proofs.Runs.{stored_none, stored_all}
 use Rattle.blend.specs.PorterDuff.{composite_on}
-use Rattle.blend.proofs.Spans.{part_turn, part_paint, part_mask}
-use borrow.Author.Rules.{rules}
 use Rattle.blend.proofs.masked.masked_blocks.Given as goal
 
 -- `blend::masked_blocks` meets its contract: the pixels before i are stored, and the others are as they were. Assumes nothing.

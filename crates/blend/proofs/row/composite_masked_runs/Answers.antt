@@ -8,12 +8,10 @@ use Rattle.runs.specs.Runs.{end_of, start_of, level_of, expand}
 use Rattle.runs.proofs.Expand.{runs_at}
 use Rattle.color.specs.declared.Pixel.{Pixel}
 use Rattle.raster.specs.Surface.{pixel_in}
-use Rattle.raster.specs.Rows.{Stored}
 use Rattle.raster.proofs.Runs.{run_same, stored_none, stored_all}
 use Rattle.blend.specs.PorterDuff.{composite_on}
 use Rattle.blend.specs.Spans.{length_of}
 use Rattle.blend.proofs.Spans.{part_turn, part_paint, part_mask, run_covered, next_start, LentRun, run_lent}
-use borrow.Author.Rules.{rules}
 use Rattle.blend.proofs.row.composite_masked_runs.Goals as goal
 use Rattle.blend.proofs.row.composite_masked_runs.Tie as tie
 use Rattle.blend.proofs.row.composite_masked_runs.Lts as lts
@@ -27,9 +25,9 @@ turn c =
     let first = c.start-first in
     let a = c.args in
     let p = c.requires in
-    run_lent a.runs.now a.n a.w p.0.0 l.j a.some.to first.result l.a (length a.src.now)
-    c.loop-j-test.true p.0.2 p.0.3 l.invariant.1
-    (p.1.0.0 ∙ ap (λ (f : ℕ). (start_of a.runs.now a.some.to - f) * 4) (sym first.ensures))
+    run_lent a.runs.now a.n a.w p.runs.0 l.j a.some.to first.result l.a (length a.src.now)
+    c.loop-j-test.true p.runs.2 p.runs.3 l.invariant.1
+    (p.src_len.0 ∙ ap (λ (f : ℕ). (start_of a.runs.now a.some.to - f) * 4) (sym first.ensures))
 
 -- the row is as long as the paint, and so is the mask
 long : (c : lts.In-loop tie.the-claims reads.Pre reads.Post goal.the-invariant-loop-j goal.the-decreases-loop-j tie.handed_clauses) → length c.loop-j.row ≡ length c.args.src.now
@@ -40,7 +38,7 @@ mask-long c = ap (λ (m : ℕ). m * 4) c.requires.coverage.1 ∙ sym c.requires.
 
 pub start-first-requires : goal.start-first-requires
 start-first-requires c =
-    let p = c.requires in omega (arith, p.0.1, p.0.2, p.0.3)
+    let p = c.requires in omega (arith, p.runs.1, p.runs.2, p.runs.3)
 
 pub loop-j-init : goal.loop-j-init
 loop-j-init c =

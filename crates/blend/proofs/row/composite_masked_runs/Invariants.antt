@@ -1,19 +1,11 @@
 -- `blend::composite_masked_runs` meets its contract: the runs before j are stored, and the other pixels are as they were. Assumes nothing.
-use mathlib.Core.Path.{◌≡◌, sym, ap, ap₂, ◌∙◌}
-use Prim.Native.Nat.{ℕ, ◌+◌, ◌-◌, ◌*◌, ◌≤◌, ◌<◌}
-use native.Mathlib.Omega.{arith}
-use lib.ListN.{length, get_or, take, drop}
-use Rattle.lists.proofs.Laws.{part_length}
-use Rattle.runs.specs.Runs.{end_of, start_of, level_of, expand}
-use Rattle.runs.proofs.Expand.{runs_at}
-use Rattle.color.specs.declared.Pixel.{Pixel}
+use mathlib.Core.Path.{◌≡◌}
+use Prim.Native.Nat.{◌+◌, ◌-◌, ◌≤◌}
+use lib.ListN.{get_or}
+use Rattle.runs.specs.Runs.{start_of, expand}
 use Rattle.raster.specs.Surface.{pixel_in}
 use Rattle.raster.specs.Rows.{Stored}
-use Rattle.raster.proofs.Runs.{run_same, stored_none, stored_all}
 use Rattle.blend.specs.PorterDuff.{composite_on}
-use Rattle.blend.specs.Spans.{length_of}
-use Rattle.blend.proofs.Spans.{part_turn, part_paint, part_mask, run_covered, next_start, LentRun, run_lent}
-use borrow.Author.Rules.{rules}
 use Rattle.blend.proofs.row.composite_masked_runs.Given as goal
 
 -- `blend::composite_masked_runs` meets its contract: the runs before j are stored, and the other pixels are as they were. Assumes nothing.

@@ -8,14 +8,12 @@ use Rattle.runs.specs.Runs.{end_of, start_of, level_of, expand}
 use Rattle.runs.proofs.Expand.{starts_rise, runs_at, runs_length}
 use Rattle.color.specs.declared.Pixel.{Pixel}
 use Rattle.raster.specs.Surface.{pixel_in}
-use Rattle.raster.specs.Rows.{Stored}
 use Rattle.raster.proofs.Runs.{run_same, stored_none, stored_all}
 use Rattle.blend.specs.PorterDuff.{composite_on}
 use Rattle.blend.specs.Unmasked.{unmasked_on}
 use Rattle.blend.specs.Spans.{length_of}
 use Rattle.blend.proofs.Spans.{part_turn, part_paint, run_covered, next_start, LentRun, run_lent}
 use Rattle.blend.proofs.Masks.{whole_mask_step}
-use borrow.Author.Rules.{rules}
 use Rattle.blend.proofs.row.composite_painted_runs.Goals as goal
 use Rattle.blend.proofs.row.composite_painted_runs.Tie as tie
 use Rattle.blend.proofs.row.composite_painted_runs.Lts as lts
@@ -29,9 +27,9 @@ turn c =
     let first = c.start-first in
     let a = c.args in
     let p = c.requires in
-    run_lent a.runs.now a.n a.w p.0.0 l.j a.some.to first.result l.a (length a.src.now)
-    c.loop-j-test.true p.0.2 p.0.3 l.invariant.1
-    (p.1.0.0 ∙ ap (λ (f : ℕ). (start_of a.runs.now a.some.to - f) * 4) (sym first.ensures))
+    run_lent a.runs.now a.n a.w p.runs.0 l.j a.some.to first.result l.a (length a.src.now)
+    c.loop-j-test.true p.runs.2 p.runs.3 l.invariant.1
+    (p.src_len.0 ∙ ap (λ (f : ℕ). (start_of a.runs.now a.some.to - f) * 4) (sym first.ensures))
 
 -- the row is as long as the paint
 long : (c : lts.In-loop tie.the-claims reads.Pre reads.Post goal.the-invariant-loop-j goal.the-decreases-loop-j tie.handed_clauses) → length c.loop-j.row ≡ length c.args.src.now

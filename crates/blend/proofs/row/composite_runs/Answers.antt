@@ -1,5 +1,4 @@
 -- `blend::composite_runs` meets its contract: both ways store what the step does. Assumes nothing.
-use borrow.Author.Rules.{rules}
 use Rattle.blend.proofs.row.composite_runs.Goals as goal
 
 pub returns-then-src-lt255 : goal.returns-then-src-lt255

@@ -1,17 +1,13 @@
 -- `blend::laid_runs` meets its contract: the runs before j are stored, and the other pixels are as they were. Assumes nothing.
 use mathlib.Core.Path.{◌≡◌, refl, sym, ap, ◌∙◌}
-use Prim.Native.Nat.{◌-◌, ◌≤◌}
 use native.Mathlib.Omega.{arith}
-use lib.ListN.{length, get_or}
-use Rattle.runs.specs.Runs.{start_of, expand}
+use lib.ListN.{length}
+use Rattle.runs.specs.Runs.{start_of}
 use Rattle.raster.specs.Surface.{pixel_in}
-use Rattle.raster.specs.Rows.{Stored}
 use Rattle.raster.proofs.Runs.{stored_none}
 use Rattle.blend.specs.PorterDuff.{mode_src_over}
-use Rattle.blend.specs.Unmasked.{unmasked_on}
 use Rattle.blend.proofs.Spans.{next_start, LentRun, run_lent, run_asks, run_turn}
 use Rattle.blend.proofs.Masks.{runs_blended}
-use borrow.Author.Rules.{rules}
 use Rattle.blend.proofs.row.laid_runs.Goals as goal
 use Rattle.blend.proofs.row.laid_runs.Tie as tie
 use Rattle.blend.proofs.row.laid_runs.Lts as lts
@@ -24,8 +20,8 @@ turn c =
     let l = c.loop-j in
     let a = c.args in
     let p = c.requires in
-    run_lent a.runs.now a.n a.w p.0.0 l.j a.n 0 l.a (length a.row.now) c.loop-j-test.true (omega arith) p.0.1
-    (omega (arith, l.invariant.1)) (omega (arith, p.0.2, p.0.0.last))
+    run_lent a.runs.now a.n a.w p.runs.0 l.j a.n 0 l.a (length a.row.now) c.loop-j-test.true (omega arith) p.runs.1
+    (omega (arith, l.invariant.1)) (omega (arith, p.runs.2, p.runs.0.last))
 
 pub loop-j-init : goal.loop-j-init
 loop-j-init c =

@@ -1,17 +1,12 @@
 -- `blend::laid_runs` meets its contract: the runs before j are stored, and the other pixels are as they were. Assumes nothing.
-use mathlib.Core.Path.{◌≡◌, refl, sym, ap, ◌∙◌}
+use mathlib.Core.Path.{◌≡◌}
 use Prim.Native.Nat.{◌-◌, ◌≤◌}
-use native.Mathlib.Omega.{arith}
-use lib.ListN.{length, get_or}
+use lib.ListN.{get_or}
 use Rattle.runs.specs.Runs.{start_of, expand}
 use Rattle.raster.specs.Surface.{pixel_in}
 use Rattle.raster.specs.Rows.{Stored}
-use Rattle.raster.proofs.Runs.{stored_none}
 use Rattle.blend.specs.PorterDuff.{mode_src_over}
 use Rattle.blend.specs.Unmasked.{unmasked_on}
-use Rattle.blend.proofs.Spans.{next_start, LentRun, run_lent, run_asks, run_turn}
-use Rattle.blend.proofs.Masks.{runs_blended}
-use borrow.Author.Rules.{rules}
 use Rattle.blend.proofs.row.laid_runs.Given as goal
 
 -- `blend::laid_runs` meets its contract: the runs before j are stored, and the other pixels are as they were. Assumes nothing.

@@ -7,7 +7,6 @@ use Rattle.blend.specs.PorterDuff.{mode_src_over}
 use Rattle.blend.specs.Rows.{composite_row}
 use Rattle.blend.specs.Spans.{keep_pixel}
 use Rattle.blend.proofs.Spans.{laid_first}
-use borrow.Author.Rules.{rules}
 use Rattle.blend.proofs.row.over_runs.Goals as goal
 
 pub four-requires : goal.four-requires
@@ -31,6 +30,6 @@ pub returns : goal.returns
 returns c =
     let a = c.args in
     let laid = c.fill_row in
-    c.Laid_runs.ensures
+    c.laid_runs.ensures
     ∙ ap (λ (p : Pixel). composite_row mode_src_over (expand a.runs.now a.n) (λ i. 255) (λ i. p) a.row.now)
     (laid_first laid.new.s a.src laid.ensures)

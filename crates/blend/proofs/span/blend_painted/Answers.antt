@@ -1,10 +1,9 @@
 -- `blend::blend_painted` meets its contract: the pixels before i are stored, and the others are as they were. Assumes nothing.
 use mathlib.Core.Path.{ap₂, ◌∙◌}
-use Prim.Native.Nat.{ℕ, ◌-◌, ◌≤◌}
+use Prim.Native.Nat.{ℕ}
 use native.Mathlib.Omega.{arith}
 use Rattle.color.specs.declared.Pixel.{Pixel}
 use Rattle.raster.specs.Surface.{pixel_in}
-use Rattle.raster.specs.Rows.{Stored}
 use Rattle.raster.proofs.Runs.{stored_none, stored_step, stored_all}
 use Rattle.blend.specs.Unmasked.{unmasked_on}
 use borrow.Author.Rules.{rules}

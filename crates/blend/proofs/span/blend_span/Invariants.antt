@@ -1,13 +1,8 @@
 -- `blend::blend_span` meets its contract: the pixels before i are stored, and the others are as they were. Assumes nothing.
-use mathlib.Core.Path.{ap, ◌∙◌}
-use Prim.Native.Nat.{ℕ, ◌-◌, ◌≤◌}
-use native.Mathlib.Omega.{arith}
-use Rattle.color.specs.declared.Pixel.{Pixel}
+use Prim.Native.Nat.{◌-◌, ◌≤◌}
 use Rattle.raster.specs.Surface.{pixel_in}
 use Rattle.raster.specs.Rows.{Stored}
-use Rattle.raster.proofs.Runs.{stored_none, stored_step, stored_all}
 use Rattle.blend.specs.Unmasked.{unmasked_on}
-use borrow.Author.Rules.{rules}
 use Rattle.blend.proofs.span.blend_span.Given as goal
 
 -- `blend::blend_span` meets its contract: the pixels before i are stored, and the others are as they were. Assumes nothing.

@@ -8,7 +8,6 @@ use Rattle.raster.proofs.Runs.{run_is, run_same}
 use Rattle.blend.specs.Unmasked.{unmasked_on}
 use Rattle.blend.specs.Spans.{stored_pixel}
 use Rattle.blend.proofs.Shortcuts.{uncovered_stores, hiding_stores}
-use borrow.Author.Rules.{rules}
 use Rattle.blend.proofs.span.composite_painted.Goals as goal
 
 pub returns-then-coverage-eq0 : goal.returns-then-coverage-eq0

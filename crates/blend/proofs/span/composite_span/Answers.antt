@@ -1,17 +1,12 @@
 -- `blend::composite_span` meets its contract: each way stores what the step does. Assumes nothing.
 use mathlib.Core.Path.{sym, ◌∙◌}
-use Prim.Native.Nat.{◌<◌}
 use native.Mathlib.Omega.{arith}
 use Rattle.raster.specs.Surface.{pixel_in}
 use Rattle.raster.proofs.Runs.{run_is, run_same}
 use Rattle.blend.specs.Unmasked.{unmasked_on}
 use Rattle.blend.specs.Spans.{stored_pixel}
 use Rattle.blend.proofs.Shortcuts.{uncovered_stores, hiding_stores}
-use borrow.Author.Rules.{rules}
 use Rattle.blend.proofs.span.composite_span.Goals as goal
-
-source-bytes : (c : goal.After-store_span-arg-1) → let s = c.args.src in (s.r < 256) × (s.g < 256) × (s.b < 256) × (s.a < 256)
-source-bytes c = (omega arith, omega arith, omega arith, omega arith)
 
 pub returns-then-coverage-eq0 : goal.returns-then-coverage-eq0
 returns-then-coverage-eq0 c =
@@ -27,12 +22,11 @@ hides-requires c =
 pub returns-then-hides : goal.returns-then-hides
 returns-then-hides c =
     let a = c.args in
-    let b = source-bytes c.before.before.before.before in
     c.store_span.ensures
     ∙ run_same a.n (λ i. stored_pixel a.coverage a.src (pixel_in a.row.now i))
     (λ i. unmasked_on a.mode a.coverage a.src (pixel_in a.row.now i))
     (λ i l.
-    sym (hiding_stores a.mode a.coverage a.src (pixel_in a.row.now i) b.0 b.1 b.2 b.3
+    sym (hiding_stores a.mode a.coverage a.src (pixel_in a.row.now i) (omega arith) (omega arith) (omega arith) (omega arith)
     (sym c.hides.ensures ∙ c.if-hides.true)))
 
 pub returns : goal.returns

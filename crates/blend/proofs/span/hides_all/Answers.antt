@@ -1,7 +1,6 @@
 -- `blend::hides_all` meets its contract: a mode under which every paint hides, or opaque pixels under SrcOver. Assumes nothing.
 use mathlib.Core.Path.{refl, sym, subst}
 use lib.Dec.{T}
-use borrow.Author.Rules.{rules}
 use Rattle.blend.proofs.span.hides_all.Goals as goal
 
 pub returns-then-mode-eq-SRC : goal.returns-then-mode-eq-SRC

@@ -1,17 +1,11 @@
 -- `blend::over_kept` meets its contract: the pixels before i are blended, and the others are as they were. Assumes nothing.
-use mathlib.Core.Path.{◌≡◌, ap, ◌∙◌}
-use Prim.Native.Nat.{ℕ, ◌-◌, ◌*◌, ◌≤◌}
-use native.Mathlib.Omega.{arith}
-use lib.ListN.{length, take, drop}
-use Rattle.lists.proofs.Laws.{part_length}
-use Rattle.color.specs.declared.Pixel.{Pixel}
+use mathlib.Core.Path.{◌≡◌}
+use Prim.Native.Nat.{◌-◌, ◌≤◌}
+use lib.ListN.{length}
 use Rattle.raster.specs.Surface.{pixel_in}
 use Rattle.raster.specs.Rows.{Stored}
-use Rattle.raster.proofs.Runs.{stored_none, stored_all}
 use Rattle.blend.specs.PorterDuff.{mode_src_over}
 use Rattle.blend.specs.Unmasked.{unmasked_on}
-use Rattle.blend.proofs.Spans.{part_turn, part_paint}
-use borrow.Author.Rules.{rules}
 use Rattle.blend.proofs.span.over_kept.Given as goal
 
 -- `blend::over_kept` meets its contract: the pixels before i are blended, and the others are as they were. Assumes nothing.

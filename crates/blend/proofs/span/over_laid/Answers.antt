@@ -7,7 +7,6 @@ use lib.ListN.{length, take}
 use Rattle.lists.proofs.Laws.{part_length}
 use Rattle.color.specs.declared.Pixel.{Pixel}
 use Rattle.raster.specs.Surface.{run, pixel_in}
-use Rattle.raster.specs.Rows.{Stored}
 use Rattle.raster.proofs.Pixels.{run_length, run_at}
 use Rattle.raster.proofs.Runs.{run_is, run_same, stored_none, stored_all}
 use Rattle.blend.specs.PorterDuff.{mode_src_over}
@@ -15,7 +14,6 @@ use Rattle.blend.specs.Unmasked.{unmasked_on}
 use Rattle.blend.specs.Spans.{keep_pixel}
 use Rattle.blend.proofs.Shortcuts.{uncovered_stores}
 use Rattle.blend.proofs.Spans.{part_turn, laid_part}
-use borrow.Author.Rules.{rules}
 use Rattle.blend.proofs.span.over_laid.Goals as goal
 use Rattle.blend.proofs.span.over_laid.Tie as tie
 use Rattle.blend.proofs.span.over_laid.Lts as lts

@@ -1,5 +1,4 @@
 -- `blend::over_part` meets its contract: it hands on what the two ways promise. Assumes nothing.
-use borrow.Author.Rules.{rules}
 use Rattle.blend.proofs.span.over_part.Goals as goal
 
 pub returns-then-coverage-eq16 : goal.returns-then-coverage-eq16

@@ -4,7 +4,6 @@ use Rattle.raster.specs.Surface.{pixel_in}
 use Rattle.raster.proofs.Runs.{run_same}
 use Rattle.blend.specs.Spans.{stored_pixel}
 use Rattle.blend.proofs.Shortcuts.{covered_stores}
-use borrow.Author.Rules.{rules}
 use Rattle.blend.proofs.span.store_span.Goals as goal
 
 pub returns-then-coverage-eq16 : goal.returns-then-coverage-eq16

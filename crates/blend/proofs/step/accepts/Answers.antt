@@ -3,7 +3,6 @@ use mathlib.Core.Path.{◌≡◌, refl, sym, ap, ◌∙◌}
 use mathlib.Core.Bool.{Bool, true, false, ◌&&◌}
 use Prim.Native.Nat.{ℕ, ◌<◌}
 use native.Mathlib.Omega.{arith}
-use borrow.Author.Rules.{rules}
 use borrow.Author.Tests.{le-leb, lt-leb, not-true, not-false}
 use lib.Dec.{leb}
 use Rattle.blend.specs.PorterDuff.{mode_src, mode_dst_in, is_mode}
@@ -19,7 +18,7 @@ and-false false = refl
 no_mode : (mode : ℕ) → 65535 < mode → is_mode mode ≡ false
 no_mode mode h = ap (λ (t : Bool). leb mode_src mode && t) (lt-leb mode mode_dst_in (omega arith)) ∙ and-false (leb mode_src mode)
 
-mode : (c : lts.Else2 tie.the-claims reads.Pre reads.Post tie.handed_clauses) → is_mode c.args.mode ≡ true
+mode : (c : lts.Else2 tie.the-claims reads.Pre reads.Post) → is_mode c.args.mode ≡ true
 mode c = sym c.is_mode.ensures ∙ not-false _ c.if-not-is_mode.false-raw
 
 pub returns-then-mode-gt65535 : goal.returns-then-mode-gt65535

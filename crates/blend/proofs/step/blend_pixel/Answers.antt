@@ -1,6 +1,5 @@
 -- `blend::blend_pixel` meets its contract: B of each channel is stored. Assumes nothing.
 use Rattle.blend.specs.Unmasked.{unmasked_byte}
-use borrow.Author.Rules.{rules}
 use Rattle.blend.proofs.step.blend_pixel.Goals as goal
 
 pub source_factor-fs-requires : goal.source_factor-fs-requires

@@ -1,6 +1,5 @@
 -- `blend::composite_on` meets its contract: a whole mask is none, and where no sample is covered the pixel stays. Assumes nothing.
 use mathlib.Core.Path.{sym, ◌∙◌}
-use borrow.Author.Rules.{rules}
 use Rattle.blend.proofs.Masks.{whole_mask_step, uncovered_masked}
 use Rattle.blend.proofs.step.composite_on.Goals as goal
 

@@ -1,6 +1,5 @@
 -- `blend::composite_pixel` meets its contract: it stays at k = 0, and is read clamped elsewhere. Assumes nothing.
 use mathlib.Core.Path.{sym, ◌∙◌}
-use borrow.Author.Rules.{rules}
 use Rattle.blend.proofs.Shortcuts.{uncovered_keeps, covered_reads}
 use Rattle.blend.proofs.step.composite_pixel.Goals as goal
 

@@ -1,5 +1,4 @@
 -- `blend::stored_pixel` meets its contract: its four bytes are stored. Assumes nothing.
-use borrow.Author.Rules.{rules}
 use Rattle.blend.proofs.step.stored_pixel.Goals as goal
 
 pub returns : goal.returns

@@ -1,7 +1,6 @@
 -- `blend::unmasked_on` meets its contract: what it answers without arithmetic is the same by the channel's laws. Assumes nothing.
 use mathlib.Core.Path.{sym, ◌∙◌}
 use native.Mathlib.Omega.{arith}
-use borrow.Author.Rules.{rules}
 use Rattle.blend.proofs.Shortcuts.{uncovered_stores, hiding_replaces}
 use Rattle.blend.proofs.step.unmasked_on.Goals as goal
 

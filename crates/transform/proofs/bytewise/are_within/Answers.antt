@@ -1,21 +1,20 @@
 -- `transform::bytewise::are_within` meets its contract.
 use mathlib.Core.Bool.{false≢true}
 use borrow.Author.Tests.{not-false}
-use borrow.Author.Rules.{rules}
 use mir.Facts.{to_z-of_z}
 use Rattle.transform.proofs.bytewise.are_within.Goals as goal
 
 pub returns-then-not-is_within : goal.returns-then-not-is_within
 returns-then-not-is_within c =
-    absurd (false≢true e)
+    λ e. absurd (false≢true e)
 
 pub returns-then-not-is_within-2 : goal.returns-then-not-is_within-2
 returns-then-not-is_within-2 c =
-    absurd (false≢true e)
+    λ e. absurd (false≢true e)
 
 pub returns-then-not-is_within-3 : goal.returns-then-not-is_within-3
 returns-then-not-is_within-3 c =
-    absurd (false≢true e)
+    λ e. absurd (false≢true e)
 
 pub returns : goal.returns
 returns c =

@@ -1,6 +1,5 @@
 -- `transform::bytewise::is_narrow` meets its contract.
 use mathlib.Core.Bool.{false≢true}
-use borrow.Author.Rules.{rules}
 use mir.Syntax.{w32}
 use Rattle.fixed.proofs.Signed.{back}
 use Rattle.transform.proofs.bytewise.is_narrow.Goals as goal
@@ -26,4 +25,4 @@ returns-then-are_within c =
 
 pub returns : goal.returns
 returns c =
-    absurd (false≢true e)
+    λ e. absurd (false≢true e)

@@ -1,12 +1,5 @@
 -- `transform::bytewise::is_opaque` meets its contract: up to i every pixel has all bits that are left.
-use mathlib.Core.Path.{◌≡◌, sym, ap, ◌∙◌}
-use Prim.Native.Nat.{ℕ, ◌+◌, ◌-◌, ◌*◌, ◌/◌, ◌≤◌, ◌<◌}
-use native.Mathlib.Omega.{arith}
-use lib.Bits.{bit_and, and_le_l, and_le_r}
-use borrow.Author.Count.{below_more}
-use borrow.Author.Tests.{leb-true}
-use borrow.Author.Rules.{rules}
-use Rattle.color.specs.declared.Pixel.{Pixel}
+use Prim.Native.Nat.{ℕ, ◌-◌, ◌/◌, ◌≤◌, ◌<◌}
 use Rattle.raster.specs.Surface.{pixel_in}
 use Rattle.transform.proofs.bytewise.is_opaque.Given as goal
 

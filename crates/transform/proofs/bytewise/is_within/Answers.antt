@@ -2,7 +2,6 @@
 use mathlib.Core.Path.{◌∙◌}
 use mathlib.Core.Bool.{false≢true}
 use native.Mathlib.Omega.{arith}
-use borrow.Author.Rules.{rules}
 use mir.Syntax.{w32}
 use mir.Facts.{to_z-of_z}
 use Rattle.fixed.proofs.Means.{Num, need, keep, of_nat, lit, sub}
@@ -23,7 +22,7 @@ overflow_sub-most c =
 
 pub returns-then-z-most : goal.returns-then-z-most
 returns-then-z-most c =
-    absurd (false≢true e)
+    λ e. absurd (false≢true e)
 
 pub returns : goal.returns
 returns c =

@@ -1,6 +1,5 @@
 -- `transform::bytewise::lay_addends` meets its contract.
 use mathlib.Core.Path.{ap, ◌∙◌}
-use borrow.Author.Rules.{rules}
 use mir.Syntax.{w32}
 use Rattle.fixed.proofs.Signed.{back}
 use Rattle.transform.specs.Bytewise.{addend}

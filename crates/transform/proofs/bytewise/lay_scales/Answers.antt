@@ -1,6 +1,5 @@
 -- `transform::bytewise::lay_scales` meets its contract.
 use mathlib.Core.Path.{◌∙◌}
-use borrow.Author.Rules.{rules}
 use mir.Syntax.{w16, w32}
 use Rattle.fixed.proofs.Signed.{back}
 use Rattle.transform.proofs.bytewise.lay_scales.Goals as goal

@@ -1,26 +1,16 @@
 -- `transform::bytewise::lay_wide` meets its contract: the numbers of i pixels are laid out.
-use mathlib.Core.Path.{◌≡◌, refl}
-use mathlib.Core.List.{List, [], ◌∷◌}
-use Prim.Native.Nat.{ℕ, ◌+◌, ◌-◌, ◌*◌, ◌≤◌}
+use mathlib.Core.Path.{refl}
+use Prim.Native.Nat.{◌+◌, ◌*◌}
 use native.Mathlib.Omega.{arith}
-use lib.IntN.{ℤ}
-use lib.ListN.{length, length-set}
+use lib.ListN.{length-set}
 use mir.Syntax.{w32}
 use mir.Val.{to_z, of_z}
 use mir.Facts.{to_z-of_z}
 use borrow.Author.Rules.{rules}
-use Rattle.lists.specs.Lists.{upto, over}
+use Rattle.transform.proofs.bytewise.lay_wide.Invariants.{four}
 use Rattle.lists.proofs.Laws.{emit_four, emit_all}
 use Rattle.transform.specs.Bytewise.{laid}
 use Rattle.transform.proofs.bytewise.lay_wide.Goals as goal
-
--- what is stored in each turn, out of the bits that the parameters are kept as
-abbrev four : ℕ → ℕ → ℕ → ℕ → ℕ → List ℤ
-four r g b a k = to_z w32 r ∷ to_z w32 g ∷ to_z w32 b ∷ to_z w32 a ∷ []
-
--- of all turns
-abbrev stored : goal.Start → ℕ → List ℤ
-stored c = four (of_z w32 c.args.r) (of_z w32 c.args.g) (of_z w32 c.args.b) (of_z w32 c.args.a)
 
 pub bounds-s-at-in-loop-i : goal.bounds-s-at-in-loop-i
 bounds-s-at-in-loop-i c =
@@ -39,7 +29,7 @@ loop-i-preserved c =
     let l = c.loop-i in (
       search rules,
       simp length-set (omega arith),
-      emit_four (stored c.before.before) l.s c.args.s.now l.i (l.i * 4) (l.i + 1) _ _ _ _ (λ n. refl) refl l.invariant.2 refl refl
+      emit_four (four (to_z w32 (of_z w32 c.args.r)) (to_z w32 (of_z w32 c.args.g)) (to_z w32 (of_z w32 c.args.b)) (to_z w32 (of_z w32 c.args.a))) l.s c.args.s.now l.i (l.i * 4) (l.i + 1) _ _ _ _ (λ n. refl) refl l.invariant.2 refl refl
           (omega (arith, c.requires)),
     )
 
@@ -49,4 +39,4 @@ returns c =
     let f = c.ranges in
     let l = c.loop-i in
     rw (to_z-of_z f.r, to_z-of_z f.g, to_z-of_z f.b, to_z-of_z f.a) at
-    (emit_all 4 (stored c.before.before) l.s c.args.s.now l.i 16 (λ k. refl) l.invariant.2 (omega arith) (omega (arith, c.requires)))
+    (emit_all 4 (four (to_z w32 (of_z w32 c.args.r)) (to_z w32 (of_z w32 c.args.g)) (to_z w32 (of_z w32 c.args.b)) (to_z w32 (of_z w32 c.args.a))) l.s c.args.s.now l.i 16 (λ k. refl) l.invariant.2 (omega arith) (omega (arith, c.requires)))

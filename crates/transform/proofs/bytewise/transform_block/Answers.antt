@@ -1,12 +1,11 @@
 -- `transform::bytewise::transform_block` meets its contract: the bytes before i are transformed, and the others are as they were.
 use mathlib.Core.Path.{◌≡◌, ap, ◌∙◌}
-use Prim.Native.Nat.{ℕ, ◌-◌, ◌*◌, ◌≤◌, ◌<◌}
+use Prim.Native.Nat.{ℕ, ◌*◌, ◌≤◌, ◌<◌}
 use native.Mathlib.Omega.{arith}
 use lib.IntN.{pos, nat_abs, ◌+ℤ◌, ◌*ℤ◌}
 use lib.ListN.{length, get_or, length-set}
 use mir.Syntax.{w16, w32}
 use mir.Facts.{to_z-of_z}
-use Rattle.lists.specs.Lists.{tab, over}
 use Rattle.lists.proofs.Laws.{tab_turn, tab_all, tab_read}
 use Rattle.fixed.specs.Floor.{floor_div}
 use Rattle.fixed.proofs.Signed.{clean}

@@ -1,14 +1,11 @@
 -- `transform::bytewise::transform_blocks` meets its contract: the pixels before i are transformed, and the others are as they were.
 use mathlib.Core.Path.{◌∙◌}
-use Prim.Native.Nat.{◌-◌, ◌*◌, ◌≤◌}
+use Prim.Native.Nat.{◌*◌}
 use native.Mathlib.Omega.{arith}
 use Rattle.lists.proofs.Laws.{part_length}
-use Rattle.raster.specs.Surface.{pixel_in}
-use Rattle.raster.specs.Rows.{Stored}
 use Rattle.raster.proofs.Runs.{stored_none, stored_all}
 use Rattle.transform.specs.Transforms.{transform_channels}
 use Rattle.transform.proofs.Laid.{part_turn}
-use borrow.Author.Rules.{rules}
 use Rattle.transform.proofs.bytewise.transform_blocks.Goals as goal
 
 pub loop-i-init : goal.loop-i-init

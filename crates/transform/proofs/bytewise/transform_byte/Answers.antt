@@ -1,7 +1,6 @@
 -- `transform::bytewise::transform_byte` meets its contract: no step overflows, by the types of the parameters and the size of the addend.
 use mathlib.Core.Path.{◌≡◌, ap, ◌∙◌}
 use native.Mathlib.Omega.{arith}
-use borrow.Author.Rules.{rules}
 use lib.IntN.{ℤ, pos, nat_abs}
 use mir.Syntax.{w16, w32}
 use mir.Val.{to_z, of_z}

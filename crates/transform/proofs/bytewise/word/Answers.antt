@@ -1,7 +1,6 @@
 -- `transform::bytewise::word` meets its contract.
 use mathlib.Core.Path.{refl}
 use native.Mathlib.Omega.{arith}
-use borrow.Author.Rules.{rules}
 use Rattle.transform.proofs.Bytes.{word_back}
 use Rattle.transform.proofs.bytewise.word.Goals as goal
 

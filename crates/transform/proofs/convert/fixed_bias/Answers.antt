@@ -2,7 +2,6 @@
 use mathlib.Core.Path.{ap, ◌∙◌}
 use lib.Dec.{lit≤}
 use lib.Ieee.{of_bits}
-use borrow.Author.Rules.{rules}
 use mir.Syntax.{w32}
 use Rattle.fixed.specs.Floats.{scaled}
 use Rattle.fixed.proofs.Scaled.{limit_raised}
@@ -19,4 +18,4 @@ in_256ths-requires c =
 pub returns : goal.returns
 unfolding of_bits fixed_bias
 returns c =
-    back w32 c.in_256ths.result c.in_256ths.ok ∙ c.in_256ths.ensures ∙ ap (scaled 256) c.cut.ensures
+    back w32 c.in_256ths.result c.in_256ths.type_inv ∙ c.in_256ths.ensures ∙ ap (scaled 256) c.cut.ensures

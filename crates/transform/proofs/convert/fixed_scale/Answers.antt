@@ -1,7 +1,6 @@
 -- `transform::convert::fixed_scale` meets its contract.
 use mathlib.Core.Path.{ap, ◌∙◌}
 use lib.Ieee.{of_bits}
-use borrow.Author.Rules.{rules}
 use mir.Syntax.{w32}
 use Rattle.fixed.specs.Floats.{scaled}
 use Rattle.fixed.proofs.Signed.{back}
@@ -17,4 +16,4 @@ in_256ths-requires c =
 pub returns : goal.returns
 unfolding of_bits fixed_scale
 returns c =
-    back w32 c.in_256ths.result c.in_256ths.ok ∙ c.in_256ths.ensures ∙ ap (scaled 256) c.cut.ensures
+    back w32 c.in_256ths.result c.in_256ths.type_inv ∙ c.in_256ths.ensures ∙ ap (scaled 256) c.cut.ensures

@@ -1,7 +1,6 @@
 -- `transform::pixels::keeps_opaque` meets its contract.
 use mathlib.Core.Path.{sym, ◌∙◌}
 use mathlib.Core.Bool.{false≢true}
-use borrow.Author.Rules.{rules}
 use mir.Syntax.{w32}
 use Rattle.fixed.proofs.Signed.{back}
 use Rattle.transform.proofs.pixels.keeps_opaque.Goals as goal
@@ -19,4 +18,4 @@ returns-then-transform_channel c =
 
 pub returns : goal.returns
 returns c =
-    absurd (false≢true e)
+    λ e. absurd (false≢true e)

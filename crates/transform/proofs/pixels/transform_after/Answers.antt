@@ -1,6 +1,5 @@
 -- `transform::pixels::transform_after` meets its contract.
 use mathlib.Core.Path.{sym, ap, ◌∙◌}
-use borrow.Author.Rules.{rules}
 use Rattle.transform.specs.Transforms.{transformed}
 use Rattle.transform.proofs.pixels.transform_after.Goals as goal
 

@@ -1,7 +1,6 @@
 -- `transform::pixels::transform_channel` meets its contract: no step overflows, by the types of the parameters.
 use mathlib.Core.Path.{ap, ◌∙◌}
 use native.Mathlib.Omega.{arith}
-use borrow.Author.Rules.{rules}
 use mir.Syntax.{w32, w64}
 use Rattle.fixed.proofs.Means.{Num, need, keep, param, of_nat, lit, add, mul, shr}
 use Rattle.transform.specs.Transforms.{byte_in, transform_channel}

@@ -1,6 +1,5 @@
 -- `transform::pixels::transform_color` meets its contract.
 use mathlib.Core.Path.{ap, ◌∙◌}
-use borrow.Author.Rules.{rules}
 use mir.Facts.{to_z-of_z}
 use Rattle.transform.specs.Transforms.{transform_channel}
 use Rattle.transform.proofs.pixels.transform_color.Goals as goal

@@ -1,10 +1,9 @@
 -- `transform::pixels::transform_pixels` meets its contract: the pixels before i are transformed, the others as they were, and q is the last one transformed.
-use mathlib.Core.Path.{◌≡◌, sym, ap, ◌∙◌}
-use Prim.Native.Nat.{ℕ, ◌-◌, ◌≤◌}
+use mathlib.Core.Path.{sym, ap, ◌∙◌}
+use Prim.Native.Nat.{ℕ}
 use native.Mathlib.Omega.{arith}
 use Rattle.color.specs.declared.Pixel.{Pixel}
 use Rattle.raster.specs.Surface.{pixel_in}
-use Rattle.raster.specs.Rows.{Stored}
 use Rattle.raster.proofs.Runs.{stored_none, stored_step, stored_all}
 use Rattle.transform.specs.Transforms.{transformed}
 use borrow.Author.Rules.{rules}

@@ -1,6 +1,5 @@
 -- `transform::pixels::transform_row` meets its contract.
 use mathlib.Core.Path.{sym, ◌∙◌}
-use borrow.Author.Rules.{rules}
 use Rattle.raster.specs.Surface.{pixel_in}
 use Rattle.raster.proofs.Runs.{run_same}
 use Rattle.transform.specs.Transforms.{transform_channels, transformed}

@@ -4,7 +4,6 @@ use mathlib.Core.List.{List}
 use Prim.Native.Nat.{ℕ}
 use native.Mathlib.Omega.{arith}
 use lib.ListN.{length, get_or}
-use borrow.Author.Rules.{rules}
 use Rattle.transform.proofs.Quotients.{table_length, table_entry}
 use Rattle.transform.proofs.reciprocals.reciprocal.Goals as goal
 

@@ -2,7 +2,6 @@
 use mathlib.Core.Path.{ap, ◌∙◌}
 use Prim.Native.Nat.{ℕ, ◌+◌, ◌*◌, ◌/◌, ◌≤◌}
 use native.Mathlib.Omega.{arith}
-use borrow.Author.Rules.{rules}
 use Rattle.transform.proofs.Quotients.{by_reciprocal, product_small}
 use Rattle.transform.proofs.Opaque.{opaque_channel}
 use Rattle.transform.proofs.reciprocals.unpremultiply.Goals as goal
