@@ -9,11 +9,11 @@ use Rattle.paint.proofs.opacity.is_opaque.Tie as tie
 use Rattle.paint.proofs.opacity.is_opaque.Lts as lts
 use Rattle.paint.proofs.opacity.is_opaque.Reads as reads
 
-linear-held : (c : lts.After-known_told tie.the-claims reads.Pre reads.Post tie.handed_clauses) → HeldRamp c.args.ramp.now c.in-Linear.l.count
+linear-held : (c : lts.After-known_told tie.the-claims reads.Pre reads.Post) → HeldRamp c.args.ramp.now c.in-Linear.l.count
 linear-held c =
     (subst (λ (g : AnyGradient). HeldGradient g c.args.ramp.now) c.in-Linear.is c.requires).1
 
-radial-held : (c : lts.After-known_told2 tie.the-claims reads.Pre reads.Post tie.handed_clauses) → HeldRamp c.args.ramp.now c.in-Radial.r.count
+radial-held : (c : lts.After-known_told2 tie.the-claims reads.Pre reads.Post) → HeldRamp c.args.ramp.now c.in-Radial.r.count
 radial-held c =
     (subst (λ (g : AnyGradient). HeldGradient g c.args.ramp.now) c.in-Radial.is c.requires).2
 

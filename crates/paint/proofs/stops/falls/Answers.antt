@@ -21,7 +21,7 @@ or-false : (a : Bool) → (a || false) ≡ a
 or-false true = refl
 or-false false = refl
 
-fell : (c : lts.Joined1 tie.the-claims reads.Pre reads.Post goal.the-invariant-loop-i goal.the-decreases-loop-i tie.handed_clauses)
+fell : (c : lts.Joined1 tie.the-claims reads.Pre reads.Post goal.the-invariant-loop-i goal.the-decreases-loop-i)
     → c.if-falls_at.fell ≡ falls_in c.args.stops.now c.loop-i.i
 fell c =
     let l = c.loop-i in
