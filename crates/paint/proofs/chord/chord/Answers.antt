@@ -45,7 +45,7 @@ isqrt_near-requires c =
 
 pub columns_from-requires : goal.columns_from-requires
 columns_from-requires c =
-    let small = root_small (nat_abs (to_z w64 (of_z w64 c.less_squared-rest.result))) (isqrt_near-requires c.before κs) in
+    let small = root_small (nat_abs (to_z w64 (of_z w64 c.less_squared-rest.result))) (isqrt_near-requires c.before) in
     (rw (to_z-of_z c.ranges.ex) c.requires.1, omega (arith, small, c.isqrt_near.ensures))
 
 pub returns : goal.returns

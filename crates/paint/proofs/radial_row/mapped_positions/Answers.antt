@@ -77,9 +77,7 @@ guess_roots-requires c =
 
 pub loop-i-init : goal.loop-i-init
 loop-i-init c =
-    λ c.
-    let g = c.before.before.before.before.before.before.before.before.before.before.before.before.before.args.g in
-    walk_begins (position g) (size g) _ _ c
+    let g = c.args.g in walk_begins (position g) (size g) _ _
 
 pub offset_bounds-ks-i : goal.offset_bounds-ks-i
 offset_bounds-ks-i c =
