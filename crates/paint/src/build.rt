@@ -100,7 +100,7 @@ fn close_ramp(ramp: &mut [u32], count: usize) -> usize
 
 // An opaque gray: black, white.
 fn gray(c: u8) -> Pixel
-    ensures* { λ r. ⌜ r ≡ record { r = c; g = c; b = c; a = 255 } ⌝ }
+    ensures { result ≡ record { r = c; g = c; b = c; a = 255 } }
 {
     Pixel {
         r: c,

@@ -7,9 +7,9 @@ bounds-ramp-2 c =
     omega (arith, c.if-count-eq2.true, c.requires)
 
 pub returns-then-count-eq2 : goal.returns-then-count-eq2
-returns-then-count-eq2 c =
+returns-then-count-eq2 c e =
     (c.if-count-eq2.true, eqb-true _ 65536 e)
 
 pub returns : goal.returns
-returns c =
+returns c e =
     absurd (subst T (sym e) tt)

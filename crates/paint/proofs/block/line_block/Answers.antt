@@ -21,7 +21,10 @@ stop_color-requires-2 c =
 pub line_pixels-requires : goal.line_pixels-requires
 line_pixels-requires c =
     let f = c.requires.held_ramp.2 in
-    record { first_bound = (rw (clean w64 2305843009213693952 _ tt f.small, clean w64 18014398509481984 _ tt f.slow) ((f.small, f.slow), c.requires.row_len)).0; row_len = (rw (clean w64 2305843009213693952 _ tt f.small, clean w64 18014398509481984 _ tt f.slow) ((f.small, f.slow), c.requires.row_len)).1 }
+    record {
+      first_bound = rw (clean w64 2305843009213693952 _ tt f.small, clean w64 18014398509481984 _ tt f.slow) (f.small, f.slow);
+      row_len = c.requires.row_len;
+    }
 
 pub returns : goal.returns
 returns c =

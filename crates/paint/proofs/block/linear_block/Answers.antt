@@ -1,15 +1,12 @@
 -- `block::linear_block` meets its contract.
-use Rattle.std.proofs.Common.{◌≡◌, ℕ, ◌/◌, length, subst, arith, rules}
+use Rattle.std.proofs.Common.{◌≡◌, ℕ, ◌*◌, ◌/◌, length, subst, arith, rules}
 use Rattle.paint.specs.Buffers.{HeldRamp}
 use Rattle.paint.proofs.block.linear_block.Goals as goal
-use Rattle.paint.proofs.block.linear_block.Tie as tie
-use Rattle.paint.proofs.block.linear_block.Lts as lts
-use Rattle.paint.proofs.block.linear_block.Reads as reads
 
 -- ---- a line serves
 -- the row has room for n pixels
-room : (c : lts.Start tie.the-claims reads.Pre reads.Post tie.handed_clauses) → length c.args.row.now / 4 ≡ c.args.n
-room c = omega (arith, c.requires.n_bound.2)
+room : (m n : ℕ) → m ≡ n * 4 → m / 4 ≡ n
+room m n e = omega arith
 
 pub row_line-l-requires : goal.row_line-l-requires
 row_line-l-requires c =
@@ -23,25 +20,20 @@ pub line_block-requires : goal.line_block-requires
 line_block-requires c =
     let ends = c.has_ends_only.ensures c.if-has_ends_only.true in
     record {
-      held_ramp = (rw (room c.before.before.before.before.before.before.before.before) (
-        (subst (λ (n : ℕ). HeldRamp c.args.ramp.now n) ends.0 c.requires.limited_points.1, ends.1, c.row_Line.ensures c.if-l.true),
-        (c.requires.n_bound.2, c.requires.n_bound.3),
-      )).0;
-      row_len = (rw (room c.before.before.before.before.before.before.before.before) (
-        (subst (λ (n : ℕ). HeldRamp c.args.ramp.now n) ends.0 c.requires.limited_points.1, ends.1, c.row_Line.ensures c.if-l.true),
-        (c.requires.n_bound.2, c.requires.n_bound.3),
-      )).1;
+      held_ramp = rw (room _ _ c.requires.n_bound.2)
+          (subst (λ (n : ℕ). HeldRamp c.args.ramp.now n) ends.0 c.requires.limited_points.1, ends.1, c.row_line-l.ensures c.if-l.true);
+      row_len = rw (room _ _ c.requires.n_bound.2) (c.requires.n_bound.2, c.requires.n_bound.3);
     }
 
 pub returns-then-has_ends_only : goal.returns-then-has_ends_only
 returns-then-has_ends_only c =
     let ends = c.has_ends_only.ensures c.if-has_ends_only.true in
-    rw ends.0 (rw (room c.before.before.before.before.before.before.before.before.before.before.before) at c.line_block.ensures)
+    rw ends.0 (rw (room _ _ c.requires.n_bound.2) at c.line_block.ensures)
 
 -- ---- by positions
 pub placed_block-requires : goal.placed_block-requires
 placed_block-requires c =
-    record { limited_points = c.requires.limited_points; n_bound = c.requires.n_bound; follows = c.row_Line.ensures }
+    record { limited_points = c.requires.limited_points; n_bound = c.requires.n_bound; follows = c.row_line-l.ensures }
 
 pub returns : goal.returns
 returns c =

@@ -30,7 +30,11 @@ linear_positions-requires c =
     let a = c.args in
     let n : length (take (a.n - 0) (drop 0 a.ks.now)) ≡ a.n =
     part_length a.ks.now 0 a.n (omega arith) (omega (arith, c.requires.n_bound.3, c.requires.n_bound.4)) ∙ omega arith in
-    record { limited_points = (rw n ((c.requires.limited_points.0, c.requires.limited_points.2), ((c.requires.n_bound.0, c.requires.n_bound.1, c.requires.n_bound.3), c.requires.follows))).0; ks_bound = (rw n ((c.requires.limited_points.0, c.requires.limited_points.2), ((c.requires.n_bound.0, c.requires.n_bound.1, c.requires.n_bound.3), c.requires.follows))).1.0; follows = (rw n ((c.requires.limited_points.0, c.requires.limited_points.2), ((c.requires.n_bound.0, c.requires.n_bound.1, c.requires.n_bound.3), c.requires.follows))).1.1 }
+    record {
+      limited_points = (c.requires.limited_points.0, c.requires.limited_points.2);
+      ks_bound = rw n (c.requires.n_bound.0, c.requires.n_bound.1, c.requires.n_bound.3);
+      follows = rw n c.requires.follows;
+    }
 
 pub color_row-requires : goal.color_row-requires
 color_row-requires c =

@@ -10,7 +10,7 @@ use Rattle.paint.proofs.block.segment_words.Lts as lts
 use Rattle.paint.proofs.block.segment_words.Reads as reads
 
 -- the position is one of the block
-inside : (c : lts.In-loop tie.the-claims reads.Pre reads.Post goal.the-invariant-loop-i goal.the-decreases-loop-i tie.handed_clauses)
+inside : (c : lts.In-loop tie.the-claims reads.Pre reads.Post goal.the-invariant-loop-i goal.the-decreases-loop-i)
     → let n = length c.args.ks.now in (c.loop-i.i < n) × (n ≤ 256) × (length c.loop-i.ks ≡ n)
 inside c =
     let l = c.loop-i.invariant in

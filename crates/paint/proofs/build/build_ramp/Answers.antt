@@ -20,7 +20,7 @@ returns-then-falls c =
 
 pub keep_stops-count-requires : goal.keep_stops-count-requires
 keep_stops-count-requires c =
-    record { n_bound = (c.requires).0; ramp_numbers_in_bounds = (c.requires).1 }
+    record { n_bound = c.requires.n_bound; ramp_numbers_in_bounds = c.requires.ramp_numbers_in_bounds }
 
 pub close_ramp-requires-2 : goal.close_ramp-requires-2
 close_ramp-requires-2 c =

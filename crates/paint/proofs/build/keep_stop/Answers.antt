@@ -1,6 +1,8 @@
 -- `build::keep_stop` meets its contract.
-use Rattle.std.proofs.Common.{◌≡◌, ◌-◌, List, [], ◌∷◌, map, sym, ap, ◌∙◌, arith, rules}
-use Rattle.fixed.proofs.Answers.{no_offset_arm}
+use Rattle.std.proofs.Common.{◌≡◌, ℕ, ◌-◌, false, List, [], ◌∷◌, map, refl, sym, ap, ◌∙◌, arith, rules}
+use Rattle.fixed.specs.declared.Offset.{Offset}
+use Rattle.fixed.specs.declared.Offset.TheVariants.{At, Outside, NotANumber}
+use Rattle.fixed.proofs.Answers.{is_offset}
 use Rattle.color.specs.declared.Pixel.{Pixel}
 use Rattle.paint.specs.Ramps.{kept_at, stop, prepared}
 use Rattle.paint.specs.Buffers.{stops_in, grown}
@@ -12,6 +14,11 @@ use Rattle.paint.proofs.build.keep_stop.Tie as tie
 use Rattle.paint.proofs.build.keep_stop.Lts as lts
 use Rattle.paint.proofs.build.keep_stop.Reads as reads
 
+no_offset : (o : Offset) → ((x : ℕ) → o ≡ At x → ⊥) → is_offset o ≡ false
+no_offset (At x) h = absurd (h x refl)
+no_offset Outside h = refl
+no_offset NotANumber h = refl
+
 -- the stop that is kept
 abbrev kept : lts.After-color_at tie.the-claims reads.Pre reads.Post tie.handed_clauses → Stop
 kept c = stop c.in-At.x c.color_at-c.result
@@ -21,16 +28,15 @@ kept_is : (c : lts.After-color_at tie.the-claims reads.Pre reads.Post tie.handed
 kept_is c =
     let a = c.args in
     let r = c.offset_at-o in
-    let o = c.o-1.given in
-    ap (map (prepared a.premultiply)) (kept_one a.stops.now a.i o.0.0 r.result r.ensures o.1)
-    ∙ ap (λ (q : Pixel). stop o.0.0 q ∷ []) (sym c.color_at-c.ensures)
+    ap (map (prepared a.premultiply)) (kept_one a.stops.now a.i c.in-At.x r.result r.ensures c.in-At.is)
+    ∙ ap (λ (q : Pixel). stop c.in-At.x q ∷ []) (sym c.color_at-c.ensures)
 
 pub returns-in_default : goal.returns-in_default
 returns-in_default c =
     let a = c.args in
     let r = c.offset_at-o in
     let before = stops_in a.ramp.now a.count in
-    let none = kept_none a.stops.now a.i r.result r.ensures (no_offset_arm r.result c.in_default.keys2) in
+    let none = kept_none a.stops.now a.i r.result r.ensures (no_offset r.result c.in_default.not-At) in
     record { written = so_written (none_written a.ramp.now a.count) (sym (ap (λ (l : List Stop). grown before (map (prepared a.premultiply) l)) none)); lower_bound = (omega arith, omega arith) }
 
 pub first_stop-requires : goal.first_stop-requires
@@ -43,7 +49,7 @@ returns-then-count-eq0 c =
     let before = stops_in a.ramp.now a.count in
     let call = c.first_stop.ensures in
     let first = ap (grown before) (kept_is c.before.before.before.before.before.before) ∙ grown_first a.ramp.now a.count (kept c.before.before.before.before.before.before) c.if-count-eq0.true in
-    record { written = so_written call.0 (sym first); lower_bound = (omega (arith, c.if-count-eq0.true), omega (arith, call.1)) }
+    record { written = so_written call.written (sym first); lower_bound = (omega (arith, c.if-count-eq0.true), omega (arith, call.upper_bound)) }
 
 pub push-requires : goal.push-requires
 push-requires c =

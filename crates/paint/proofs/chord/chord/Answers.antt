@@ -12,14 +12,14 @@ use Rattle.paint.proofs.chord.chord.Lts as lts
 use Rattle.paint.proofs.chord.chord.Reads as reads
 
 -- ---- r² - ey²
-rest-is : (c : lts.After-less_squared tie.the-claims reads.Pre reads.Post tie.handed_clauses) → let a = c.args in c.less_squared-rest.result ≡ a.r *ℤ a.r -ℤ a.ey *ℤ a.ey
+rest-is : (c : lts.After-less_squared tie.the-claims reads.Pre reads.Post) → let a = c.args in c.less_squared-rest.result ≡ a.r *ℤ a.r -ℤ a.ey *ℤ a.ey
 rest-is c = c.less_squared-rest.ensures.0 ∙ rw (to_z-of_z c.ranges.r, to_z-of_z c.ranges.ey)
 
-read : (c : lts.After-less_squared tie.the-claims reads.Pre reads.Post tie.handed_clauses) → to_z w64 (of_z w64 c.less_squared-rest.result) ≡ c.less_squared-rest.result
+read : (c : lts.After-less_squared tie.the-claims reads.Pre reads.Post) → to_z w64 (of_z w64 c.less_squared-rest.result) ≡ c.less_squared-rest.result
 read c = back w64 c.less_squared-rest.result c.less_squared-rest.type_inv
 
 -- what the test tells of it
-told : (c : lts.After-less_squared tie.the-claims reads.Pre reads.Post tie.handed_clauses) {t : Bool} → le_z (to_z w64 (of_z w64 c.less_squared-rest.result)) (pos 0) ≡ t → le_z c.less_squared-rest.result (pos 0) ≡ t
+told : (c : lts.After-less_squared tie.the-claims reads.Pre reads.Post) {t : Bool} → le_z (to_z w64 (of_z w64 c.less_squared-rest.result)) (pos 0) ≡ t → le_z c.less_squared-rest.result (pos 0) ≡ t
 told c e = rw (read c) at e
 
 above : (c : goal.Else-rest-le0) → pos 0 <ℤ c.less_squared-rest.result
@@ -45,7 +45,7 @@ isqrt_near-requires c =
 
 pub columns_from-requires : goal.columns_from-requires
 columns_from-requires c =
-    let small = root_small (nat_abs (to_z w64 (of_z w64 c.less_squared-rest.result))) (isqrt_near-requires c.before κs) in
+    let small = root_small (nat_abs (to_z w64 (of_z w64 c.less_squared-rest.result))) (isqrt_near-requires c.before) in
     (rw (to_z-of_z c.ranges.ex) c.requires.1, omega (arith, small, c.isqrt_near.ensures))
 
 pub returns : goal.returns

@@ -11,7 +11,7 @@ use Rattle.paint.proofs.chord.first_from.Lts as lts
 use Rattle.paint.proofs.chord.first_from.Reads as reads
 
 -- what the test tells of z
-told : (s : lts.Start reads.Pre reads.Post tie.handed_clauses) {t : Bool} → le_z (to_z w64 (of_z w64 s.args.z)) (pos 0) ≡ t → le_z s.args.z (pos 0) ≡ t
+told : (s : lts.Start reads.Pre reads.Post) {t : Bool} → le_z (to_z w64 (of_z w64 s.args.z)) (pos 0) ≡ t → le_z s.args.z (pos 0) ≡ t
 told s e = rw (to_z-of_z s.ranges.z) at e
 
 -- the pixel, if there are so many

@@ -8,7 +8,7 @@ use Rattle.paint.proofs.gradient.add_quotients.Tie as tie
 use Rattle.paint.proofs.gradient.add_quotients.Lts as lts
 use Rattle.paint.proofs.gradient.add_quotients.Reads as reads
 
-abbrev whole : lts.Start reads.Pre reads.Post tie.handed_clauses → Num
+abbrev whole : lts.Start reads.Pre reads.Post → Num
 whole c = add (sized 1152921504606846976 c.args.a.whole tt c.requires.0.whole) (sized 1152921504606846976 c.args.b.whole tt c.requires.1.whole)
 
 abbrev rest : goal.After-struct_told-4-1 → Num

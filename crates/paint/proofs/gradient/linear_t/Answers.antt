@@ -22,7 +22,7 @@ returns-then-d-eq0 c =
 
 pub numerator-requires : goal.numerator-requires
 numerator-requires c =
-    record { limited_points = (c.requires).0; x_bound = (c.requires).1 }
+    record { limited_points = c.requires.limited_points; x_bound = c.requires.x_bound }
 
 pub floor_div-requires : goal.floor_div-requires
 floor_div-requires c =

@@ -10,10 +10,10 @@ use Rattle.paint.proofs.gradient.row_step.Tie as tie
 use Rattle.paint.proofs.gradient.row_step.Lts as lts
 use Rattle.paint.proofs.gradient.row_step.Reads as reads
 
-abbrev apart : lts.Start tie.the-claims reads.Pre reads.Post tie.handed_clauses → Num
+abbrev apart : lts.Start tie.the-claims reads.Pre reads.Post → Num
 apart c = sub (sized 1048576 c.args.p.x1 tt c.requires.0.x1) (sized 1048576 c.args.p.x0 tt c.requires.0.x0)
 
-abbrev product : lts.Start tie.the-claims reads.Pre reads.Post tie.handed_clauses → Num
+abbrev product : lts.Start tie.the-claims reads.Pre reads.Post → Num
 product c = mul (lit 16777216) (keep w64 (apart c) tt)
 
 pub overflow_sub-p : goal.overflow_sub-p

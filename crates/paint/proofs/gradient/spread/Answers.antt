@@ -11,15 +11,15 @@ use Rattle.paint.proofs.gradient.spread.Tie as tie
 use Rattle.paint.proofs.gradient.spread.Lts as lts
 use Rattle.paint.proofs.gradient.spread.Reads as reads
 
-abbrev t : lts.After-floor_mod3 tie.the-claims reads.Pre reads.Post tie.handed_clauses → ℤ
+abbrev t : lts.After-floor_mod3 tie.the-claims reads.Pre reads.Post → ℤ
 t c = c.args.t
 
 -- t modulo 65,536, and the parity of how often 65,536 goes into it
-rest : (c : lts.After-floor_mod3 tie.the-claims reads.Pre reads.Post tie.handed_clauses) → c.floor_mod-rest.result ≡ pos (floor_mod (t c) ramp_unit)
+rest : (c : lts.After-floor_mod3 tie.the-claims reads.Pre reads.Post) → c.floor_mod-rest.result ≡ pos (floor_mod (t c) ramp_unit)
 rest c =
     c.floor_mod-rest.ensures ∙ rw (to_z-of_z c.ranges.t)
 
-odd : (c : lts.After-floor_mod3 tie.the-claims reads.Pre reads.Post tie.handed_clauses) → of_z w64 c.floor_mod-then-mode-eq-REFLECT.result ≡ nat_abs (floor_div (t c) ramp_unit) % 2
+odd : (c : lts.After-floor_mod3 tie.the-claims reads.Pre reads.Post) → of_z w64 c.floor_mod-then-mode-eq-REFLECT.result ≡ nat_abs (floor_div (t c) ramp_unit) % 2
 odd c =
     let q = c.floor_div in
     let e : q.result ≡ floor_div (t c) ramp_unit = q.ensures ∙ rw (to_z-of_z c.ranges.t) in

@@ -10,7 +10,7 @@ loop-i-init c =
     (omega arith, λ j h. absurd (omega arith))
 
 pub returns-then-stop_color : goal.returns-then-stop_color
-returns-then-stop_color c =
+returns-then-stop_color c e =
     absurd (subst T (sym e) tt)
 
 pub loop-i-preserved : goal.loop-i-preserved

@@ -8,11 +8,8 @@ use Rattle.fixed.proofs.Means.{Num, need, keep}
 use Rattle.paint.specs.Buffers.{line_parts}
 use Rattle.paint.specs.Segments.{position_of}
 use Rattle.paint.proofs.Along.{line_first, line_next, line_size}
+use Rattle.paint.proofs.positions.along_line.Invariants.{place}
 use Rattle.paint.proofs.positions.along_line.Goals as goal
-
--- the position of the ith pixel
-abbrev place : ℤ → ℤ → ℕ → ℕ
-place first step i = position_of (floor_div (first +ℤ step *ℤ pos i) line_parts)
 
 -- t is the line's number
 t-is : (c : goal.In-loop-i) → to_z w64 c.loop-i.t-bits ≡ c.args.first +ℤ c.args.step *ℤ pos c.loop-i.i

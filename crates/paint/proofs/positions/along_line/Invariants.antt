@@ -10,10 +10,14 @@ use Rattle.paint.specs.Segments.{position_of}
 use Rattle.paint.proofs.Along.{line_first, line_next, line_size}
 use Rattle.paint.proofs.positions.along_line.Given as goal
 
+-- the position of the ith pixel
+abbrev pub place : ℤ → ℤ → ℕ → ℕ
+place first step i = position_of (floor_div (first +ℤ step *ℤ pos i) line_parts)
+
 abbrev pub invariant-loop-i : goal.invariant-loop-i
 invariant-loop-i l =
-    (l.i ≤ length l.initial.ks) × (length l.ks ≡ length l.initial.ks) × (to_z w64 l.t ≡ to_z w64 l.first +ℤ to_z w64 l.step *ℤ pos l.i)
-    × (l.ks ≡ over (tab l.i (place (to_z w64 l.first) (to_z w64 l.step))) l.initial.ks)
+    (l.i ≤ length l.initial.ks) × (length l.ks ≡ length l.initial.ks) × (l.t ≡ l.first +ℤ l.step *ℤ pos l.i)
+    × (l.ks ≡ over (tab l.i (place (l.first) (l.step))) l.initial.ks)
 
 abbrev pub decreases-loop-i : goal.decreases-loop-i
 decreases-loop-i l = length l.initial.ks - l.i

@@ -9,21 +9,18 @@ use Rattle.paint.specs.Segments.{position_of}
 use Rattle.paint.specs.declared.LinearGradient.{LinearGradient}
 use Rattle.paint.specs.declared.Quotient.{Quotient}
 use Rattle.paint.proofs.Walk.{whole_is_t, next_pixel, length_moderate, step_moderate, at_moderate}
+use Rattle.paint.proofs.positions.along_quotients.Invariants.{place}
 use Rattle.paint.proofs.positions.along_quotients.Goals as goal
 use Rattle.paint.proofs.positions.along_quotients.Tie as tie
 use Rattle.paint.proofs.positions.along_quotients.Lts as lts
 use Rattle.paint.proofs.positions.along_quotients.Reads as reads
-
--- the position of the ith pixel
-abbrev place : LinearGradient → ℕ → ℕ → ℕ → ℕ
-place g x y i = position_of (mapped g.spread (linear_t g.points (x + i) y))
 
 moderate : (c : lts.In-loop tie.the-claims reads.Pre reads.Post goal.the-invariant-loop-i goal.the-decreases-loop-i tie.handed_clauses) → Moderate c.loop-i.q
 moderate c =
     let l = c.loop-i in
     let a = c.args in
     let p = c.requires in
-    rw l.invariant.2 (at_moderate a.g.points p.0.1 p.0.0 (a.x + l.i) a.y (omega (arith, p.1.0.0, l.invariant.0)) p.1.0.1)
+    rw l.invariant.2 (at_moderate a.g.points p.limited_points.1 p.limited_points.0 (a.x + l.i) a.y (omega (arith, p.ks_bound.0, l.invariant.0)) p.ks_bound.1)
 
 placed : (c : goal.After-add_quotients-q)
     → let a = c.args in c.position.result ≡ place a.g a.x a.y c.loop-i.i

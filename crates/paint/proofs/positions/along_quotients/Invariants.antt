@@ -11,6 +11,10 @@ use Rattle.paint.specs.declared.Quotient.{Quotient}
 use Rattle.paint.proofs.Walk.{whole_is_t, next_pixel, length_moderate, step_moderate, at_moderate}
 use Rattle.paint.proofs.positions.along_quotients.Given as goal
 
+-- the position of the ith pixel
+abbrev pub place : LinearGradient → ℕ → ℕ → ℕ → ℕ
+place g x y i = position_of (mapped g.spread (linear_t g.points (x + i) y))
+
 abbrev pub invariant-loop-i : goal.invariant-loop-i
 invariant-loop-i l =
     (l.i ≤ length l.initial.ks) × (length l.ks ≡ length l.initial.ks) × (l.q ≡ quotient_at l.g.points (l.x + l.i) l.y) × (l.ks ≡ over (tab l.i (place l.g l.x l.y)) l.initial.ks)

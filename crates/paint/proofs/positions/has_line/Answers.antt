@@ -15,7 +15,7 @@ pads-requires c =
     tt
 
 pub returns-then-not-pads : goal.returns-then-not-pads
-returns-then-not-pads c =
+returns-then-not-pads c e =
     absurd (subst T (sym e) tt)
 
 pub is_below-requires : goal.is_below-requires
@@ -23,7 +23,7 @@ is_below-requires c =
     lit≤ tt
 
 pub returns-then-not-is_below : goal.returns-then-not-is_below
-returns-then-not-is_below c =
+returns-then-not-is_below c e =
     absurd (subst T (sym e) tt)
 
 pub is_below-requires-2 : goal.is_below-requires-2
@@ -31,7 +31,7 @@ is_below-requires-2 c =
     lit≤ tt
 
 pub returns-then-not-is_below-2 : goal.returns-then-not-is_below-2
-returns-then-not-is_below-2 c =
+returns-then-not-is_below-2 c e =
     absurd (subst T (sym e) tt)
 
 pub length_limit-requires : goal.length_limit-requires
@@ -43,7 +43,7 @@ is_below-requires-3 c =
     let limit = c.length_limit in rw (back w64 limit.result limit.type_inv) limit.ensures.1
 
 pub returns : goal.returns
-returns c =
+returns c e =
     let limit = c.length_limit in
     let first = c.is_below.ensures (passed _ c.if-not-is_below.false-raw) in
     let step = c.is_below-2.ensures (passed _ c.if-not-is_below-2.false-raw) in

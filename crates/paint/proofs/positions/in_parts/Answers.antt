@@ -14,7 +14,7 @@ rest c = sized 137438953472 c.args.q.rest tt (omega (arith, c.requires.0.below, 
 abbrev d : goal.After-struct_told-2-1 → Num
 d c = sized 137438953472 c.args.d tt (omega (arith, c.requires.1))
 
-abbrev wholes : lts.Start tie.the-claims reads.Pre reads.Post tie.handed_clauses → Num
+abbrev wholes : lts.Start tie.the-claims reads.Pre reads.Post → Num
 wholes c = mul (sized 131072 c.args.q.whole tt (omega (arith, c.requires.2))) (lit line_parts)
 
 fraction-is : (c : goal.After-fraction) → c.fraction.result ≡ nat_abs c.args.q.rest * line_parts / nat_abs c.args.d

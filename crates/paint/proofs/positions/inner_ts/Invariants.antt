@@ -9,11 +9,15 @@ use Rattle.paint.specs.Segments.{position_of}
 use Rattle.paint.proofs.Along.{line_first, line_next, inner_between, inner_size}
 use Rattle.paint.proofs.positions.inner_ts.Given as goal
 
+-- t at the ith pixel
+abbrev pub place : ℤ → ℤ → ℕ → ℕ
+place first step i = min (position_of (floor_div (first +ℤ step *ℤ pos i) line_parts) - 1) 65535
+
 abbrev pub invariant-loop-i : goal.invariant-loop-i
 invariant-loop-i l =
-    (l.i ≤ length l.initial.left) × (length l.left ≡ length l.initial.left) × (length l.right ≡ length l.initial.right) × (to_z w64 l.t ≡ to_z w64 l.first +ℤ to_z w64 l.step *ℤ pos l.i)
-    × (l.left ≡ over (tab l.i (place (to_z w64 l.first) (to_z w64 l.step))) l.initial.left)
-    × (l.right ≡ over (tab l.i (place (to_z w64 l.first) (to_z w64 l.step))) l.initial.right)
+    (l.i ≤ length l.initial.left) × (length l.left ≡ length l.initial.left) × (length l.right ≡ length l.initial.right) × (l.t ≡ l.first +ℤ l.step *ℤ pos l.i)
+    × (l.left ≡ over (tab l.i (place (l.first) (l.step))) l.initial.left)
+    × (l.right ≡ over (tab l.i (place (l.first) (l.step))) l.initial.right)
 
 abbrev pub decreases-loop-i : goal.decreases-loop-i
 decreases-loop-i l = length l.initial.left - l.i

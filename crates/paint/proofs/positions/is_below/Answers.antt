@@ -15,11 +15,11 @@ overflow_sub-n c =
     need (minus c) tt
 
 pub returns-then-n-z : goal.returns-then-n-z
-returns-then-n-z c =
+returns-then-n-z c e =
     below_size c.args.z c.args.n
     (rw ((keep w64 (minus c.before) tt).same, to_z-of_z c.ranges.z) at c.if-n-z.true)
     (rw (to_z-of_z c.ranges.z, (n c.before).same) at e)
 
 pub returns-else-n-z : goal.returns-else-n-z
-returns-else-n-z c =
+returns-else-n-z c e =
     absurd (subst T (sym e ∙ c.if-n-z.false) tt)

@@ -34,11 +34,11 @@ is_inner-requires-then-is_inner c =
     tt
 
 pub returns-then-is_inner : goal.returns-then-is_inner
-returns-then-is_inner c = (
+returns-then-is_inner c e = (
   rw (first c.before.before.before).same at (c.is_inner.ensures c.if-is_inner.true),
   rw (keep w64 (end c.before.before.before) tt).same at (c.is_inner-then-is_inner.ensures e),
 )
 
 pub returns-else-is_inner : goal.returns-else-is_inner
-returns-else-is_inner c =
+returns-else-is_inner c e =
     absurd (subst T (sym e ∙ c.if-is_inner.false) tt)

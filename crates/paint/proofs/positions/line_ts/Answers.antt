@@ -9,8 +9,8 @@ inner_ts-requires c =
 
 pub returns-then-is_on_ramp : goal.returns-then-is_on_ramp
 returns-then-is_on_ramp c =
-    record { left_after = (rw (to_z-of_z c.ranges.first, to_z-of_z c.ranges.step) at c.inner_ts.ensures).0; right_after = (rw (to_z-of_z c.ranges.first, to_z-of_z c.ranges.step) at c.inner_ts.ensures).1 }
+    let e = rw (to_z-of_z c.ranges.first, to_z-of_z c.ranges.step) at c.inner_ts.ensures in record { left_after = e.left_after; right_after = e.right_after }
 
 pub returns : goal.returns
 returns c =
-    record { left_after = (rw (to_z-of_z c.ranges.first, to_z-of_z c.ranges.step) at c.cut_ts.ensures).0; right_after = (rw (to_z-of_z c.ranges.first, to_z-of_z c.ranges.step) at c.cut_ts.ensures).1 }
+    let e = rw (to_z-of_z c.ranges.first, to_z-of_z c.ranges.step) at c.cut_ts.ensures in record { left_after = e.left_after; right_after = e.right_after }

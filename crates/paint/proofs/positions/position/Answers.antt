@@ -11,10 +11,10 @@ use Rattle.paint.proofs.positions.position.Lts as lts
 use Rattle.paint.proofs.positions.position.Reads as reads
 
 -- what the local holds
-mapped-is : (c : lts.After-spread tie.the-claims reads.Pre reads.Post tie.handed_clauses) → to_z w64 (of_z w64 c.spread-u.result) ≡ mapped c.args.spread c.args.t
+mapped-is : (c : lts.After-spread tie.the-claims reads.Pre reads.Post) → to_z w64 (of_z w64 c.spread-u.result) ≡ mapped c.args.spread c.args.t
 mapped-is c = back w64 c.spread-u.result c.spread-u.type_inv ∙ c.spread-u.ensures ∙ rw (to_z-of_z c.ranges.t)
 
-from_zero : (c : lts.Else1 tie.the-claims reads.Pre reads.Post tie.handed_clauses) → lt_z (mapped c.args.spread c.args.t) (pos 0) ≡ false
+from_zero : (c : lts.Else1 tie.the-claims reads.Pre reads.Post) → lt_z (mapped c.args.spread c.args.t) (pos 0) ≡ false
 from_zero c = rw (mapped-is c.before) at c.if-u-lt0.false
 
 below_unit : (c : goal.Then-u-lt-RAMP_UNIT)

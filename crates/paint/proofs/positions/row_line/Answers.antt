@@ -17,7 +17,7 @@ lined : (c : goal.Then-has_line)
     → let a = c.args in
     let p = a.g.points in Lined a.g.spread (quotient_at p a.x a.y) (row_step p) (squared_length p) a.n
 lined c =
-    rw (c.quotient_at-q.ensures, c.Row_step.ensures, length-is c.before.before) at (c.has_line.ensures c.if-has_line.true)
+    rw (c.quotient_at-q.ensures, c.row_step-step.ensures, length-is c.before.before) at (c.has_line.ensures c.if-has_line.true)
 
 first-is : (c : goal.After-in_parts)
     → let a = c.args in
@@ -29,14 +29,14 @@ step_is : (c : goal.After-in_parts-then-has_line)
     → let a = c.args in
     to_z w64 (of_z w64 c.in_parts-then-has_line.result) ≡ in_parts (row_step a.g.points) (squared_length a.g.points)
 step_is c =
-    back w64 c.in_parts-then-has_line.result c.in_parts-then-has_line.type_inv ∙ c.in_parts-then-has_line.ensures ∙ ap₂ in_parts c.Row_step.ensures (length-is c.before.before.before.before)
+    back w64 c.in_parts-then-has_line.result c.in_parts-then-has_line.type_inv ∙ c.in_parts-then-has_line.ensures ∙ ap₂ in_parts c.row_step-step.ensures (length-is c.before.before.before.before)
 
 pub no_line-requires : goal.no_line-requires
 no_line-requires c =
     tt
 
 pub returns-then-n-lt-LINE_LEAST : goal.returns-then-n-lt-LINE_LEAST
-returns-then-n-lt-LINE_LEAST c =
+returns-then-n-lt-LINE_LEAST c e =
     absurd (subst T (sym e ∙ c.no_line.ensures) tt)
 
 pub squared_length-d-requires : goal.squared_length-d-requires
@@ -62,7 +62,7 @@ in_parts-requires c =
 
 pub in_parts-requires-then-has_line : goal.in_parts-requires-then-has_line
 in_parts-requires-then-has_line c =
-    rw (c.Row_step.ensures, length-is c.before.before.before)
+    rw (c.row_step-step.ensures, length-is c.before.before.before)
     (step_proper c.args.g.points c.requires.limited_points.1, (lined c.before).length, omega (arith, (lined c.before).growth))
 
 pub returns-then-has_line : goal.returns-then-has_line
@@ -71,7 +71,8 @@ returns-then-has_line c =
     let p = a.g.points in
     let apart = c.requires.limited_points.1 in
     rw (first-is c.before, step_is c)
-    (record {
+    (λ e.
+    record {
       small = parts_small (quotient_at p a.x a.y) (squared_length p) (at_proper p apart a.x a.y) 131072 (lined c.before.before).whole;
       slow = parts_small (row_step p) (squared_length p) (step_proper p apart) 1024 (lined c.before.before).growth;
       same = λ i h. line_same p apart a.g.spread a.x a.y i (lined c.before.before).pads ((lined c.before.before).near i h);
@@ -82,5 +83,5 @@ no_line-requires-2 c =
     tt
 
 pub returns : goal.returns
-returns c =
+returns c e =
     absurd (subst T (sym e ∙ c.no_line-2.ensures) tt)

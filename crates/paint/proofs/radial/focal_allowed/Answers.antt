@@ -8,7 +8,7 @@ use Rattle.paint.proofs.radial.focal_allowed.Lts as lts
 use Rattle.paint.proofs.radial.focal_allowed.Reads as reads
 
 -- what the test tells of the radius
-told : (s : lts.Start tie.the-claims reads.Pre reads.Post tie.handed_clauses) {t : Bool} → lt_z (pos 0) (to_z w64 (of_z w64 s.args.c.r)) ≡ t → lt_z (pos 0) s.args.c.r ≡ t
+told : (s : lts.Start tie.the-claims reads.Pre reads.Post) {t : Bool} → lt_z (pos 0) (to_z w64 (of_z w64 s.args.c.r)) ≡ t → lt_z (pos 0) s.args.c.r ≡ t
 told s e = rw (clean w64 16384 s.args.c.r tt s.requires.r) at e
 
 pub returns-then-c-gt0 : goal.returns-then-c-gt0

@@ -18,4 +18,4 @@ pub returns-then-rest-d : goal.returns-then-rest-d
 returns-then-rest-d c =
     only-quotient c.args.n c.args.d c.args.guess c.wrapping_sub_u64-rest.result (mul-le-mul c.requires.2 c.requires.1) c.requires.1
     c.if-rest-d.true
-    c.wrapping_sub_u64-rest.ensures
+    c.wrapping_sub_u64-rest.ensures.value

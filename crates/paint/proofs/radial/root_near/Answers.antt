@@ -48,9 +48,8 @@ overflow_mul-g-2 c =
 
 pub returns-then-rest-g : goal.returns-then-rest-g
 returns-then-rest-g c =
-    λ c.
     let s = c.before.before in
-    near-root (n s) s.args.guess _ (guess_small s) c.before.wrapping-sub-u64.ensures c.if1.true ∙ n-is s c
+    near-root (n s) s.args.guess _ (guess_small s) c.wrapping_sub_u64-rest.ensures.value c.if-rest-g.true ∙ n-is s
 
 pub isqrt_near-requires : goal.isqrt_near-requires
 isqrt_near-requires c =

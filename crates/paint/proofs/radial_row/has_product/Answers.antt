@@ -14,9 +14,9 @@ returns-then-d-le-WIDE_LIMIT c =
     λ t. (h, inr (c.if-d-eq0.true, omega (arith, mul-le-mul h k)))
 
 pub returns-else-d-le-WIDE_LIMIT : goal.returns-else-d-le-WIDE_LIMIT
-returns-else-d-le-WIDE_LIMIT c =
+returns-else-d-le-WIDE_LIMIT c e =
     absurd (subst T (sym e) tt)
 
 pub returns-else-d-eq0 : goal.returns-else-d-eq0
-returns-else-d-eq0 c =
+returns-else-d-eq0 c e =
     absurd (subst T (sym e) tt)

@@ -8,17 +8,11 @@ use Rattle.paint.specs.declared.RadialGradient.{RadialGradient}
 use Rattle.paint.proofs.Focal.{focal_inside, d_small}
 use Rattle.paint.proofs.Onward.{place_t, Walked, walk_begins, walk_turns, walk_ends, Held, held_at, held_on, asks_guess, asks_root, asks_sum, sum_t}
 use Rattle.paint.proofs.Sizes.{still_sized}
+use Rattle.paint.proofs.radial_row.mapped_positions.Invariants.{position, size}
 use Rattle.paint.proofs.radial_row.mapped_positions.Goals as goal
 use Rattle.paint.proofs.radial_row.mapped_positions.Tie as tie
 use Rattle.paint.proofs.radial_row.mapped_positions.Lts as lts
 use Rattle.paint.proofs.radial_row.mapped_positions.Reads as reads
-
--- the position of a t
-abbrev position : RadialGradient → ℤ → ℕ
-position g t = position_of (mapped g.spread t)
-
-abbrev size : RadialGradient → ℕ
-size g = nat_abs (radial_d g.circle)
 
 -- ---- D
 d-is : (s : lts.Start tie.the-claims reads.Pre reads.Post goal.the-invariant-loop-i goal.the-decreases-loop-i tie.handed_clauses) → to_z w64 (of_z w64 s.args.d) ≡ radial_d s.args.g.circle
@@ -83,9 +77,7 @@ guess_roots-requires c =
 
 pub loop-i-init : goal.loop-i-init
 loop-i-init c =
-    λ c.
-    let g = c.before.before.before.before.before.before.before.before.before.before.before.before.before.args.g in
-    walk_begins (position g) (size g) _ _ c
+    let g = c.args.g in walk_begins (position g) (size g) _ _
 
 pub offset_bounds-ks-i : goal.offset_bounds-ks-i
 offset_bounds-ks-i c =

@@ -10,6 +10,13 @@ use Rattle.paint.proofs.Onward.{place_t, Walked, walk_begins, walk_turns, walk_e
 use Rattle.paint.proofs.Sizes.{still_sized}
 use Rattle.paint.proofs.radial_row.mapped_positions.Given as goal
 
+-- the position of a t
+abbrev pub position : RadialGradient → ℤ → ℕ
+position g t = position_of (mapped g.spread t)
+
+abbrev pub size : RadialGradient → ℕ
+size g = nat_abs (radial_d g.circle)
+
 abbrev pub invariant-loop-i : goal.invariant-loop-i
 invariant-loop-i l = Walked (position l.g) (size l.g) l.initial.p l.initial.ks l.i l.p l.ks
 

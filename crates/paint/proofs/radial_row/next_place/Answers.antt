@@ -1,8 +1,6 @@
 -- `radial_row::next_place` meets its contract.
 use Rattle.std.proofs.Common.{◌+ℤ◌, ◌∙◌, ap₂, w64, rules}
 use Rattle.fixed.proofs.Signed.{back, clean}
-use Rattle.paint.proofs.radial_row.next_place_lem.Statement.{statement}
-use Rattle.paint.proofs.radial_row.next_place_lem.Tie as tie
 use Rattle.paint.proofs.radial_row.next_place.Goals as goal
 
 pub returns : goal.returns

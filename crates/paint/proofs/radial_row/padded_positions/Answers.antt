@@ -91,10 +91,7 @@ root_near-q-requires c =
 
 pub numerator-requires : goal.numerator-requires
 numerator-requires c =
-    λ c κs.
-    let root = c.before in
-    let l = c.before.before.before.before.before in
-    asks_sum l.loop.p (held l) root.root-near.result root.root-near.ensures c
+    asks_sum c.loop-i.p (held c.before.before.before.before.before) c.root_near-q.result c.root_near-q.ensures
 
 pub padded_position-requires : goal.padded_position-requires
 padded_position-requires c =

@@ -19,12 +19,12 @@ radius c = clean w64 16384 (circle c).r tt c.requires.0.r
 dx : (c : goal.After-place_from) → to_z w64 (of_z w64 c.from_focus.result) ≡ from_focus c.args.x (circle c.before).fx
 dx c =
     let o = c.from_focus in
-    back w64 o.result o.ok ∙ o.ensures.0 ∙ ap (from_focus c.args.x) (clean w64 16384 c.args.c.fx tt c.requires.0.fx)
+    back w64 o.result o.type_inv ∙ o.ensures.0 ∙ ap (from_focus c.args.x) (clean w64 16384 c.args.c.fx tt c.requires.0.fx)
 
 dy : (c : goal.After-place_from) → to_z w64 (of_z w64 c.from_focus-2.result) ≡ from_focus c.args.y (circle c.before).fy
 dy c =
     let o = c.from_focus-2 in
-    back w64 o.result o.ok ∙ o.ensures.0 ∙ ap (from_focus c.args.y) (clean w64 16384 c.args.c.fy tt c.requires.0.fy)
+    back w64 o.result o.type_inv ∙ o.ensures.0 ∙ ap (from_focus c.args.y) (clean w64 16384 c.args.c.fy tt c.requires.0.fy)
 
 f : (c : lts.After-struct_told7 tie.the-claims reads.Pre reads.Post tie.handed_clauses) → to_z w64 (of_z w64 c.apart.result) ≡ (circle c).fx -ℤ (circle c).cx
 f c =
@@ -51,8 +51,8 @@ place_from-requires c =
     record {
       r_bound = (
         rw (radius c.before) c.requires.0.r,
-        rw (back w64 ox.result ox.ok) ox.ensures.1,
-        rw (back w64 oy.result oy.ok) oy.ensures.1,
+        rw (back w64 ox.result ox.type_inv) ox.ensures.1,
+        rw (back w64 oy.result oy.type_inv) oy.ensures.1,
         rw (back w64 of.result of.type_inv) of.ensures.1,
         rw (back w64 og.result og.type_inv) og.ensures.1,
       );

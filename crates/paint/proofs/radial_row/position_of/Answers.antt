@@ -10,7 +10,7 @@ use Rattle.paint.proofs.radial_row.position_of.Tie as tie
 use Rattle.paint.proofs.radial_row.position_of.Lts as lts
 use Rattle.paint.proofs.radial_row.position_of.Reads as reads
 
-unmapped : (c : lts.Then1 tie.the-claims reads.Pre reads.Post tie.handed_clauses) → Pads c.args.spread
+unmapped : (c : lts.Then1 tie.the-claims reads.Pre reads.Post) → Pads c.args.spread
 unmapped c = leaves_t _ (sym c.pads.ensures ∙ c.if-pads.true)
 
 pub pads-requires : goal.pads-requires

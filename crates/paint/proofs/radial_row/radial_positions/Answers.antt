@@ -27,7 +27,7 @@ pub padded_positions-requires : goal.padded_positions-requires
 padded_positions-requires c =
     let p = c.requires in
     let product = c.has_product.ensures c.if-has_product.true in
-    record { limited_circle = (p.0.0, p.0.1, p.0.2, rw (d-is c.before.before.before.before.before) (sym (is_positive (d-above c.before.before.before.before.before))), product); ks_bound = p.1 }
+    record { limited_circle = (p.limited_circle.0, p.limited_circle.1, p.limited_circle.2, rw (d-is c.before.before.before.before.before) (sym (is_positive (d-above c.before.before.before.before.before))), product); ks_bound = p.ks_bound }
 
 pub returns-then-has_product : goal.returns-then-has_product
 returns-then-has_product c =

@@ -9,18 +9,18 @@ use Rattle.paint.proofs.ramp.ramp_color.Tie as tie
 use Rattle.paint.proofs.ramp.ramp_color.Lts as lts
 use Rattle.paint.proofs.ramp.ramp_color.Reads as reads
 
-below_zero : (c : lts.Then1 tie.the-claims reads.Pre reads.Post tie.handed_clauses) → lt_z c.args.t (pos 0) ≡ true
+below_zero : (c : lts.Then1 tie.the-claims reads.Pre reads.Post) → lt_z c.args.t (pos 0) ≡ true
 below_zero c = rw (to_z-of_z c.ranges.t) at c.if-t-lt0.true
 
-from_zero : (c : lts.Else1 tie.the-claims reads.Pre reads.Post tie.handed_clauses) → lt_z c.args.t (pos 0) ≡ false
+from_zero : (c : lts.Else1 tie.the-claims reads.Pre reads.Post) → lt_z c.args.t (pos 0) ≡ false
 from_zero c = rw (to_z-of_z c.ranges.t) at c.if-t-lt0.false
 
-below_unit : (c : lts.Then2 tie.the-claims reads.Pre reads.Post tie.handed_clauses)
+below_unit : (c : lts.Then2 tie.the-claims reads.Pre reads.Post)
     → lt_z c.args.t (pos 65536) ≡ true
 below_unit c =
     rw (to_z-of_z c.ranges.t) at c.if-t-lt-RAMP_UNIT.true
 
-from_unit : (c : lts.Else2 tie.the-claims reads.Pre reads.Post tie.handed_clauses)
+from_unit : (c : lts.Else2 tie.the-claims reads.Pre reads.Post)
     → lt_z c.args.t (pos 65536) ≡ false
 from_unit c =
     rw (to_z-of_z c.ranges.t) at c.if-t-lt-RAMP_UNIT.false

@@ -8,47 +8,49 @@ use Rattle.paint.proofs.Mix.{mix_below}
 use Rattle.paint.proofs.Sizes.{sized}
 use Rattle.paint.proofs.Lines.{mixed_by_line, first_small, step_small, step_one, byte_cast}
 use Rattle.paint.proofs.segments.byte_in.Goals as goal
+use Rattle.paint.proofs.segments.byte_in.Lts as lts
+use Rattle.paint.proofs.segments.byte_in.Reads as reads
 
 -- the distance of the stops
-abbrev d : goal.Start → ℕ
+abbrev d : lts.Start reads.Pre reads.Post → ℕ
 d c = c.args.to - c.args.from
 
-step_is : (c : goal.Start) → c.args.l.step ≡ (pos c.args.cj -ℤ pos c.args.ci) *ℤ pos (reciprocal_of (d c))
+step_is : (c : lts.Start reads.Pre reads.Post) → c.args.l.step ≡ (pos c.args.cj -ℤ pos c.args.ci) *ℤ pos (reciprocal_of (d c))
 unfolding line_of
 step_is c = ap (λ (l : Line). l.step) c.requires.3
 
-first-is : (c : goal.Start) → c.args.l.first ≡ pos ((c.args.ci * d c + d c / 2) * reciprocal_of (d c))
+first-is : (c : lts.Start reads.Pre reads.Post) → c.args.l.first ≡ pos ((c.args.ci * d c + d c / 2) * reciprocal_of (d c))
 unfolding line_of
 first-is c = ap (λ (l : Line). l.first) c.requires.3
 
-abbrev step : goal.Start → Num
+abbrev step : lts.Start reads.Pre reads.Post → Num
 step c =
     let a = c.args in
     said (sized 562949953421312 a.l.step tt (rw (step_is c) (step_one a.ci a.cj (d c) (omega arith) (omega arith)).size))
     ((pos a.cj -ℤ pos a.ci) *ℤ pos (reciprocal_of (d c))) (step_is c)
 
-abbrev first : goal.Start → Num
+abbrev first : lts.Start reads.Pre reads.Post → Num
 first c =
     let a = c.args in
     said (sized 281492156579840 a.l.first tt (rw (first-is c) (first_small a.ci (d c) (omega arith) (omega arith) (omega arith))))
     (pos ((a.ci * d c + d c / 2) * reciprocal_of (d c))) (first-is c)
 
-abbrev product : goal.Start → Num
+abbrev product : lts.Start reads.Pre reads.Post → Num
 product c =
     let a = c.args in
     tight 562949953421312 (mul (step c) (of_nat w64 (a.k - a.from) 65536 (omega arith) tt))
     (step_small a.ci a.cj (d c) (a.k - a.from) (omega arith) (omega arith) (omega arith) (omega arith))
 
-abbrev sum : goal.Start → Num
+abbrev sum : lts.Start reads.Pre reads.Post → Num
 sum c = add (keep w64 (product c) tt) (first c)
 
-abbrev shifted : goal.Start → Num
+abbrev shifted : lts.Start reads.Pre reads.Post → Num
 shifted c =
     let a = c.args in
     said (shr (keep w64 (sum c) tt) parts) (pos (mix_byte a.from a.to a.k a.ci a.cj))
     (mixed_by_line a.from a.to a.k a.ci a.cj c.requires.0 c.requires.1 c.requires.2 (omega arith) (omega arith))
 
-is_byte : (c : goal.Start) → mix_byte c.args.from c.args.to c.args.k c.args.ci c.args.cj < 256
+is_byte : (c : lts.Start reads.Pre reads.Post) → mix_byte c.args.from c.args.to c.args.k c.args.ci c.args.cj < 256
 is_byte c =
     let a = c.args in
     omega (arith, mix_below a.from a.to a.k a.ci a.cj c.requires.0 c.requires.1 255 (omega arith) (omega arith))

@@ -9,12 +9,12 @@ use Rattle.paint.proofs.segments.search.Lts as lts
 use Rattle.paint.proofs.segments.search.Reads as reads
 
 -- a read of a stop's offset, and that 1 more fits
-offset : (c : lts.Then1 tie.the-claims reads.Pre reads.Post goal.the-invariant-loop-j goal.the-decreases-loop-j tie.handed_clauses)
+offset : (c : lts.Then1 tie.the-claims reads.Pre reads.Post goal.the-invariant-loop-j goal.the-decreases-loop-j)
     → get_or c.args.ramp.now ((c.loop-j.j - 1) * 2) 0 ≤ 65536
 offset c =
     c.requires.0.below (c.loop-j.j - 1) (omega (arith, c.loop-j.invariant.0, c.loop-j.invariant.1))
 
-next : (c : lts.Then1 tie.the-claims reads.Pre reads.Post goal.the-invariant-loop-j goal.the-decreases-loop-j tie.handed_clauses)
+next : (c : lts.Then1 tie.the-claims reads.Pre reads.Post goal.the-invariant-loop-j goal.the-decreases-loop-j)
     → get_or c.args.ramp.now (c.loop-j.j * 2) 0 ≤ 65536
 next c =
     c.requires.0.below c.loop-j.j (omega arith)

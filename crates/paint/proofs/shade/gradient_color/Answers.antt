@@ -12,11 +12,11 @@ use Rattle.paint.proofs.shade.gradient_color.Tie as tie
 use Rattle.paint.proofs.shade.gradient_color.Lts as lts
 use Rattle.paint.proofs.shade.gradient_color.Reads as reads
 
-abbrev ramp : lts.After-ramp_color tie.the-claims reads.Pre reads.Post tie.handed_clauses → List Stop
+abbrev ramp : lts.After-ramp_color tie.the-claims reads.Pre reads.Post → List Stop
 ramp c = stops_in c.args.ramp.now c.args.count
 
 -- the ramp's colour
-found : (c : lts.After-ramp_color tie.the-claims reads.Pre reads.Post tie.handed_clauses) → c.ramp_color-c.result ≡ ramp_at (ramp c) (mapped c.args.spread c.args.t)
+found : (c : lts.After-ramp_color tie.the-claims reads.Pre reads.Post) → c.ramp_color-c.result ≡ ramp_at (ramp c) (mapped c.args.spread c.args.t)
 found c =
     let m = c.spread in
     c.ramp_color-c.ensures

@@ -8,7 +8,7 @@ use Rattle.paint.proofs.stops.color_at.Tie as tie
 use Rattle.paint.proofs.stops.color_at.Lts as lts
 use Rattle.paint.proofs.stops.color_at.Reads as reads
 
-read : (c : lts.After-channel_at4 tie.the-claims reads.Pre reads.Post tie.handed_clauses)
+read : (c : lts.After-channel_at4 tie.the-claims reads.Pre reads.Post)
     → ◌≡◌ {A = Pixel}
     (record {
       r = c.channel_at.result;

@@ -1,8 +1,9 @@
 -- `stops::falls` meets its contract.
-use Rattle.std.proofs.Common.{◌≡◌, ℕ, zero, suc, ◌+◌, ◌-◌, ◌≤◌, Bool, true, false, ◌||◌, List, sym, refl, ap, ◌∙◌, ⊎_elim, arith, rules}
+use Rattle.std.proofs.Common.{◌≡◌, ℕ, zero, suc, ◌+◌, ◌-◌, ◌≤◌, Bool, true, false, ◌||◌, List, sym, refl, ap, ◌∙◌, arith, rules}
 use lib.Ieee.{lt}
 use Rattle.paint.specs.Ramps.{offset_at, falls_in}
 use Rattle.paint.proofs.stops.falls.Goals as goal
+use Rattle.paint.proofs.stops.falls.Goals.{then-falls_at, else-falls_at}
 use Rattle.paint.proofs.stops.falls.Tie as tie
 use Rattle.paint.proofs.stops.falls.Lts as lts
 use Rattle.paint.proofs.stops.falls.Reads as reads
@@ -21,18 +22,22 @@ or-false : (a : Bool) → (a || false) ≡ a
 or-false true = refl
 or-false false = refl
 
-fell : (c : lts.Joined1 tie.the-claims reads.Pre reads.Post goal.the-invariant-loop-i goal.the-decreases-loop-i tie.handed_clauses)
+fell : (c : lts.Joined1 tie.the-claims reads.Pre reads.Post goal.the-invariant-loop-i goal.the-decreases-loop-i)
     → c.if-falls_at.fell ≡ falls_in c.args.stops.now c.loop-i.i
 fell c =
     let l = c.loop-i in
     let stops = c.args.stops.now in
     let e = c.falls_at.ensures in
-    ⊎_elim
-    (λ w. w.1 ∙ sym (more stops l.i (omega arith) ∙ ap (λ (b : Bool). falls_in stops (l.i - 1) || b) (sym e ∙ w.0.taken)
-    ∙ or_true (falls_in stops (l.i - 1))))
-    (λ w. w.1 ∙ l.invariant.1 ∙ sym (more stops l.i (omega arith) ∙ ap (λ (b : Bool). falls_in stops (l.i - 1) || b) (sym e ∙ w.0.left)
-    ∙ or-false (falls_in stops (l.i - 1))))
-    c.if-falls_at.branch
+    elim c.if-falls_at.branch [
+      then-falls_at w ↦
+        w.fell-is
+        ∙ sym (more stops l.i (omega arith) ∙ ap (λ (b : Bool). falls_in stops (l.i - 1) || b) (sym e ∙ w.if-falls_at.true)
+        ∙ or_true (falls_in stops (l.i - 1)))
+    | else-falls_at w ↦
+        w.fell-is ∙ l.invariant.1
+        ∙ sym (more stops l.i (omega arith) ∙ ap (λ (b : Bool). falls_in stops (l.i - 1) || b) (sym e ∙ w.if-falls_at.false)
+        ∙ or-false (falls_in stops (l.i - 1)))
+    ]
 
 pub loop-i-init : goal.loop-i-init
 loop-i-init c =

@@ -1,8 +1,8 @@
 -- `stops::less` meets its contract.
-use Rattle.std.proofs.Common.{◌≡◌, false, T, sym, refl, subst, ap₂, rules}
+use Rattle.std.proofs.Common.{◌≡◌, false, T, sym, refl, ap, subst, ap₂, rules}
 use Rattle.fixed.specs.declared.Real.{Real}
 use Rattle.fixed.specs.declared.Real.TheVariants.{Number, Nan}
-use Rattle.fixed.proofs.Answers.{is_number, no_number_arm}
+use Rattle.fixed.proofs.Answers.{is_number}
 use Rattle.paint.specs.Buffers.{less_real}
 use Rattle.paint.proofs.stops.less.Goals as goal
 
@@ -23,9 +23,9 @@ returns-in-Number-b c =
 pub returns-in_default-b : goal.returns-in_default-b
 returns-in_default-b c =
     let a = c.args in
-    right-none a.a a.b (no_number_arm a.b c.in_default-b.keys2)
+    right-none a.a a.b (ap is_number c.in_default-b.is)
 
 pub returns-in_default : goal.returns-in_default
 returns-in_default c =
     let a = c.args in
-    left-none a.a a.b (no_number_arm a.a c.in_default.keys2)
+    left-none a.a a.b (ap is_number c.in_default.is)

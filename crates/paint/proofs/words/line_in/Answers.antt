@@ -21,10 +21,8 @@ slice_bounds-line_planes-end-2 c =
 pub line_planes-requires : goal.line_planes-requires
 line_planes-requires c =
     record {
-      first_bound = (rw (to_z-of_z c.ranges.first, to_z-of_z c.ranges.step, left-long c, right-long c)
-          ((c.requires.first_bound.0, c.requires.first_bound.1), (c.requires.row_len.0, refl, c.requires.row_len.1))).0;
-      row_len = (rw (to_z-of_z c.ranges.first, to_z-of_z c.ranges.step, left-long c, right-long c)
-          ((c.requires.first_bound.0, c.requires.first_bound.1), (c.requires.row_len.0, refl, c.requires.row_len.1))).1;
+      first_bound = rw (to_z-of_z c.ranges.first, to_z-of_z c.ranges.step) (c.requires.first_bound.0, c.requires.first_bound.1);
+      row_len = rw (left-long c, right-long c) (c.requires.row_len.0, refl, c.requires.row_len.1);
     }
 
 pub returns : goal.returns

@@ -8,10 +8,10 @@ use Rattle.paint.proofs.words.mix_colors.Tie as tie
 use Rattle.paint.proofs.words.mix_colors.Lts as lts
 use Rattle.paint.proofs.words.mix_colors.Reads as reads
 
-first-bytes : (c : lts.Start tie.the-claims reads.Pre reads.Post tie.handed_clauses) → Bytes c.args.c
+first-bytes : (c : lts.Start tie.the-claims reads.Pre reads.Post) → Bytes c.args.c
 first-bytes c = (omega arith, omega arith, omega arith, omega arith)
 
-last-bytes : (c : lts.Start tie.the-claims reads.Pre reads.Post tie.handed_clauses) → Bytes c.args.d
+last-bytes : (c : lts.Start tie.the-claims reads.Pre reads.Post) → Bytes c.args.d
 last-bytes c = (omega arith, omega arith, omega arith, omega arith)
 
 pub mix_with_alpha-requires : goal.mix_with_alpha-requires

@@ -4,9 +4,6 @@ use Rattle.paint.specs.Segments.{finished}
 use Rattle.paint.proofs.Pairs.{mixed_opaque, opaque_planes, premultiplied_planes}
 use Rattle.paint.proofs.words.mix_finished.Goals as goal
 
-bytes : (c : goal.After-mix_colors-arg-2-1) → (c.args.c.a < 256) × (c.args.d.a < 256)
-bytes c = (omega arith, omega arith)
-
 pub returns-then-premultiply : goal.returns-then-premultiply
 unfolding finished
 returns-then-premultiply c =
@@ -21,7 +18,7 @@ unfolding finished
 returns-then-lower c =
     let mixed = c.mix_colors.ensures in
     let a = c.args in
-    let alphas = bytes c.before.before.before.before.before.before.before.before.before in
+    let alphas : (a.c.a < 256) × (a.d.a < 256) = (omega arith, omega arith) in
     let opaque = sym c.lower.ensures ∙ c.if-lower.true in
     rw c.if-premultiply.false
     (opaque_planes mixed

@@ -14,7 +14,7 @@ first-bytes c = (omega arith, omega arith, omega arith, omega arith)
 last-bytes : (c : goal.After-join-arg-1) → Bytes c.args.d
 last-bytes c = (omega arith, omega arith, omega arith, omega arith)
 
-right-long : (c : lts.Start tie.the-claims reads.Pre reads.Post tie.handed_clauses) → length c.args.right.now ≡ length c.args.ws.now
+right-long : (c : lts.Start tie.the-claims reads.Pre reads.Post) → length c.args.right.now ≡ length c.args.ws.now
 right-long c = ap length c.requires.1 ∙ c.requires.2
 
 pub mix_pairs-requires : goal.mix_pairs-requires

@@ -5,11 +5,8 @@ use Rattle.lists.proofs.Laws.{tab_turn, tab_all, tab_read}
 use Rattle.color.specs.declared.Pixel.{Pixel}
 use Rattle.color.specs.Channels.{premultiplied}
 use Rattle.paint.specs.Segments.{left_pair, right_pair, of_pairs}
+use Rattle.paint.proofs.words.premultiply_pairs.Invariants.{pixel}
 use Rattle.paint.proofs.words.premultiply_pairs.Goals as goal
-
--- the kth pixel
-abbrev pixel : List ℕ → List ℕ → ℕ → Pixel
-pixel left right k = premultiplied (of_pairs (get_or left k 0) (get_or right k 0))
 
 pub premultiplied_left-requires : goal.premultiplied_left-requires
 premultiplied_left-requires c =

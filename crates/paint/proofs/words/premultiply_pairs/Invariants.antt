@@ -7,6 +7,10 @@ use Rattle.color.specs.Channels.{premultiplied}
 use Rattle.paint.specs.Segments.{left_pair, right_pair, of_pairs}
 use Rattle.paint.proofs.words.premultiply_pairs.Given as goal
 
+-- the kth pixel
+abbrev pub pixel : List ℕ → List ℕ → ℕ → Pixel
+pixel left right k = premultiplied (of_pairs (get_or left k 0) (get_or right k 0))
+
 abbrev pub invariant-loop-i : goal.invariant-loop-i
 invariant-loop-i l =
     (l.i ≤ length l.initial.left) × (length l.left ≡ length l.initial.left) × (length l.right ≡ length l.initial.left)
