@@ -1,5 +1,5 @@
 -- `color::byte_channel` meets its contract: the code is the definition. Assumes nothing.
-use Rattle.std.proofs.Common.{refl, rules}
+use Rattle.std.proofs.Common.{refl}
 use lib.Ieee.{of_bits}
 use Rattle.color.specs.Channels.{byte_channel}
 use Rattle.color.proofs.byte_channel.Goals as goal

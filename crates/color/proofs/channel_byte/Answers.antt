@@ -1,5 +1,5 @@
 -- `color::channel_byte` meets its contract: the code is the definition's own chain of float operations. Assumes nothing.
-use Rattle.std.proofs.Common.{ap, ◌∙◌, rules}
+use Rattle.std.proofs.Common.{ap, ◌∙◌}
 use lib.Ieee.{Float, of_bits, to_unsigned, add, mul, binary32}
 use Rattle.color.specs.Channels.{channel_byte, full, half}
 use Rattle.color.proofs.channel_byte.Goals as goal

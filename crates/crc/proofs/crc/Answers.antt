@@ -1,12 +1,9 @@
 -- `crc::crc` meets its contract: the remainder after the bytes so far. Assumes nothing.
-use mathlib.Core.Path.{◌≡◌, refl, ap, ◌∙◌}
-use Prim.Native.Nat.{◌-◌, ◌≤◌}
+use mathlib.Core.Path.{◌≡◌, ◌∙◌}
 use native.Mathlib.Omega.{arith}
 use native.Mathlib.Numerals.{add-one}
 use lib.ListN.{length}
-use lib.Bits.{bit_xor}
-use borrow.Author.Rules.{rules}
-use Rattle.crc.specs.Crc.{crc_to, crc_of}
+use Rattle.crc.specs.Crc.{crc_of}
 use Rattle.crc.proofs.crc.Goals as goal
 
 pub loop-i-preserved : goal.loop-i-preserved

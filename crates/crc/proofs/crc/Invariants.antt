@@ -1,12 +1,8 @@
 -- `crc::crc` meets its contract: the remainder after the bytes so far. Assumes nothing.
-use mathlib.Core.Path.{◌≡◌, refl, ap, ◌∙◌}
+use mathlib.Core.Path.{◌≡◌}
 use Prim.Native.Nat.{◌-◌, ◌≤◌}
-use native.Mathlib.Omega.{arith}
-use native.Mathlib.Numerals.{add-one}
 use lib.ListN.{length}
-use lib.Bits.{bit_xor}
-use borrow.Author.Rules.{rules}
-use Rattle.crc.specs.Crc.{crc_to, crc_of}
+use Rattle.crc.specs.Crc.{crc_to}
 use Rattle.crc.proofs.crc.Given as goal
 
 -- `crc::crc` meets its contract: the remainder after the bytes so far. Assumes nothing.

@@ -4,7 +4,6 @@ use Rattle.rect.specs.declared.Rect.{Rect}
 use Rattle.rect.specs.Rects.{empty_of}
 use Rattle.raster.specs.Rows.{Framed, filled_around}
 use Rattle.raster.proofs.Around.{around_none, around_meet, meet_framed}
-use borrow.Author.Rules.{rules}
 use Rattle.raster.proofs.fill_around.Goals as goal
 
 pub fill_frame-requires : goal.fill_frame-requires

@@ -1,5 +1,4 @@
 -- `raster::fill_frame` meets its contract: the four parts are filled.
-use borrow.Author.Rules.{rules}
 use Rattle.raster.proofs.Around.{frame_filled}
 use Rattle.raster.proofs.fill_frame.Goals as goal
 

@@ -1,9 +1,6 @@
 -- `raster::fill_rect` meets its contract: the rows below y are filled.
-use Prim.Native.Nat.{◌-◌}
 use native.Mathlib.Omega.{arith}
-use Rattle.raster.specs.Rows.{Rows}
 use Rattle.raster.proofs.Rows.{Lent, rows_none, row_lent, rows_all}
-use borrow.Author.Rules.{rules}
 use Rattle.raster.proofs.fill_rect.Goals as goal
 
 lent : (c : goal.After-row_bytes-r)

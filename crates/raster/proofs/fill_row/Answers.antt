@@ -1,7 +1,5 @@
 -- `raster::fill_row` meets its contract: the pixels before i are stored.
-use Prim.Native.Nat.{◌-◌, ◌≤◌}
 use native.Mathlib.Omega.{arith}
-use Rattle.raster.specs.Rows.{Stored}
 use Rattle.raster.proofs.Runs.{stored_none, stored_turn, stored_all}
 use borrow.Author.Rules.{rules}
 use mathlib.Core.Path.{refl}

@@ -1,7 +1,6 @@
 -- `raster::put_pixel` meets its contract. Assumes nothing.
 use native.Mathlib.Omega.{arith}
 use lib.ListN.{length-set}
-use borrow.Author.Rules.{rules}
 use Rattle.raster.proofs.put_pixel.Goals as goal
 
 pub bounds-s-at-2 : goal.bounds-s-at-2

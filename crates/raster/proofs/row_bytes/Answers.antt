@@ -1,5 +1,4 @@
 -- `raster::row_bytes` meets its contract: a row's places are small numbers.
-use borrow.Author.Rules.{rules}
 use native.Mathlib.Omega.{arith}
 use Prim.Native.Nat.{◌+◌, ◌*◌, ◌≤◌}
 use Rattle.raster.proofs.Rows.{row_small}

@@ -1,5 +1,4 @@
 -- `rect::join` meets its contract.
-use borrow.Author.Rules.{rules}
 use Rattle.rect.proofs.join.Goals as goal
 
 pub returns-then-is_empty : goal.returns-then-is_empty

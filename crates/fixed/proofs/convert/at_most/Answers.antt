@@ -3,7 +3,6 @@ use mathlib.Core.Path.{sym, ap, ◌∙◌}
 use Prim.Native.Nat.{◌^◌}
 use lib.Dec.{leb}
 use lib.Ieee.{binary32, to_bits}
-use borrow.Author.Rules.{rules}
 use Rattle.fixed.specs.Floats.{at_most}
 use Rattle.fixed.specs.Patterns.{size_bits}
 use Rattle.fixed.proofs.Nans.{equals_itself, is_nan_lem, held_float}

@@ -3,7 +3,7 @@ use mir.Syntax.{w64}
 use mathlib.Core.Path.{refl, sym, ◌∙◌}
 use Prim.Native.Nat.{◌+◌, ◌-◌, ◌/◌, ◌%◌}
 use native.Mathlib.Omega.{arith}
-use borrow.Author.Rules.{rules, sfits_of}
+use borrow.Author.Rules.{sfits_of}
 use lib.Dec.{leb}
 use lib.Ieee.{binary32, of_bits}
 use mir.Facts.{to_z-of_z}

@@ -1,7 +1,6 @@
 -- `fixed::floats::f32_at` meets its contract.
 use mathlib.Core.Path.{ap, ◌∙◌}
 use Prim.Native.Nat.{ℕ}
-use borrow.Author.Rules.{rules}
 use lib.Ieee.{binary32, nan_bits, of_bits}
 use Rattle.fixed.specs.Floats.{real_of}
 use Rattle.fixed.proofs.floats.f32_at.Goals as goal

@@ -12,7 +12,6 @@ use Rattle.fixed.proofs.Means.{Num, need, keep, need_as, keep_as, neglit, said, 
 use Rattle.fixed.proofs.Sign.{is_positive, bits_above, flip_pos}
 use Rattle.fixed.proofs.Divide.{negative, nonnegative, plain, flipped}
 use Rattle.fixed.proofs.floor.floor_div.Goals as goal
-use Rattle.fixed.proofs.floor.floor_div.Tie as tie
 use Rattle.fixed.proofs.floor.floor_div.Lts as lts
 use Rattle.fixed.proofs.floor.floor_div.Reads as reads
 

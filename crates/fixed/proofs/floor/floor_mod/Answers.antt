@@ -14,7 +14,6 @@ use Rattle.fixed.proofs.Divide.{negative, nonnegative, plain, flipped}
 use Rattle.fixed.proofs.Poly as P
 use Rattle.fixed.proofs.Poly.{◌⊖◌}
 use Rattle.fixed.proofs.floor.floor_mod.Goals as goal
-use Rattle.fixed.proofs.floor.floor_mod.Tie as tie
 use Rattle.fixed.proofs.floor.floor_mod.Lts as lts
 use Rattle.fixed.proofs.floor.floor_mod.Reads as reads
 

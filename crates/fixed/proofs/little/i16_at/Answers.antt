@@ -1,6 +1,6 @@
 -- `fixed::little::i16_at` meets its contract.
 use mathlib.Core.Path.{ap, ◌∙◌}
-use borrow.Author.Rules.{rules, sfits_of}
+use borrow.Author.Rules.{sfits_of}
 use mir.Syntax.{w16, w64}
 use mir.Val.{SFits}
 use Rattle.fixed.specs.Little.{signed}

@@ -1,12 +1,10 @@
 -- `fixed::little::twos_complement` meets its contract.
 use mathlib.Core.Path.{◌∙◌}
-use borrow.Author.Rules.{rules}
 use borrow.Author.Tests.{lt-ltb, le-ltb}
 use native.Mathlib.Omega.{arith}
 use mir.Syntax.{w64}
 use Rattle.fixed.proofs.Means.{Num, need, keep, of_nat, lit, sub, mul}
 use Rattle.fixed.proofs.little.twos_complement.Goals as goal
-use Rattle.fixed.proofs.little.twos_complement.Tie as tie
 use Rattle.fixed.proofs.little.twos_complement.Lts as lts
 use Rattle.fixed.proofs.little.twos_complement.Reads as reads
 

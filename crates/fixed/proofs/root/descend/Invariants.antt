@@ -1,8 +1,5 @@
 -- `root::descend` meets its contract: the root is below high.
 use Prim.Native.Nat.{◌*◌, ◌≤◌, ◌<◌}
-use native.Mathlib.Omega.{arith}
-use borrow.Author.Rules.{rules}
-use Rattle.fixed.proofs.Roots.{square_mono, square_above, from_above}
 use Rattle.fixed.proofs.root.descend.Given as goal
 
 -- `root::descend` meets its contract: the root is below high.

@@ -1,8 +1,7 @@
 -- `root::halve` meets its contract: the root lies from below to before above.
 use mathlib.Core.Path.{◌≡◌}
-use Prim.Native.Nat.{◌+◌, ◌-◌, ◌*◌, ◌/◌, ◌≤◌, ◌<◌}
+use Prim.Native.Nat.{◌+◌, ◌/◌, ◌≤◌}
 use native.Mathlib.Omega.{arith}
-use borrow.Author.Rules.{rules}
 use Rattle.fixed.proofs.Roots.{square_mono, only_root}
 use Rattle.fixed.proofs.root.halve.Goals as goal
 

@@ -1,9 +1,5 @@
 -- `root::halve` meets its contract: the root lies from below to before above.
-use mathlib.Core.Path.{◌≡◌}
-use Prim.Native.Nat.{◌+◌, ◌-◌, ◌*◌, ◌/◌, ◌≤◌, ◌<◌}
-use native.Mathlib.Omega.{arith}
-use borrow.Author.Rules.{rules}
-use Rattle.fixed.proofs.Roots.{square_mono, only_root}
+use Prim.Native.Nat.{◌-◌, ◌*◌, ◌≤◌, ◌<◌}
 use Rattle.fixed.proofs.root.halve.Given as goal
 
 -- `root::halve` meets its contract: the root lies from below to before above.

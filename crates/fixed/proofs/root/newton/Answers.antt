@@ -1,7 +1,6 @@
 -- `root::newton` meets its contract.
 use native.Mathlib.Nat.{div-le_self}
 use native.Mathlib.Omega.{arith}
-use borrow.Author.Rules.{rules}
 use Rattle.fixed.proofs.Roots.{root_small, newton_above}
 use Rattle.fixed.proofs.root.newton.Goals as goal
 
