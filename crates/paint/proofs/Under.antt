@@ -5,16 +5,16 @@ use native.Mathlib.Nat.{div-zero}
 use lib.Ieee.Nearest.{div_mono}
 use lib.Signed.{lt_z}
 use Rattle.color.specs.declared.Pixel.{Pixel}
-use Rattle.color.specs.Channels.{premultiplied, bytes_of_color, UnderAlpha}
+use Rattle.color.specs.Channels.{bytes_of_color, UnderAlpha}
 use Rattle.color.proofs.Alpha.{channel_small, premultiplied_under}
 use Rattle.paint.specs.Gradient.{ramp_unit, mapped}
-use Rattle.paint.specs.Ramps.{kept_stops, with_ends, prepared, ramp_of, mix_byte, mix, last_color, between, ramp_at}
+use Rattle.paint.specs.Ramps.{prepared, ramp_of, mix_byte, mix, last_color, between, ramp_at}
 use Rattle.paint.specs.Paints.{gradient_color, paint_at}
 use Rattle.paint.specs.declared.Paint.{Paint}
 use Rattle.paint.specs.declared.Paint.TheVariants.{Solid, Linear, Radial}
 use Rattle.paint.specs.declared.Stop.{Stop}
 use Rattle.paint.proofs.Mix.{mix_below}
-use Rattle.paint.proofs.Sound.{Each, none, more, each_map, Given, stops_given, Starts, ramp_starts}
+use Rattle.paint.proofs.Sound.{Each, none, more, each_map, stops_given, Starts, ramp_starts}
 
 -- ---- what holds of the colours of two stops, and of all between them, holds of a ramp's
 module _ (P : Pixel → Type 0) (mixed : (i j : Stop) (t : ℕ) → i.offset ≤ t → t < j.offset → P i.color → P j.color → P (mix i j t)) where

@@ -1,5 +1,5 @@
 -- `block::block` meets its contract, kind by kind.
-use Rattle.std.proofs.Common.{subst, rules}
+use Rattle.std.proofs.Common.{subst}
 use Rattle.paint.specs.Circles.{HeldGradient}
 use Rattle.paint.specs.Segments.{Sloped}
 use Rattle.paint.specs.declared.AnyGradient.{AnyGradient}

@@ -1,5 +1,5 @@
 -- `block::color_row` meets its contract.
-use Rattle.std.proofs.Common.{length, ap, ◌∙◌, arith, rules}
+use Rattle.std.proofs.Common.{length, ap, ◌∙◌, arith}
 use Rattle.raster.proofs.Runs.{run_same}
 use Rattle.paint.specs.Segments.{finished, color_at_position}
 use Rattle.paint.proofs.block.color_row.Goals as goal

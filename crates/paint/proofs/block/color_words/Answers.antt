@@ -1,5 +1,5 @@
 -- `block::color_words` meets its contract.
-use Rattle.std.proofs.Common.{ℕ, subst, rules}
+use Rattle.std.proofs.Common.{ℕ, subst}
 use Rattle.paint.specs.Buffers.{HeldRamp}
 use Rattle.paint.proofs.block.color_words.Goals as goal
 

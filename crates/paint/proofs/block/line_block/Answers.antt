@@ -1,5 +1,5 @@
 -- `block::line_block` meets its contract.
-use Rattle.std.proofs.Common.{ℕ, ◌+◌, ◌/◌, length, ℤ, ap, ◌∙◌, ap₂, arith, w64, rules}
+use Rattle.std.proofs.Common.{ℕ, ◌+◌, ◌/◌, length, ℤ, ap, ◌∙◌, ap₂, arith, w64}
 use Rattle.fixed.proofs.Signed.{clean}
 use Rattle.color.specs.declared.Pixel.{Pixel}
 use Rattle.raster.proofs.Runs.{run_same}

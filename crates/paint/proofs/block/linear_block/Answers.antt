@@ -1,5 +1,5 @@
 -- `block::linear_block` meets its contract.
-use Rattle.std.proofs.Common.{◌≡◌, ℕ, ◌*◌, ◌/◌, length, subst, arith, rules}
+use Rattle.std.proofs.Common.{◌≡◌, ℕ, ◌*◌, ◌/◌, subst, arith}
 use Rattle.paint.specs.Buffers.{HeldRamp}
 use Rattle.paint.proofs.block.linear_block.Goals as goal
 

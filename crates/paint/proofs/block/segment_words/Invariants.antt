@@ -1,9 +1,8 @@
 -- `block::segment_words` meets its contract: the colours before i are written, and the segment has the ramp's colours.
-use Rattle.std.proofs.Common.{◌≡◌, ℕ, ◌-◌, ◌<◌, ◌≤◌, length, get_or, ap, ◌∙◌, arith}
+use Rattle.std.proofs.Common.{◌-◌, ◌≤◌, length, get_or}
 use Rattle.paint.specs.Ramps.{ramp_at}
 use Rattle.paint.specs.Buffers.{stops_in}
 use Rattle.paint.specs.Segments.{Serves, Begun, t_at}
-use Rattle.paint.proofs.Begins.{begun_none, begun_turn, begun_all}
 use Rattle.paint.proofs.block.segment_words.Given as goal
 
 -- `block::segment_words` meets its contract: the colours before i are written, and the segment has the ramp's colours.

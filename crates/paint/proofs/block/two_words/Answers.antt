@@ -1,5 +1,5 @@
 -- `block::two_words` meets its contract.
-use Rattle.std.proofs.Common.{get_or, ◌∙◌, ap₂, arith, rules}
+use Rattle.std.proofs.Common.{get_or, ◌∙◌, ap₂, arith}
 use Rattle.color.specs.declared.Pixel.{Pixel}
 use Rattle.paint.specs.Segments.{two_stops}
 use Rattle.paint.proofs.Serving.{two_colors}

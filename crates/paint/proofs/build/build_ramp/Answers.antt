@@ -1,5 +1,5 @@
 -- `build::build_ramp` meets its contract.
-use Rattle.std.proofs.Common.{◌≡◌, ◌≤◌, length, sym, refl, ap, ◌∙◌, arith, rules}
+use Rattle.std.proofs.Common.{◌≤◌, length, sym, ap, ◌∙◌, arith}
 use Rattle.paint.specs.Buffers.{ramp_numbers, closed}
 use Rattle.paint.proofs.Built.{then_written, so_written}
 use Rattle.paint.proofs.Ends.{ramp_fallen, ramp_kept}

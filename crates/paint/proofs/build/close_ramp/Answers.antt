@@ -1,5 +1,5 @@
 -- `build::close_ramp` meets its contract.
-use Rattle.std.proofs.Common.{◌-◌, [], ◌∷◌, ◌++◌, sym, ap, ◌∙◌, ap₂, arith, rules}
+use Rattle.std.proofs.Common.{◌-◌, [], ◌∷◌, ◌++◌, sym, ap, ◌∙◌, ap₂, arith}
 use Rattle.color.specs.declared.Pixel.{Pixel}
 use Rattle.paint.specs.Gradient.{ramp_unit}
 use Rattle.paint.specs.Ramps.{stop}

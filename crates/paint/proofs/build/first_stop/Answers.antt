@@ -1,5 +1,5 @@
 -- `build::first_stop` meets its contract.
-use Rattle.std.proofs.Common.{◌≡◌, sym, arith, rules, eq-eqb, ne_eqb}
+use Rattle.std.proofs.Common.{arith, eq-eqb, ne_eqb}
 use Rattle.paint.proofs.build.first_stop.Goals as goal
 
 pub returns-then-offset-eq0 : goal.returns-then-offset-eq0

@@ -1,5 +1,5 @@
 -- `build::keep_stop` meets its contract.
-use Rattle.std.proofs.Common.{◌≡◌, ℕ, ◌-◌, false, List, [], ◌∷◌, map, refl, sym, ap, ◌∙◌, arith, rules}
+use Rattle.std.proofs.Common.{◌≡◌, ℕ, ◌-◌, false, List, [], ◌∷◌, map, refl, sym, ap, ◌∙◌, arith}
 use Rattle.fixed.specs.declared.Offset.{Offset}
 use Rattle.fixed.specs.declared.Offset.TheVariants.{At, Outside, NotANumber}
 use Rattle.fixed.proofs.Answers.{is_offset}

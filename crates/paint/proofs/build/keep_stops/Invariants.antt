@@ -1,12 +1,8 @@
 -- `build::keep_stops` meets its contract: what is kept of the stops before i is written.
-use Rattle.std.proofs.Common.{◌≡◌, ℕ, ◌+◌, ◌-◌, ◌≤◌, List, map, length, sym, refl, ap, ◌∙◌, arith, rules}
+use Rattle.std.proofs.Common.{◌≡◌, ◌+◌, ◌-◌, ◌≤◌, map, length}
 use Rattle.lists.specs.Lists.{upto}
-use Rattle.lists.proofs.Laws.{upto_more}
 use Rattle.paint.specs.Ramps.{kept_at, prepared}
-use Rattle.paint.specs.Buffers.{Written, with_first, grown}
-use Rattle.paint.specs.declared.Stop.{Stop}
-use Rattle.paint.proofs.Built.{none_written, then_written, so_written}
-use Rattle.paint.proofs.Ends.{kept_turn}
+use Rattle.paint.specs.Buffers.{Written, with_first}
 use Rattle.paint.proofs.build.keep_stops.Given as goal
 
 -- `build::keep_stops` meets its contract: what is kept of the stops before i is written.

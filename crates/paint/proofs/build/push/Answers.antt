@@ -1,5 +1,5 @@
 -- `build::push` meets its contract.
-use Rattle.std.proofs.Common.{◌≡◌, ap, ◌∙◌, arith, length-set, rules}
+use Rattle.std.proofs.Common.{◌≡◌, ap, ◌∙◌, arith, length-set}
 use Rattle.paint.specs.Buffers.{packed, unpacked}
 use Rattle.paint.proofs.Built.{packed_back, stop_pushed}
 use Rattle.paint.proofs.build.push.Goals as goal

@@ -1,5 +1,5 @@
 -- `build::two_stops` meets its contract: the second is written after the first.
-use Rattle.std.proofs.Common.{◌≡◌, List, [], ◌∷◌, ◌++◌, ap, ◌∙◌, arith, rules}
+use Rattle.std.proofs.Common.{List, [], ◌∷◌, ◌++◌, ap, arith}
 use Rattle.paint.specs.Ramps.{stop}
 use Rattle.paint.specs.declared.Stop.{Stop}
 use Rattle.paint.proofs.Built.{then_written}

@@ -1,5 +1,5 @@
 -- `chord::chord` meets its contract.
-use Rattle.std.proofs.Common.{◌≡◌, Bool, T, pos, ◌-ℤ◌, ◌*ℤ◌, nat_abs, ◌<ℤ◌, sym, ◌∙◌, subst, arith, to_z-of_z, w64, to_z, of_z, rules}
+use Rattle.std.proofs.Common.{◌≡◌, Bool, T, pos, ◌-ℤ◌, ◌*ℤ◌, nat_abs, ◌<ℤ◌, sym, ◌∙◌, subst, arith, to_z-of_z, w64, to_z, of_z}
 use lib.Signed.{le_z}
 use Rattle.fixed.proofs.Roots.{root_small}
 use Rattle.fixed.proofs.Sign.{is_positive}

@@ -1,5 +1,5 @@
 -- `chord::columns_from` meets its contract: no step overflows, by the sizes of the parameters.
-use Rattle.std.proofs.Common.{ℕ, ℤ, ap, ◌∙◌, ap₂, arith, w64, rules}
+use Rattle.std.proofs.Common.{ℕ, ℤ, ap, ◌∙◌, ap₂, arith, w64}
 use Rattle.fixed.proofs.Means.{Num, need, keep, lit, of_nat, add, sub}
 use Rattle.paint.specs.Circles.{first_from}
 use Rattle.paint.specs.declared.Columns.{Columns}

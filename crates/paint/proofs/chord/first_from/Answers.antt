@@ -6,7 +6,6 @@ use Rattle.paint.specs.Circles.{first_from}
 use Rattle.paint.proofs.Focal.{above_zero, natural_cast}
 use Rattle.paint.proofs.Outer.{first_zero, first_some}
 use Rattle.paint.proofs.chord.first_from.Goals as goal
-use Rattle.paint.proofs.chord.first_from.Tie as tie
 use Rattle.paint.proofs.chord.first_from.Lts as lts
 use Rattle.paint.proofs.chord.first_from.Reads as reads
 

@@ -1,5 +1,5 @@
 -- `chord::inner_columns` meets its contract: whatever is asked of the ends, all columns are right.
-use Rattle.std.proofs.Common.{◌+◌, ◌≤◌, ap, ◌∙◌, arith, w64, rules}
+use Rattle.std.proofs.Common.{◌+◌, ◌≤◌, ap, ◌∙◌, arith, w64}
 use Rattle.fixed.proofs.Signed.{back, clean}
 use Rattle.paint.specs.Radial.{from_focus}
 use Rattle.paint.proofs.Outer.{enclosing_ramp, all_within}

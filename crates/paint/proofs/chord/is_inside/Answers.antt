@@ -1,5 +1,5 @@
 -- `chord::is_inside` meets its contract.
-use Rattle.std.proofs.Common.{◌-ℤ◌, ◌*ℤ◌, ap, ◌∙◌, ap₂, w64, rules}
+use Rattle.std.proofs.Common.{◌-ℤ◌, ◌*ℤ◌, ap, ◌∙◌, ap₂, w64}
 use lib.Signed.{lt_z}
 use Rattle.fixed.proofs.Means.{Num, need, keep, mul}
 use Rattle.fixed.proofs.Signed.{back, clean}

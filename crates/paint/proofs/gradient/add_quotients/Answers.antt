@@ -4,7 +4,6 @@ use lib.Signed.{lt_z}
 use Rattle.fixed.proofs.Means.{Num, need, keep, lit, add, sub}
 use Rattle.paint.proofs.Sizes.{sized}
 use Rattle.paint.proofs.gradient.add_quotients.Goals as goal
-use Rattle.paint.proofs.gradient.add_quotients.Tie as tie
 use Rattle.paint.proofs.gradient.add_quotients.Lts as lts
 use Rattle.paint.proofs.gradient.add_quotients.Reads as reads
 

@@ -1,5 +1,5 @@
 -- `gradient::along` meets its contract: no step overflows, by the sizes of the parameters.
-use Rattle.std.proofs.Common.{◌+◌, ◌*◌, arith, w64, rules}
+use Rattle.std.proofs.Common.{◌+◌, ◌*◌, arith, w64}
 use Rattle.fixed.proofs.Means.{Num, need, keep, of_nat, sub, mul}
 use Rattle.paint.proofs.Sizes.{sized}
 use Rattle.paint.proofs.gradient.along.Goals as goal

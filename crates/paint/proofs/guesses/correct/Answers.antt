@@ -1,5 +1,5 @@
 -- `guesses::correct` does nothing undefined: a number below 256 is a float.
-use Rattle.std.proofs.Common.{◌≡◌, ◌-◌, ◌<◌, ◌≤◌, length, refl, ◌∙◌, arith, length-set}
+use Rattle.std.proofs.Common.{◌<◌, ◌≤◌, length, refl, ◌∙◌, arith, length-set}
 use Rattle.paint.proofs.guesses.correct.Goals as goal
 use Rattle.paint.proofs.guesses.correct.Tie as tie
 use Rattle.paint.proofs.guesses.correct.Lts as lts

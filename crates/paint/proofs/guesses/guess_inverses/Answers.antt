@@ -1,5 +1,5 @@
 -- `guesses::guess_inverses` does nothing undefined: a number below 256 is a float.
-use Rattle.std.proofs.Common.{◌≡◌, ◌-◌, ◌<◌, ◌≤◌, length, refl, ◌∙◌, arith, length-set}
+use Rattle.std.proofs.Common.{◌<◌, ◌≤◌, length, refl, ◌∙◌, arith, length-set}
 use Rattle.paint.proofs.guesses.guess_inverses.Goals as goal
 
 inside : (c : goal.In-loop-i) → let n = length c.args.inverses.now in (c.loop-i.i < n) × (n ≤ 256)

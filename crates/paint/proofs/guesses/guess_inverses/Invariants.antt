@@ -1,5 +1,5 @@
 -- `guesses::guess_inverses` does nothing undefined: a number below 256 is a float.
-use Rattle.std.proofs.Common.{◌≡◌, ◌-◌, ◌<◌, ◌≤◌, length, refl, ◌∙◌, arith, length-set}
+use Rattle.std.proofs.Common.{◌≡◌, ◌-◌, length}
 use Rattle.paint.proofs.guesses.guess_inverses.Given as goal
 
 -- `guesses::guess_inverses` does nothing undefined: a number below 256 is a float.

@@ -1,5 +1,5 @@
 -- `guesses::guess_roots` does nothing undefined: what Q grows by, less half of what that grows by, fits 64 bits.
-use Rattle.std.proofs.Common.{◌<◌, T, ltb, nat_abs, refl, lt_of_le_of_lt, arith, ltb→lt, w64, rules}
+use Rattle.std.proofs.Common.{◌<◌, T, ltb, nat_abs, refl, lt_of_le_of_lt, arith, ltb→lt, w64}
 use Rattle.fixed.proofs.Means.{Num, need, keep, quot, sub, lit, tight}
 use Rattle.paint.proofs.Sizes.{sized, quotient_size}
 use Rattle.paint.proofs.guesses.guess_roots.Goals as goal

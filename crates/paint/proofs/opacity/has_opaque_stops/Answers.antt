@@ -1,5 +1,5 @@
 -- `opacity::has_opaque_stops` meets its contract: the stops before i are opaque.
-use Rattle.std.proofs.Common.{◌≡◌, ◌-◌, ◌≤◌, T, sym, ap, ◌∙◌, subst, arith, rules, below_more}
+use Rattle.std.proofs.Common.{◌≡◌, T, sym, ap, ◌∙◌, subst, arith, below_more}
 use Rattle.color.specs.declared.Pixel.{Pixel}
 use Rattle.paint.specs.Buffers.{stop_at}
 use Rattle.paint.specs.Opaque.{OpaqueStops}

@@ -1,5 +1,5 @@
 -- `opacity::is_opaque` meets its contract: a gradient whose stops are opaque is.
-use Rattle.std.proofs.Common.{◌≡◌, ℕ, List, subst, rules}
+use Rattle.std.proofs.Common.{◌≡◌, ℕ, List, subst}
 use Rattle.paint.specs.Buffers.{HeldRamp}
 use Rattle.paint.specs.Circles.{HeldGradient}
 use Rattle.paint.specs.declared.AnyGradient.{AnyGradient}

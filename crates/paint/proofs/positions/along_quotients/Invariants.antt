@@ -1,14 +1,10 @@
 -- `positions::along_quotients` meets its contract: the positions before i are stored, and q is t at the pixel i.
-use Rattle.std.proofs.Common.{◌≡◌, ℕ, ◌+◌, ◌-◌, ◌≤◌, length, ℤ, refl, ap, ◌∙◌, arith, length-set, to_z-of_z, w64, to_z, of_z, rules}
+use Rattle.std.proofs.Common.{◌≡◌, ℕ, ◌+◌, ◌-◌, ◌≤◌, length}
 use Rattle.lists.specs.Lists.{tab, over}
-use Rattle.lists.proofs.Laws.{tab_turn, tab_all}
-use Rattle.fixed.proofs.Signed.{clean}
-use Rattle.paint.specs.Gradient.{squared_length, linear_t, mapped}
-use Rattle.paint.specs.Buffers.{Moderate, quotient_at}
+use Rattle.paint.specs.Gradient.{linear_t, mapped}
+use Rattle.paint.specs.Buffers.{quotient_at}
 use Rattle.paint.specs.Segments.{position_of}
 use Rattle.paint.specs.declared.LinearGradient.{LinearGradient}
-use Rattle.paint.specs.declared.Quotient.{Quotient}
-use Rattle.paint.proofs.Walk.{whole_is_t, next_pixel, length_moderate, step_moderate, at_moderate}
 use Rattle.paint.proofs.positions.along_quotients.Given as goal
 
 -- the position of the ith pixel

@@ -11,12 +11,12 @@ first-cut c =
     let t = c.args.t in
     let e : to_z w32 (of_z w32 t) ≡ t = to_z-of_z c.ranges.t in
     elim c.if-t-lt-RAMP_LAST.branch [
-      then-t-lt-RAMP_LAST w ↦
-        let test : lt_z (to_z w32 (of_z w32 t)) (pos 65535) ≡ true = w.if-t-lt-RAMP_LAST.true in
-        w.v-is ∙ e ∙ ap (λ (b : Bool). cond b t (pos 65535)) (sym test ∙ ap (λ (z : ℤ). lt_z z (pos 65535)) e)
-    | else-t-lt-RAMP_LAST w ↦
-        let test : lt_z (to_z w32 (of_z w32 t)) (pos 65535) ≡ false = w.if-t-lt-RAMP_LAST.false in
-        w.v-is ∙ ap (λ (b : Bool). cond b t (pos 65535)) (sym test ∙ ap (λ (z : ℤ). lt_z z (pos 65535)) e)
+      | then-t-lt-RAMP_LAST w ↦
+          let test : lt_z (to_z w32 (of_z w32 t)) (pos 65535) ≡ true = w.if-t-lt-RAMP_LAST.true in
+          w.v-is ∙ e ∙ ap (λ (b : Bool). cond b t (pos 65535)) (sym test ∙ ap (λ (z : ℤ). lt_z z (pos 65535)) e)
+      | else-t-lt-RAMP_LAST w ↦
+          let test : lt_z (to_z w32 (of_z w32 t)) (pos 65535) ≡ false = w.if-t-lt-RAMP_LAST.false in
+          w.v-is ∙ ap (λ (b : Bool). cond b t (pos 65535)) (sym test ∙ ap (λ (z : ℤ). lt_z z (pos 65535)) e)
     ]
 
 second-cut : (c : goal.Joined-v-lt0)
@@ -24,10 +24,10 @@ second-cut : (c : goal.Joined-v-lt0)
 second-cut c =
     let v = to_z w32 c.if-t-lt-RAMP_LAST.v-bits in
     elim c.if-v-lt0.branch [
-      then-v-lt0 w ↦
-        let test : lt_z v (pos 0) ≡ true = w.if-v-lt0.true in w.w-is ∙ ap (λ (b : Bool). cond b (pos 0) v) (sym test)
-    | else-v-lt0 w ↦
-        let test : lt_z v (pos 0) ≡ false = w.if-v-lt0.false in w.w-is ∙ ap (λ (b : Bool). cond b (pos 0) v) (sym test)
+      | then-v-lt0 w ↦
+          let test : lt_z v (pos 0) ≡ true = w.if-v-lt0.true in w.w-is ∙ ap (λ (b : Bool). cond b (pos 0) v) (sym test)
+      | else-v-lt0 w ↦
+          let test : lt_z v (pos 0) ≡ false = w.if-v-lt0.false in w.w-is ∙ ap (λ (b : Bool). cond b (pos 0) v) (sym test)
     ]
 
 both-cuts : (c : goal.Joined-v-lt0) → to_z w32 c.if-v-lt0.w-bits ≡ pos (min (position_of c.args.t - 1) 65535)

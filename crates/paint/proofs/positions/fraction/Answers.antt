@@ -1,5 +1,5 @@
 -- `positions::fraction` meets its contract: what is left of the first division is below d, so the second has 22 bits more too.
-use Rattle.std.proofs.Common.{◌≡◌, ◌+◌, ◌*◌, ◌/◌, ◌%◌, ◌<◌, mod-lt, arith, rules}
+use Rattle.std.proofs.Common.{◌≡◌, ◌+◌, ◌*◌, ◌/◌, ◌%◌, ◌<◌, mod-lt, arith}
 use Rattle.paint.specs.Buffers.{line_parts}
 use Rattle.paint.proofs.Along.{fraction_below, twice_divided}
 use Rattle.paint.proofs.positions.fraction.Goals as goal

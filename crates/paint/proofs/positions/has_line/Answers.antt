@@ -1,14 +1,9 @@
 -- `positions::has_line` meets its contract.
-use Rattle.std.proofs.Common.{◌≡◌, Bool, true, false, not, T, nat_abs, sym, refl, ◌∙◌, subst, arith, lit≤, to_z-of_z, w64}
+use Rattle.std.proofs.Common.{T, nat_abs, sym, ◌∙◌, subst, arith, lit≤, to_z-of_z, w64}
 use Rattle.fixed.proofs.Signed.{back}
 use Rattle.paint.proofs.Folded.{leaves_t}
 use Rattle.paint.proofs.Along.{below_limit}
 use Rattle.paint.proofs.positions.has_line.Goals as goal
-
--- a test that is passed
-passed : (b : Bool) → not b ≡ false → b ≡ true
-passed true e = refl
-passed false e = absurd (subst T e tt)
 
 pub pads-requires : goal.pads-requires
 pads-requires c =
@@ -45,11 +40,11 @@ is_below-requires-3 c =
 pub returns : goal.returns
 returns c e =
     let limit = c.length_limit in
-    let first = c.is_below.ensures (passed _ c.if-not-is_below.false-raw) in
-    let step = c.is_below-2.ensures (passed _ c.if-not-is_below-2.false-raw) in
+    let first = c.is_below.ensures c.if-not-is_below.false in
+    let step = c.is_below-2.ensures c.if-not-is_below-2.false in
     let below = rw (to_z-of_z c.ranges.d, back w64 limit.result limit.type_inv) at (c.is_below-3.ensures e) in
     record {
-      pads = leaves_t _ (sym c.pads.ensures ∙ passed _ c.if-not-pads.false-raw);
+      pads = leaves_t _ (sym c.pads.ensures ∙ c.if-not-pads.false);
       whole = rw (back w64 c.args.q.whole c.struct_told-1.given.0.1) at first;
       growth = rw (back w64 c.args.step.whole c.struct_told-2-1.given.0.1) at step;
       length = omega (arith, below, limit.ensures.1);

@@ -1,12 +1,9 @@
 -- `positions::inner_ts` meets its contract: the first i t's are stored, and t is the line's number at the pixel i, on the ramp as both ends are.
-use Rattle.std.proofs.Common.{◌≡◌, ℕ, ◌+◌, ◌-◌, ◌≤◌, min, length, ℤ, pos, ◌+ℤ◌, ◌*ℤ◌, sym, refl, ap, ◌∙◌, ap₂, arith, length-set, to_z-of_z, w64, to_z, of_z, rules}
+use Rattle.std.proofs.Common.{◌≡◌, ℕ, ◌-◌, ◌≤◌, min, length, ℤ, pos, ◌+ℤ◌, ◌*ℤ◌}
 use Rattle.lists.specs.Lists.{tab, over}
-use Rattle.lists.proofs.Laws.{tab_turn, tab_all}
 use Rattle.fixed.specs.Floor.{floor_div}
-use Rattle.fixed.proofs.Means.{Num, need, keep}
-use Rattle.paint.specs.Buffers.{Inner, line_parts}
+use Rattle.paint.specs.Buffers.{line_parts}
 use Rattle.paint.specs.Segments.{position_of}
-use Rattle.paint.proofs.Along.{line_first, line_next, inner_between, inner_size}
 use Rattle.paint.proofs.positions.inner_ts.Given as goal
 
 -- t at the ith pixel

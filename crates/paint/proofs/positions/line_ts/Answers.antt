@@ -1,5 +1,5 @@
 -- `positions::line_ts` meets its contract, by either loop.
-use Rattle.std.proofs.Common.{to_z-of_z, rules}
+use Rattle.std.proofs.Common.{to_z-of_z}
 use Rattle.paint.proofs.positions.line_ts.Goals as goal
 
 pub inner_ts-requires : goal.inner_ts-requires

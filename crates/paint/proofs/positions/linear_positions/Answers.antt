@@ -1,5 +1,5 @@
 -- `positions::linear_positions` meets its contract: by a line where one serves, and by quotients where none does.
-use Rattle.std.proofs.Common.{◌≡◌, ◌+◌, length, ℤ, pos, ◌+ℤ◌, ◌*ℤ◌, ◌∙◌, ap₂, arith, w64, to_z, of_z, rules}
+use Rattle.std.proofs.Common.{◌≡◌, ◌+◌, length, ℤ, pos, ◌+ℤ◌, ◌*ℤ◌, ◌∙◌, ap₂, arith, w64, to_z, of_z}
 use Rattle.lists.specs.Lists.{tab}
 use Rattle.fixed.specs.Floor.{floor_div}
 use Rattle.fixed.proofs.Signed.{back, clean}

@@ -12,12 +12,12 @@ first-cut c =
     let t = c.args.t in
     let e : to_z w32 (of_z w32 t) ≡ t = to_z-of_z c.ranges.t in
     elim c.if-t-lt-RAMP_END.branch [
-      then-t-lt-RAMP_END w ↦
-        let test : lt_z (to_z w32 (of_z w32 t)) (pos 65536) ≡ true = w.if-t-lt-RAMP_END.true in
-        w.v-is ∙ e ∙ ap (λ (b : Bool). cond b t (pos 65536)) (sym test ∙ ap (λ (z : ℤ). lt_z z (pos 65536)) e)
-    | else-t-lt-RAMP_END w ↦
-        let test : lt_z (to_z w32 (of_z w32 t)) (pos 65536) ≡ false = w.if-t-lt-RAMP_END.false in
-        w.v-is ∙ ap (λ (b : Bool). cond b t (pos 65536)) (sym test ∙ ap (λ (z : ℤ). lt_z z (pos 65536)) e)
+      | then-t-lt-RAMP_END w ↦
+          let test : lt_z (to_z w32 (of_z w32 t)) (pos 65536) ≡ true = w.if-t-lt-RAMP_END.true in
+          w.v-is ∙ e ∙ ap (λ (b : Bool). cond b t (pos 65536)) (sym test ∙ ap (λ (z : ℤ). lt_z z (pos 65536)) e)
+      | else-t-lt-RAMP_END w ↦
+          let test : lt_z (to_z w32 (of_z w32 t)) (pos 65536) ≡ false = w.if-t-lt-RAMP_END.false in
+          w.v-is ∙ ap (λ (b : Bool). cond b t (pos 65536)) (sym test ∙ ap (λ (z : ℤ). lt_z z (pos 65536)) e)
     ]
 
 second-cut : (c : goal.Joined-v-lt0)
@@ -25,10 +25,10 @@ second-cut : (c : goal.Joined-v-lt0)
 second-cut c =
     let v = to_z w32 c.if-t-lt-RAMP_END.v-bits in
     elim c.if-v-lt0.branch [
-      then-v-lt0 w ↦
-        let test : lt_z v (pos 0) ≡ true = w.if-v-lt0.true in w.w-is ∙ ap (λ (b : Bool). cond b (negsuc 0) v) (sym test)
-    | else-v-lt0 w ↦
-        let test : lt_z v (pos 0) ≡ false = w.if-v-lt0.false in w.w-is ∙ ap (λ (b : Bool). cond b (negsuc 0) v) (sym test)
+      | then-v-lt0 w ↦
+          let test : lt_z v (pos 0) ≡ true = w.if-v-lt0.true in w.w-is ∙ ap (λ (b : Bool). cond b (negsuc 0) v) (sym test)
+      | else-v-lt0 w ↦
+          let test : lt_z v (pos 0) ≡ false = w.if-v-lt0.false in w.w-is ∙ ap (λ (b : Bool). cond b (negsuc 0) v) (sym test)
     ]
 
 -- one more than what is left of t

@@ -1,5 +1,5 @@
 -- `radial::circle_d` meets its contract.
-use Rattle.std.proofs.Common.{◌≡◌, ◌-ℤ◌, ◌∙◌, ap₂, w64, to_z, of_z, rules}
+use Rattle.std.proofs.Common.{◌≡◌, ◌-ℤ◌, ◌∙◌, ap₂, w64, to_z, of_z}
 use Rattle.fixed.proofs.Signed.{back, clean}
 use Rattle.paint.specs.Radial.{radial_d}
 use Rattle.paint.proofs.radial.circle_d.Goals as goal

@@ -1,5 +1,5 @@
 -- `radial::focal_allowed` meets its contract.
-use Rattle.std.proofs.Common.{◌≡◌, Bool, pos, w64, to_z, of_z, rules}
+use Rattle.std.proofs.Common.{◌≡◌, Bool, pos, w64, to_z, of_z}
 use lib.Signed.{lt_z}
 use Rattle.fixed.proofs.Signed.{back, clean}
 use Rattle.paint.proofs.radial.focal_allowed.Goals as goal

@@ -1,5 +1,5 @@
 -- `radial::from_focus` meets its contract: no step overflows, by the sizes of the parameters.
-use Rattle.std.proofs.Common.{◌+◌, ◌*◌, arith, w64, rules}
+use Rattle.std.proofs.Common.{◌+◌, ◌*◌, arith, w64}
 use Rattle.fixed.proofs.Means.{Num, need, keep, of_nat, sub}
 use Rattle.paint.proofs.Sizes.{sized}
 use Rattle.paint.proofs.radial.from_focus.Goals as goal

@@ -1,5 +1,5 @@
 -- `radial::numerator` meets its contract: A is not below -q.
-use Rattle.std.proofs.Common.{sym, arith, w64, rules}
+use Rattle.std.proofs.Common.{sym, arith, w64}
 use Rattle.fixed.proofs.Means.{Num, need, keep, of_nat, add}
 use Rattle.paint.proofs.Sizes.{sized}
 use Rattle.paint.proofs.Focal.{natural_cast, sum_not_negative}

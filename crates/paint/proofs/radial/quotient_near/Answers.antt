@@ -1,5 +1,5 @@
 -- `radial::quotient_near` meets its contract: a rest below d tells that the guess is the quotient.
-use Rattle.std.proofs.Common.{◌≡◌, ℕ, ◌+◌, ◌*◌, ◌/◌, ◌%◌, ◌<◌, ◌≤◌, sym, mul-le-mul, arith, rules}
+use Rattle.std.proofs.Common.{◌≡◌, ℕ, ◌+◌, ◌*◌, ◌/◌, ◌%◌, ◌<◌, ◌≤◌, sym, mul-le-mul, arith}
 use native.Mathlib.Nat.{div-eq_of_lt-le}
 use Rattle.paint.proofs.radial.quotient_near.Goals as goal
 

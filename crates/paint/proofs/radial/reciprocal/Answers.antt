@@ -1,5 +1,5 @@
 -- `radial::reciprocal` meets its contract.
-use Rattle.std.proofs.Common.{arith, to_z-of_z, rules}
+use Rattle.std.proofs.Common.{arith, to_z-of_z}
 use Rattle.fixed.proofs.Sign.{is_positive, above_zero}
 use Rattle.paint.proofs.Focal.{natural_cast}
 use Rattle.paint.proofs.radial.reciprocal.Goals as goal

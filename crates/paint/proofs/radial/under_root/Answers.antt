@@ -1,5 +1,5 @@
 -- `radial::under_root` meets its contract: no step overflows, by the sizes of the parameters.
-use Rattle.std.proofs.Common.{◌≡◌, ℤ, ◌∙◌, w64, rules}
+use Rattle.std.proofs.Common.{◌≡◌, ℤ, ◌∙◌, w64}
 use Rattle.fixed.proofs.Means.{Num, need, keep, said, add, sub, mul}
 use Rattle.paint.specs.Radial.{across}
 use Rattle.paint.proofs.Sizes.{sized}

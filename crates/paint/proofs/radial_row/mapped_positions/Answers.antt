@@ -1,12 +1,9 @@
 -- `radial_row::mapped_positions` meets its contract: each turn stores the position of its place.
-use Rattle.std.proofs.Common.{◌≡◌, ℕ, ◌+◌, ◌-◌, ◌<◌, ◌≤◌, length, ℤ, pos, nat_abs, ◌<ℤ◌, refl, ap, ◌∙◌, arith, to_z-of_z, w64, to_z, of_z}
+use Rattle.std.proofs.Common.{◌≡◌, ℕ, ◌+◌, ◌<◌, ◌≤◌, length, pos, nat_abs, ◌<ℤ◌, refl, ap, ◌∙◌, arith, to_z-of_z, w64, to_z, of_z}
 use Rattle.lists.specs.Lists.{tab}
-use Rattle.paint.specs.Gradient.{mapped}
 use Rattle.paint.specs.Radial.{radial_d, radial_t}
-use Rattle.paint.specs.Segments.{position_of}
-use Rattle.paint.specs.declared.RadialGradient.{RadialGradient}
 use Rattle.paint.proofs.Focal.{focal_inside, d_small}
-use Rattle.paint.proofs.Onward.{place_t, Walked, walk_begins, walk_turns, walk_ends, Held, held_at, held_on, asks_guess, asks_root, asks_sum, sum_t}
+use Rattle.paint.proofs.Onward.{place_t, walk_begins, walk_turns, walk_ends, Held, held_at, held_on, asks_guess, asks_root, asks_sum, sum_t}
 use Rattle.paint.proofs.Sizes.{still_sized}
 use Rattle.paint.proofs.radial_row.mapped_positions.Invariants.{position, size}
 use Rattle.paint.proofs.radial_row.mapped_positions.Goals as goal

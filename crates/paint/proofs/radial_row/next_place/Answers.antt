@@ -1,5 +1,5 @@
 -- `radial_row::next_place` meets its contract.
-use Rattle.std.proofs.Common.{◌+ℤ◌, ◌∙◌, ap₂, w64, rules}
+use Rattle.std.proofs.Common.{◌+ℤ◌, ◌∙◌, ap₂, w64}
 use Rattle.fixed.proofs.Signed.{back, clean}
 use Rattle.paint.proofs.radial_row.next_place.Goals as goal
 

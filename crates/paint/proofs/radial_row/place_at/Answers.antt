@@ -1,5 +1,5 @@
 -- `radial_row::place_at` meets its contract.
-use Rattle.std.proofs.Common.{◌≡◌, ℤ, pos, ◌-ℤ◌, ◌<ℤ◌, ap, ◌∙◌, ap₂, w64, to_z, of_z, rules}
+use Rattle.std.proofs.Common.{◌≡◌, pos, ◌-ℤ◌, ◌<ℤ◌, ap, ◌∙◌, ap₂, w64, to_z, of_z}
 use Rattle.fixed.proofs.Signed.{back, clean}
 use Rattle.paint.specs.Radial.{inside, from_focus, radial_d}
 use Rattle.paint.specs.Circles.{place_at}

@@ -1,5 +1,5 @@
 -- `radial_row::place_from` meets its contract.
-use Rattle.std.proofs.Common.{◌≡◌, ℤ, pos, ◌+ℤ◌, ◌-ℤ◌, ◌*ℤ◌, ◌∙◌, ap₂, arith, w64, to_z, of_z, rules}
+use Rattle.std.proofs.Common.{◌≡◌, ℤ, pos, ◌+ℤ◌, ◌-ℤ◌, ◌*ℤ◌, ◌∙◌, ap₂, arith, w64, to_z, of_z}
 use Rattle.fixed.proofs.Signed.{back}
 use Rattle.fixed.proofs.Means.{Num, need, keep, lit, add, mul}
 use Rattle.paint.specs.Radial.{along, under_root}

@@ -1,5 +1,5 @@
 -- `radial_row::position_of` meets its contract: a gradient that pads maps t to itself.
-use Rattle.std.proofs.Common.{pos, sym, ap, ◌∙◌, w64, rules}
+use Rattle.std.proofs.Common.{pos, sym, ap, ◌∙◌, w64}
 use Rattle.fixed.proofs.Means.{of_nat}
 use Rattle.paint.specs.Buffers.{Pads}
 use Rattle.paint.specs.Segments.{position_of}

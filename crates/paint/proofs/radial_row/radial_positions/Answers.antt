@@ -1,5 +1,5 @@
 -- `radial_row::radial_positions` meets its contract: where the spread pads, t is mapped to itself.
-use Rattle.std.proofs.Common.{◌≡◌, ◌+◌, length, pos, ◌<ℤ◌, sym, ◌∙◌, arith, w64, to_z, of_z, rules}
+use Rattle.std.proofs.Common.{◌≡◌, ◌+◌, length, pos, ◌<ℤ◌, sym, ◌∙◌, arith, w64, to_z, of_z}
 use Rattle.fixed.proofs.Signed.{back}
 use Rattle.fixed.proofs.Sign.{is_positive}
 use Rattle.paint.specs.Gradient.{mapped}

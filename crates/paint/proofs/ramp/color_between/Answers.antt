@@ -1,7 +1,5 @@
 -- `ramp::color_between` meets its contract: what is left to search gives the colour that the whole search gives.
-use Rattle.std.proofs.Common.{◌≡◌, ◌+◌, ◌-◌, ◌*◌, ◌≤◌, get_or, sym, refl, ◌∙◌, arith, rules}
-use Rattle.paint.specs.Ramps.{between}
-use Rattle.paint.specs.Buffers.{stop_at, stops_from}
+use Rattle.std.proofs.Common.{◌≡◌, ◌+◌, ◌-◌, sym, refl, ◌∙◌, arith}
 use Rattle.paint.proofs.Lookup.{between_here, between_on, between_end}
 use Rattle.paint.proofs.ramp.color_between.Goals as goal
 

@@ -1,5 +1,5 @@
 -- `ramp::mix_byte` meets its contract: the products fit 24 bits, and the result lies between the two channels.
-use Rattle.std.proofs.Common.{◌-◌, ◌*◌, ◌≤◌, sym, refl, mul-le-mul, arith, rules}
+use Rattle.std.proofs.Common.{◌-◌, ◌*◌, ◌≤◌, sym, refl, mul-le-mul, arith}
 use Rattle.paint.proofs.Mix.{mix_below, mix_same}
 use Rattle.paint.proofs.ramp.mix_byte.Goals as goal
 

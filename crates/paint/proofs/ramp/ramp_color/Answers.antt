@@ -1,5 +1,5 @@
 -- `ramp::ramp_color` meets its contract.
-use Rattle.std.proofs.Common.{◌≡◌, ◌-◌, true, false, ℤ, pos, nat_abs, sym, ap, ◌∙◌, arith, to_z-of_z, rules}
+use Rattle.std.proofs.Common.{◌≡◌, ◌-◌, true, false, ℤ, pos, nat_abs, sym, ap, ◌∙◌, arith, to_z-of_z}
 use lib.Signed.{lt_z}
 use Rattle.paint.specs.Ramps.{between}
 use Rattle.paint.specs.Buffers.{stop_at, stops_from}

@@ -1,5 +1,5 @@
 -- `ramp::unpack` meets its contract.
-use Rattle.std.proofs.Common.{refl, arith, rules}
+use Rattle.std.proofs.Common.{refl}
 use Rattle.paint.specs.Buffers.{unpacked}
 use Rattle.paint.proofs.ramp.unpack.Goals as goal
 

@@ -1,5 +1,5 @@
 -- `row::block_size` meets its contract.
-use Rattle.std.proofs.Common.{subst, rules}
+use Rattle.std.proofs.Common.{subst}
 use Rattle.paint.specs.Circles.{HeldGradient}
 use Rattle.paint.specs.declared.AnyGradient.{AnyGradient}
 use Rattle.paint.proofs.row.block_size.Goals as goal

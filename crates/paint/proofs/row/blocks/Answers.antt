@@ -3,7 +3,6 @@ use Rattle.std.proofs.Common.{◌≡◌, ℕ, ◌+◌, ◌-◌, ◌*◌, ◌<◌
 use Rattle.lists.proofs.Laws.{part_length}
 use Rattle.color.specs.declared.Pixel.{Pixel}
 use Rattle.raster.specs.Surface.{run}
-use Rattle.raster.specs.Rows.{Stored}
 use Rattle.raster.proofs.Runs.{run_same, stored_none, stored_part, stored_all}
 use Rattle.paint.specs.Circles.{gradient_at}
 use Rattle.paint.proofs.row.blocks.Goals as goal

@@ -1,10 +1,6 @@
 -- `row::blocks` meets its contract: the pixels before i are stored.
-use Rattle.std.proofs.Common.{◌≡◌, ℕ, ◌+◌, ◌-◌, ◌*◌, ◌<◌, ◌≤◌, length, ◌∙◌, arith}
-use Rattle.lists.proofs.Laws.{part_length}
-use Rattle.color.specs.declared.Pixel.{Pixel}
-use Rattle.raster.specs.Surface.{run}
+use Rattle.std.proofs.Common.{◌+◌, ◌-◌, ◌≤◌}
 use Rattle.raster.specs.Rows.{Stored}
-use Rattle.raster.proofs.Runs.{run_same, stored_none, stored_part, stored_all}
 use Rattle.paint.specs.Circles.{gradient_at}
 use Rattle.paint.proofs.row.blocks.Given as goal
 

@@ -1,5 +1,5 @@
 -- `row::gradient_row` meets its contract, kind by kind.
-use Rattle.std.proofs.Common.{subst, rules}
+use Rattle.std.proofs.Common.{subst}
 use Rattle.paint.specs.Circles.{HeldGradient}
 use Rattle.paint.specs.declared.AnyGradient.{AnyGradient}
 use Rattle.paint.proofs.row.gradient_row.Goals as goal

@@ -1,5 +1,5 @@
 -- `row::linear_row` meets its contract.
-use Rattle.std.proofs.Common.{ap, ◌∙◌, arith, w64, of_z, rules}
+use Rattle.std.proofs.Common.{ap, ◌∙◌, arith, w64, of_z}
 use Rattle.paint.specs.Buffers.{stops_in}
 use Rattle.paint.proofs.Slope.{one_x}
 use Rattle.paint.proofs.Sizes.{same_bits}

@@ -1,5 +1,5 @@
 -- `row::radial_row` meets its contract.
-use Rattle.std.proofs.Common.{◌≡◌, Bool, pos, ◌<ℤ◌, sym, ◌∙◌, w64, to_z, of_z, rules}
+use Rattle.std.proofs.Common.{◌≡◌, Bool, pos, ◌<ℤ◌, sym, ◌∙◌, w64, to_z, of_z}
 use lib.Signed.{le_z}
 use Rattle.fixed.proofs.Signed.{clean}
 use Rattle.paint.specs.Buffers.{stops_in}

@@ -1,5 +1,5 @@
 -- `segments::between` meets its contract.
-use Rattle.std.proofs.Common.{arith, rules}
+use Rattle.std.proofs.Common.{arith}
 use Rattle.paint.specs.Segments.{segment_of}
 use Rattle.paint.proofs.segments.between.Goals as goal
 

@@ -1,5 +1,5 @@
 -- `segments::byte_in` meets its contract: the line's number fits 64 bits, and its whole part is the byte.
-use Rattle.std.proofs.Common.{◌≡◌, ℕ, ◌+◌, ◌-◌, ◌*◌, ◌/◌, ◌<◌, ℤ, pos, ◌-ℤ◌, ◌*ℤ◌, nat_abs, ap, arith, w64, rules}
+use Rattle.std.proofs.Common.{◌≡◌, ℕ, ◌+◌, ◌-◌, ◌*◌, ◌/◌, ◌<◌, pos, ◌-ℤ◌, ◌*ℤ◌, nat_abs, ap, arith, w64}
 use Rattle.fixed.proofs.Means.{Num, need, keep, add, mul, shr, said, tight, of_nat}
 use Rattle.paint.specs.Ramps.{mix_byte}
 use Rattle.paint.specs.Segments.{parts, reciprocal_of, line_of}

@@ -1,5 +1,5 @@
 -- `segments::find` meets its contract.
-use Rattle.std.proofs.Common.{◌≡◌, ◌+◌, ◌-◌, ap, arith, rules}
+use Rattle.std.proofs.Common.{◌≡◌, ◌+◌, ◌-◌, ap, arith}
 use Rattle.paint.specs.Segments.{segment_of}
 use Rattle.paint.specs.declared.Segment.{Segment}
 use Rattle.paint.proofs.Serving.{serves_first, serves_last}

@@ -1,5 +1,5 @@
 -- `segments::line` meets its contract.
-use Rattle.std.proofs.Common.{ℕ, ◌+◌, ◌*◌, ◌/◌, ◌≤◌, ℤ, pos, ◌-ℤ◌, ◌*ℤ◌, ap, ◌∙◌, mul-le-mul, arith, w64, rules}
+use Rattle.std.proofs.Common.{ℕ, ◌+◌, ◌*◌, ◌/◌, ◌≤◌, pos, ◌-ℤ◌, ◌*ℤ◌, ap, ◌∙◌, mul-le-mul, arith, w64}
 use Rattle.fixed.proofs.Means.{Num, need, keep, sub, mul, of_nat}
 use Rattle.paint.specs.Segments.{line_of}
 use Rattle.paint.proofs.Lines.{reciprocal_small, first_small}

@@ -1,5 +1,5 @@
 -- `segments::reciprocal` meets its contract.
-use Rattle.std.proofs.Common.{refl, arith, rules}
+use Rattle.std.proofs.Common.{refl, arith}
 use Rattle.paint.specs.Segments.{reciprocal_of}
 use Rattle.paint.proofs.Lines.{reciprocal_small}
 use Rattle.paint.proofs.segments.reciprocal.Goals as goal

@@ -1,6 +1,6 @@
 -- `segments::search` meets its contract: the stops before j are passed for every t from low on.
-use Rattle.std.proofs.Common.{◌≡◌, ◌+◌, ◌-◌, ◌*◌, ◌≤◌, get_or, ap, arith, rules}
-use Rattle.paint.specs.Segments.{segment_of, Passed}
+use Rattle.std.proofs.Common.{◌≡◌, ◌+◌, ◌-◌, ◌*◌, ◌≤◌, get_or, ap, arith}
+use Rattle.paint.specs.Segments.{segment_of}
 use Rattle.paint.specs.declared.Segment.{Segment}
 use Rattle.paint.proofs.Serving.{passed_none, passed_more, serves_between, serves_end}
 use Rattle.paint.proofs.segments.search.Goals as goal

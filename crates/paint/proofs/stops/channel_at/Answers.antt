@@ -1,5 +1,5 @@
 -- `stops::channel_at` meets its contract.
-use Rattle.std.proofs.Common.{sym, ap, ◌∙◌, rules}
+use Rattle.std.proofs.Common.{sym, ap, ◌∙◌}
 use Rattle.fixed.proofs.Answers.{is_number}
 use Rattle.color.specs.Channels.{channel_byte}
 use Rattle.paint.proofs.Reals.{read_nan, read_number, nan_channel}

@@ -1,5 +1,5 @@
 -- `stops::color_at` meets its contract.
-use Rattle.std.proofs.Common.{◌≡◌, ap, ◌∙◌, rules}
+use Rattle.std.proofs.Common.{◌≡◌, ap, ◌∙◌}
 use Rattle.color.specs.Channels.{premultiplied}
 use Rattle.color.specs.declared.Pixel.{Pixel}
 use Rattle.paint.specs.Ramps.{color_at}

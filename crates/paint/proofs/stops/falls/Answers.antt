@@ -1,5 +1,5 @@
 -- `stops::falls` meets its contract.
-use Rattle.std.proofs.Common.{◌≡◌, ℕ, zero, suc, ◌+◌, ◌-◌, ◌≤◌, Bool, true, false, ◌||◌, List, sym, refl, ap, ◌∙◌, arith, rules}
+use Rattle.std.proofs.Common.{◌≡◌, ℕ, zero, suc, ◌+◌, ◌-◌, ◌≤◌, Bool, true, false, ◌||◌, List, sym, refl, ap, ◌∙◌, arith}
 use lib.Ieee.{lt}
 use Rattle.paint.specs.Ramps.{offset_at, falls_in}
 use Rattle.paint.proofs.stops.falls.Goals as goal
@@ -29,14 +29,14 @@ fell c =
     let stops = c.args.stops.now in
     let e = c.falls_at.ensures in
     elim c.if-falls_at.branch [
-      then-falls_at w ↦
-        w.fell-is
-        ∙ sym (more stops l.i (omega arith) ∙ ap (λ (b : Bool). falls_in stops (l.i - 1) || b) (sym e ∙ w.if-falls_at.true)
-        ∙ or_true (falls_in stops (l.i - 1)))
-    | else-falls_at w ↦
-        w.fell-is ∙ l.invariant.1
-        ∙ sym (more stops l.i (omega arith) ∙ ap (λ (b : Bool). falls_in stops (l.i - 1) || b) (sym e ∙ w.if-falls_at.false)
-        ∙ or-false (falls_in stops (l.i - 1)))
+      | then-falls_at w ↦
+          w.fell-is
+          ∙ sym (more stops l.i (omega arith) ∙ ap (λ (b : Bool). falls_in stops (l.i - 1) || b) (sym e ∙ w.if-falls_at.true)
+          ∙ or_true (falls_in stops (l.i - 1)))
+      | else-falls_at w ↦
+          w.fell-is ∙ l.invariant.1
+          ∙ sym (more stops l.i (omega arith) ∙ ap (λ (b : Bool). falls_in stops (l.i - 1) || b) (sym e ∙ w.if-falls_at.false)
+          ∙ or-false (falls_in stops (l.i - 1)))
     ]
 
 pub loop-i-init : goal.loop-i-init

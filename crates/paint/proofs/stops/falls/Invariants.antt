@@ -1,7 +1,6 @@
 -- `stops::falls` meets its contract.
-use Rattle.std.proofs.Common.{◌≡◌, ℕ, zero, suc, ◌+◌, ◌-◌, ◌≤◌, Bool, true, false, ◌||◌, List, sym, refl, ap, ◌∙◌, ⊎_elim, arith, rules}
-use lib.Ieee.{lt}
-use Rattle.paint.specs.Ramps.{offset_at, falls_in}
+use Rattle.std.proofs.Common.{◌≡◌, ◌-◌, ◌≤◌}
+use Rattle.paint.specs.Ramps.{falls_in}
 use Rattle.paint.proofs.stops.falls.Given as goal
 
 -- `stops::falls` meets its contract.

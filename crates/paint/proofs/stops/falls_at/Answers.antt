@@ -1,5 +1,5 @@
 -- `stops::falls_at` meets its contract.
-use Rattle.std.proofs.Common.{◌-◌, ◌*◌, ◌∙◌, rules}
+use Rattle.std.proofs.Common.{◌-◌, ◌*◌, ◌∙◌}
 use Rattle.paint.proofs.Reals.{less_read}
 use Rattle.paint.proofs.stops.falls_at.Goals as goal
 

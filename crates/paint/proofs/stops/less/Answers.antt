@@ -1,5 +1,5 @@
 -- `stops::less` meets its contract.
-use Rattle.std.proofs.Common.{◌≡◌, false, T, sym, refl, ap, subst, ap₂, rules}
+use Rattle.std.proofs.Common.{◌≡◌, false, T, sym, refl, ap, subst, ap₂}
 use Rattle.fixed.specs.declared.Real.{Real}
 use Rattle.fixed.specs.declared.Real.TheVariants.{Number, Nan}
 use Rattle.fixed.proofs.Answers.{is_number}

@@ -1,5 +1,5 @@
 -- `stops::offset_at` meets its contract.
-use Rattle.std.proofs.Common.{◌*◌, sym, ap, ◌∙◌, rules}
+use Rattle.std.proofs.Common.{◌*◌, sym, ap, ◌∙◌}
 use Rattle.fixed.specs.Floats.{offset_in}
 use Rattle.fixed.proofs.Answers.{is_number}
 use Rattle.paint.proofs.Reals.{read_nan, read_number}

@@ -1,5 +1,5 @@
 -- `words::fallen` meets its contract.
-use Rattle.std.proofs.Common.{ℕ, ◌-◌, ◌*◌, ◌/◌, ◌≤◌, ap, ◌∙◌, arith, rules}
+use Rattle.std.proofs.Common.{ℕ, ◌-◌, ◌*◌, ◌/◌, ◌≤◌, ap, ◌∙◌, arith}
 use Rattle.paint.proofs.Pairs.{falling_is, part_small}
 use Rattle.paint.proofs.words.fallen.Goals as goal
 

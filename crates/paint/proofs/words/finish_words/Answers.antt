@@ -1,5 +1,5 @@
 -- `words::finish_words` meets its contract.
-use Rattle.std.proofs.Common.{length, refl, rules}
+use Rattle.std.proofs.Common.{length, refl}
 use Rattle.paint.specs.Segments.{finished}
 use Rattle.paint.proofs.Begins.{opaque_words}
 use Rattle.paint.proofs.words.finish_words.Goals as goal

@@ -1,6 +1,5 @@
 -- `words::join` meets its contract: the words before i are written.
-use Rattle.std.proofs.Common.{◌≡◌, ◌+◌, ◌-◌, ◌*◌, ◌≤◌, length, get_or, refl, arith, length-set, rules}
-use Rattle.lists.specs.Lists.{tab, over}
+use Rattle.std.proofs.Common.{length, refl, arith, length-set, rules}
 use Rattle.lists.proofs.Laws.{tab_turn, tab_all}
 use Rattle.paint.proofs.words.join.Goals as goal
 

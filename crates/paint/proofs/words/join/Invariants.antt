@@ -1,7 +1,6 @@
 -- `words::join` meets its contract: the words before i are written.
-use Rattle.std.proofs.Common.{◌≡◌, ◌+◌, ◌-◌, ◌*◌, ◌≤◌, length, get_or, refl, arith, length-set, rules}
+use Rattle.std.proofs.Common.{◌≡◌, ◌+◌, ◌-◌, ◌*◌, ◌≤◌, length, get_or}
 use Rattle.lists.specs.Lists.{tab, over}
-use Rattle.lists.proofs.Laws.{tab_turn, tab_all}
 use Rattle.paint.proofs.words.join.Given as goal
 
 -- `words::join` meets its contract: the words before i are written.

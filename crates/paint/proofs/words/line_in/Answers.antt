@@ -1,5 +1,5 @@
 -- `words::line_in` meets its contract.
-use Rattle.std.proofs.Common.{◌≡◌, ◌-◌, ◌/◌, length, take, drop, refl, ◌∙◌, arith, to_z-of_z, rules}
+use Rattle.std.proofs.Common.{◌≡◌, ◌-◌, ◌/◌, length, take, drop, refl, ◌∙◌, arith, to_z-of_z}
 use Rattle.lists.proofs.Laws.{part_length}
 use Rattle.paint.proofs.words.line_in.Goals as goal
 

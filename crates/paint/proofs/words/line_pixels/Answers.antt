@@ -1,5 +1,5 @@
 -- `words::line_pixels` meets its contract.
-use Rattle.std.proofs.Common.{refl, to_z-of_z, rules}
+use Rattle.std.proofs.Common.{refl, to_z-of_z}
 use Rattle.paint.proofs.words.line_pixels.Goals as goal
 
 pub line_in-requires : goal.line_in-requires

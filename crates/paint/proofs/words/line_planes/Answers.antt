@@ -1,5 +1,5 @@
 -- `words::line_planes` meets its contract.
-use Rattle.std.proofs.Common.{◌≡◌, ℕ, ◌-◌, List, min, length, ℤ, pos, ◌+ℤ◌, ◌*ℤ◌, sym, ◌∙◌, ap₂, arith, to_z-of_z, rules}
+use Rattle.std.proofs.Common.{◌≡◌, ℕ, ◌-◌, List, min, length, ℤ, pos, ◌+ℤ◌, ◌*ℤ◌, sym, ◌∙◌, ap₂, arith, to_z-of_z}
 use Rattle.lists.specs.Lists.{tab}
 use Rattle.fixed.specs.Floor.{floor_div}
 use Rattle.paint.specs.Ramps.{mix_pixel}

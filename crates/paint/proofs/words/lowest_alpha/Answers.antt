@@ -1,5 +1,5 @@
 -- `words::lowest_alpha` meets its contract: no alpha before i is below low.
-use Rattle.std.proofs.Common.{◌≡◌, ℕ, ◌-◌, ◌≤◌, length, ap, subst, arith, rules}
+use Rattle.std.proofs.Common.{◌≡◌, ℕ, length, ap, subst, arith}
 use Rattle.color.specs.declared.Pixel.{Pixel}
 use Rattle.paint.specs.Segments.{Covering}
 use Rattle.paint.proofs.Begins.{covering_none, covering_turn}

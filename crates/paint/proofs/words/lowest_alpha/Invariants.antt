@@ -1,8 +1,6 @@
 -- `words::lowest_alpha` meets its contract: no alpha before i is below low.
-use Rattle.std.proofs.Common.{◌≡◌, ℕ, ◌-◌, ◌≤◌, length, ap, subst, arith, rules}
-use Rattle.color.specs.declared.Pixel.{Pixel}
+use Rattle.std.proofs.Common.{◌-◌, ◌≤◌, length}
 use Rattle.paint.specs.Segments.{Covering}
-use Rattle.paint.proofs.Begins.{covering_none, covering_turn}
 use Rattle.paint.proofs.words.lowest_alpha.Given as goal
 
 -- `words::lowest_alpha` meets its contract: no alpha before i is below low.

@@ -1,5 +1,5 @@
 -- `words::mix_colors` meets its contract.
-use Rattle.std.proofs.Common.{◌≡◌, ℕ, List, length, get_or, ap, subst, arith, rules}
+use Rattle.std.proofs.Common.{◌≡◌, ℕ, List, length, get_or, ap, subst, arith}
 use Rattle.lists.specs.Lists.{tab}
 use Rattle.paint.specs.Segments.{Bytes, mix_pair}
 use Rattle.paint.proofs.Pairs.{mixed_planes}

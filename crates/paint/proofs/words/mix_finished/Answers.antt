@@ -1,5 +1,5 @@
 -- `words::mix_finished` meets its contract.
-use Rattle.std.proofs.Common.{◌<◌, length, get_or, sym, ap, ◌∙◌, arith, rules}
+use Rattle.std.proofs.Common.{◌<◌, length, get_or, sym, ap, ◌∙◌, arith}
 use Rattle.paint.specs.Segments.{finished}
 use Rattle.paint.proofs.Pairs.{mixed_opaque, opaque_planes, premultiplied_planes}
 use Rattle.paint.proofs.words.mix_finished.Goals as goal

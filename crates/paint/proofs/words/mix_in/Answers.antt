@@ -1,5 +1,5 @@
 -- `words::mix_in` meets its contract.
-use Rattle.std.proofs.Common.{length, arith, rules}
+use Rattle.std.proofs.Common.{length, arith}
 use Rattle.lists.proofs.Laws.{part_length}
 use Rattle.paint.proofs.words.mix_in.Goals as goal
 

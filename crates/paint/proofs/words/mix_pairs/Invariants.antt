@@ -1,7 +1,6 @@
 -- `words::mix_pairs` meets its contract: the pairs before i are written.
-use Rattle.std.proofs.Common.{◌≡◌, ◌-◌, ◌≤◌, length, get_or, refl, ap, ◌∙◌, arith, length-set, rules}
+use Rattle.std.proofs.Common.{◌≡◌, ◌-◌, ◌≤◌, length, get_or}
 use Rattle.lists.specs.Lists.{tab, over}
-use Rattle.lists.proofs.Laws.{tab_turn, tab_all, tab_read}
 use Rattle.paint.specs.Segments.{mix_pair}
 use Rattle.paint.proofs.words.mix_pairs.Given as goal
 

@@ -1,5 +1,5 @@
 -- `words::mix_planes` meets its contract.
-use Rattle.std.proofs.Common.{ℕ, ◌-◌, length, get_or, refl, ◌∙◌, rules}
+use Rattle.std.proofs.Common.{ℕ, ◌-◌, length, get_or, refl, ◌∙◌}
 use Rattle.color.specs.declared.Pixel.{Pixel}
 use Rattle.paint.specs.Ramps.{mix_pixel}
 use Rattle.paint.proofs.Pairs.{cut_on_ramp, cut_words}

@@ -1,5 +1,5 @@
 -- `words::mix_with_alpha` meets its contract.
-use Rattle.std.proofs.Common.{ℕ, length, get_or, ap, ◌∙◌, rules}
+use Rattle.std.proofs.Common.{ℕ, length, get_or, ap, ◌∙◌}
 use Rattle.lists.specs.Lists.{tab}
 use Rattle.paint.specs.Segments.{mix_pair}
 use Rattle.paint.proofs.words.mix_with_alpha.Goals as goal

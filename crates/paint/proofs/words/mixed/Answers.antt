@@ -1,5 +1,5 @@
 -- `words::mixed` meets its contract.
-use Rattle.std.proofs.Common.{arith, rules}
+use Rattle.std.proofs.Common.{arith}
 use Rattle.paint.proofs.Pairs.{mixed_byte}
 use Rattle.paint.proofs.words.mixed.Goals as goal
 

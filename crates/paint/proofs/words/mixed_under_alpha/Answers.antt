@@ -1,5 +1,5 @@
 -- `words::mixed_under_alpha` meets its contract.
-use Rattle.std.proofs.Common.{ℕ, ◌+◌, ◌*◌, ap, ◌∙◌, arith, rules}
+use Rattle.std.proofs.Common.{ℕ, ◌+◌, ◌*◌, ap, ◌∙◌, arith}
 use Rattle.paint.proofs.Pairs.{one_alpha}
 use Rattle.paint.proofs.words.mixed_under_alpha.Goals as goal
 

@@ -1,5 +1,5 @@
 -- `words::premultiplied_left` meets its contract.
-use Rattle.std.proofs.Common.{ℕ, ◌+◌, ◌*◌, ◌∙◌, ap₂, rules}
+use Rattle.std.proofs.Common.{ℕ, ◌+◌, ◌*◌, ◌∙◌, ap₂}
 use Rattle.paint.specs.Segments.{left_pair}
 use Rattle.paint.proofs.words.premultiplied_left.Goals as goal
 

@@ -1,5 +1,5 @@
 -- `words::premultiplied_right` meets its contract.
-use Rattle.std.proofs.Common.{ℕ, ◌+◌, ◌*◌, ◌/◌, ap, ◌∙◌, rules}
+use Rattle.std.proofs.Common.{ℕ, ◌+◌, ◌*◌, ◌/◌, ap, ◌∙◌}
 use Rattle.paint.specs.Segments.{right_pair}
 use Rattle.paint.proofs.words.premultiplied_right.Goals as goal
 

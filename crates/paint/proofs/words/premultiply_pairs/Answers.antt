@@ -1,11 +1,8 @@
 -- `words::premultiply_pairs` meets its contract: the pairs before i are written.
-use Rattle.std.proofs.Common.{◌≡◌, ℕ, ◌-◌, ◌≤◌, List, length, get_or, sym, refl, ap, ◌∙◌, ap₂, arith, length-set, rules}
-use Rattle.lists.specs.Lists.{tab, over}
+use Rattle.std.proofs.Common.{◌≡◌, ℕ, length, sym, refl, ap, ◌∙◌, ap₂, arith, length-set, rules}
 use Rattle.lists.proofs.Laws.{tab_turn, tab_all, tab_read}
-use Rattle.color.specs.declared.Pixel.{Pixel}
 use Rattle.color.specs.Channels.{premultiplied}
 use Rattle.paint.specs.Segments.{left_pair, right_pair, of_pairs}
-use Rattle.paint.proofs.words.premultiply_pairs.Invariants.{pixel}
 use Rattle.paint.proofs.words.premultiply_pairs.Goals as goal
 
 pub premultiplied_left-requires : goal.premultiplied_left-requires

@@ -1,7 +1,6 @@
 -- `words::premultiply_pairs` meets its contract: the pairs before i are written.
-use Rattle.std.proofs.Common.{◌≡◌, ℕ, ◌-◌, ◌≤◌, List, length, get_or, sym, refl, ap, ◌∙◌, ap₂, arith, length-set, rules}
+use Rattle.std.proofs.Common.{◌≡◌, ℕ, ◌-◌, ◌≤◌, List, length, get_or}
 use Rattle.lists.specs.Lists.{tab, over}
-use Rattle.lists.proofs.Laws.{tab_turn, tab_all, tab_read}
 use Rattle.color.specs.declared.Pixel.{Pixel}
 use Rattle.color.specs.Channels.{premultiplied}
 use Rattle.paint.specs.Segments.{left_pair, right_pair, of_pairs}

@@ -1,8 +1,7 @@
 -- `words::premultiply_words` meets its contract: the colours before i are premultiplied.
-use Rattle.std.proofs.Common.{ℕ, ◌-◌, ◌≤◌, length, get_or, ap, ◌∙◌, arith, rules}
+use Rattle.std.proofs.Common.{ℕ, ap, ◌∙◌, arith}
 use Rattle.color.specs.Channels.{premultiplied}
 use Rattle.paint.specs.Buffers.{unpacked}
-use Rattle.paint.specs.Segments.{Begun}
 use Rattle.paint.proofs.Begins.{begun_none, begun_turn, begun_all}
 use Rattle.paint.proofs.words.premultiply_words.Goals as goal
 

@@ -1,9 +1,8 @@
 -- `words::premultiply_words` meets its contract: the colours before i are premultiplied.
-use Rattle.std.proofs.Common.{ℕ, ◌-◌, ◌≤◌, length, get_or, ap, ◌∙◌, arith, rules}
+use Rattle.std.proofs.Common.{◌-◌, ◌≤◌, length, get_or}
 use Rattle.color.specs.Channels.{premultiplied}
 use Rattle.paint.specs.Buffers.{unpacked}
 use Rattle.paint.specs.Segments.{Begun}
-use Rattle.paint.proofs.Begins.{begun_none, begun_turn, begun_all}
 use Rattle.paint.proofs.words.premultiply_words.Given as goal
 
 -- `words::premultiply_words` meets its contract: the colours before i are premultiplied.

@@ -1,7 +1,6 @@
 -- `words::put_words` meets its contract: the pixels before i are stored.
-use Rattle.std.proofs.Common.{◌-◌, ◌≤◌, length, get_or, arith, rules}
+use Rattle.std.proofs.Common.{◌-◌, ◌≤◌, length, get_or}
 use Rattle.raster.specs.Rows.{Stored}
-use Rattle.raster.proofs.Runs.{stored_none, stored_turn, stored_all}
 use Rattle.paint.specs.Buffers.{unpacked}
 use Rattle.paint.proofs.words.put_words.Given as goal
 

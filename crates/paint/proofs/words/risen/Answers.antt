@@ -1,5 +1,5 @@
 -- `words::risen` meets its contract.
-use Rattle.std.proofs.Common.{◌-◌, ◌*◌, ◌≤◌, arith, rules}
+use Rattle.std.proofs.Common.{◌-◌, ◌*◌, ◌≤◌, arith}
 use Rattle.paint.proofs.Pairs.{rising_is, part_small}
 use Rattle.paint.proofs.words.risen.Goals as goal
 

@@ -1,6 +1,5 @@
 -- `words::take_ts` meets its contract: the first i t's are written.
-use Rattle.std.proofs.Common.{◌≡◌, ◌-◌, ◌≤◌, min, length, get_or, sym, ◌∙◌, arith, length-set, rules}
-use Rattle.lists.specs.Lists.{tab, over}
+use Rattle.std.proofs.Common.{length, sym, ◌∙◌, arith, length-set, rules}
 use Rattle.lists.proofs.Laws.{tab_turn, tab_all}
 use Rattle.paint.proofs.words.take_ts.Goals as goal
 

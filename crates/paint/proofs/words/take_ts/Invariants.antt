@@ -1,7 +1,6 @@
 -- `words::take_ts` meets its contract: the first i t's are written.
-use Rattle.std.proofs.Common.{◌≡◌, ◌-◌, ◌≤◌, min, length, get_or, sym, ◌∙◌, arith, length-set, rules}
+use Rattle.std.proofs.Common.{◌≡◌, ◌-◌, ◌≤◌, min, length, get_or}
 use Rattle.lists.specs.Lists.{tab, over}
-use Rattle.lists.proofs.Laws.{tab_turn, tab_all}
 use Rattle.paint.proofs.words.take_ts.Given as goal
 
 -- `words::take_ts` meets its contract: the first i t's are written.
