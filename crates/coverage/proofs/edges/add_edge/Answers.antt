@@ -59,4 +59,4 @@ returns-then-is_beyond c =
 
 pub add_rows-requires : goal.add_rows-requires
 add_rows-requires c =
-    record { i_lt_n = c.requires.i_lt_n; edges = (c.requires.edges, c.load-e.ensures); scratch_value = (c.requires.1.1).0; marked = (c.requires.1.1).1 }
+    record { i_lt_n = c.requires.i_lt_n; edges = (c.requires.edges, c.load-e.ensures); scratch_value = c.requires.scratch_value; marked = c.requires.marked }

@@ -34,9 +34,9 @@ returns-then-is_near c =
     let p = c.put_near.ensures in
     let both = near c.before.before.before.before.before.before.before.before.before.before.before in
     record {
-      scratch_after = p.0;
-      cover_after = p.1;
+      scratch_after = p.scratch_after;
+      cover_after = p.cover_after;
       grouped = four_grouped a.cover.now a.groups.now a.s.at a.u.at a.v.at a.t.at c.first_pixel-lo.result
-          c.last_pixel-hi.result c.first_pixel-lo.ensures c.last_pixel-hi.ensures p.1 c.touch.ensures
+          c.last_pixel-hi.result c.first_pixel-lo.ensures c.last_pixel-hi.ensures p.cover_after c.touch.ensures
           both.0 both.1 c.requires.cover_in_bounds.1;
     }

@@ -16,7 +16,7 @@ use Rattle.coverage.proofs.scissors.span.Lts as lts
 use Rattle.coverage.proofs.scissors.span.Reads as reads
 
 -- what the test of the row tells
-row-held : (c : lts.After-in_span tie.the-claims reads.Pre reads.Post tie.handed_clauses)
+row-held : (c : lts.After-in_span tie.the-claims reads.Pre reads.Post)
     → c.in_span.result
     ≡ in_span (run_of (i32_at c.args.scissors.now (16 * c.args.r + 4)) (i32_at c.args.scissors.now (16 * c.args.r + 12)))
     c.args.y

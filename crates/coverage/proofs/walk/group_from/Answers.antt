@@ -12,7 +12,7 @@ use Rattle.coverage.proofs.walk.group_from.Lts as lts
 use Rattle.coverage.proofs.walk.group_from.Reads as reads
 
 -- blank up to where the marks of group h begin
-begin : (c : lts.After-least tie.the-claims reads.Pre reads.Post goal.the-invariant-loop-h goal.the-decreases-loop-h tie.handed_clauses)
+begin : (c : lts.After-least tie.the-claims reads.Pre reads.Post goal.the-invariant-loop-h goal.the-decreases-loop-h)
     → let a = c.args in
     let m = a.marks.now in
     Blank m (min (a.g * 64) (length m)) (min (c.loop-h.h * 64 + (64 - c.least-back.result)) (length m))
