@@ -120,7 +120,7 @@ push_each-m-requires c =
     let o = order c.before.before.before.before in
     let p = c.requires in
     let push = c.push-n.ensures in
-    record { runs = (push.0.0, o.0, omega (arith, o.1, o.2, o.3, p.2, push.0.1), omega (arith, o.1, o.2, o.3, p.1)); n_value = one c }
+    record { runs = (push.runs_2.0, o.0, omega (arith, o.1, o.2, o.3, p.2, push.runs_2.1), omega (arith, o.1, o.2, o.3, p.1)); n_value = one c }
 
 pub push-q-requires : goal.push-q-requires
 push-q-requires c =

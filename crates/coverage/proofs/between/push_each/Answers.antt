@@ -13,7 +13,7 @@ use Rattle.coverage.proofs.between.push_each.Goals as goal
 
 pub loop-i-init : goal.loop-i-init
 loop-i-init c =
-    let p = c.requires in (omega arith, p.0.1, refl, p.0.0, p.1)
+    let p = c.requires in (omega arith, p.runs.1, refl, p.runs.0, p.n_value)
 
 pub level-requires : goal.level-requires
 level-requires c =
