@@ -10,7 +10,6 @@ use mir.Syntax.{w32}
 use mir.Val.{to_z, of_z, SFits}
 use Rattle.coverage.specs.Winding.{sample}
 use Rattle.coverage.proofs.Locals.{first_held, last_held}
-use borrow.Author.Rules.{rules}
 use Rattle.coverage.proofs.band.needed.Goals.{Start}
 use Rattle.coverage.proofs.band.needed.Goals as goal
 

@@ -13,7 +13,6 @@ use Rattle.coverage.specs.Scanline.{rise_of, columns_of}
 use Rattle.coverage.proofs.Begin.{clean}
 use Rattle.coverage.proofs.Steep.{rise_asks, small_turned, passes_up, passes_down}
 use Rattle.coverage.proofs.Paired.{begins_crosses}
-use borrow.Author.Rules.{rules}
 use Rattle.coverage.proofs.between.cross.Goals.{Start}
 use Rattle.coverage.proofs.between.cross.Goals as goal
 

@@ -10,7 +10,6 @@ use Rattle.runs.specs.Runs.{expand}
 use Rattle.runs.proofs.Expand.{tab_run}
 use Rattle.coverage.specs.Between.{level_at}
 use Rattle.coverage.proofs.Paired.{first_within, ends_rise, end_within, level_before, level_between, level_behind}
-use borrow.Author.Rules.{rules}
 use Rattle.coverage.proofs.between.fill_between.Goals as goal
 use Rattle.coverage.proofs.between.fill_between.Tie as tie
 use Rattle.coverage.proofs.between.fill_between.Lts as lts

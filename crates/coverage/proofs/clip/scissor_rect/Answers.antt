@@ -8,7 +8,7 @@ use Rattle.fixed.specs.Little.{i32_at}
 use Rattle.fixed.proofs.Signed.{back}
 use Rattle.coverage.specs.Scanline.{run_of}
 use Rattle.coverage.specs.Clips.{scissor_rect}
-use borrow.Author.Rules.{rules, sfits_of}
+use borrow.Author.Rules.{sfits_of}
 use Rattle.coverage.proofs.clip.scissor_rect.Goals as goal
 use Rattle.coverage.proofs.clip.scissor_rect.Tie as tie
 use Rattle.coverage.proofs.clip.scissor_rect.Lts as lts

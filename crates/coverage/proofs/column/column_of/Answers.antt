@@ -6,7 +6,6 @@ use lib.IntN.{ℤ, nat_abs}
 use mir.Syntax.{w64}
 use Rattle.fixed.proofs.Means.{Num, need, keep, small, lit, of_nat, sub, mul}
 use Rattle.coverage.specs.Scanline.{ceil_div, place}
-use borrow.Author.Rules.{rules}
 use Rattle.coverage.proofs.column.column_of.Goals.{Start}
 use Rattle.coverage.proofs.column.column_of.Goals as goal
 

@@ -1,7 +1,6 @@
 -- `coverage::column::start` meets its contract. Assumes nothing.
 use mathlib.Core.Path.{◌≡◌, sym, ap, subst, ◌∙◌}
 use Prim.Native.Nat.{ℕ}
-use borrow.Author.Rules.{rules}
 use lib.Dec.{T}
 use lib.IntN.{pos, negsuc}
 use Rattle.coverage.specs.Winding.{spans_up, turned}

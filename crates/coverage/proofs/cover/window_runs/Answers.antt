@@ -14,7 +14,6 @@ use Rattle.coverage.specs.Scanline.{at, laid, zeros, pixel_of, Marked, Tame}
 use Rattle.coverage.proofs.Groups.{none_grouped}
 use Rattle.coverage.proofs.Zeros.{clear_laid}
 use Rattle.coverage.proofs.Window.{sums_of, sums_long, sums_marked, sums_tame, window_covers, part_is, given_back}
-use borrow.Author.Rules.{rules}
 use Rattle.coverage.proofs.cover.window_runs.Goals.{After-add_listed}
 use Rattle.coverage.proofs.cover.window_runs.Goals as goal
 

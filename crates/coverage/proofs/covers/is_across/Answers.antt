@@ -9,7 +9,6 @@ use mir.Val.{to_z, of_z}
 use mir.Facts.{to_z-of_z}
 use Rattle.coverage.specs.Winding.{sample}
 use Rattle.coverage.proofs.Locals.{first_held, last_held}
-use borrow.Author.Rules.{rules}
 use Rattle.coverage.proofs.covers.is_across.Goals.{Start}
 use Rattle.coverage.proofs.covers.is_across.Goals as goal
 

@@ -10,7 +10,6 @@ use mir.Facts.{to_z-of_z}
 use Rattle.coverage.specs.Winding.{sample}
 use Rattle.coverage.specs.Covers.{across}
 use Rattle.coverage.proofs.Locals.{first_held}
-use borrow.Author.Rules.{rules}
 use Rattle.coverage.proofs.covers.is_alongside.Goals.{Start}
 use Rattle.coverage.proofs.covers.is_alongside.Goals as goal
 use Rattle.coverage.proofs.covers.is_alongside.Tie as tie

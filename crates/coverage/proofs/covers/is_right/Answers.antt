@@ -8,7 +8,6 @@ use lib.Signed.{le_z}
 use mir.Syntax.{w32}
 use mir.Val.{to_z, of_z}
 use mir.Facts.{to_z-of_z, to_z_pos}
-use borrow.Author.Rules.{rules}
 use Rattle.coverage.proofs.covers.is_right.Goals.{Start}
 use Rattle.coverage.proofs.covers.is_right.Goals as goal
 

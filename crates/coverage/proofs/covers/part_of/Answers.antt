@@ -8,7 +8,6 @@ use mir.Facts.{to_z-of_z}
 use Rattle.coverage.specs.Scanline.{edge, beyond}
 use Rattle.coverage.specs.Band.{apart}
 use Rattle.coverage.specs.Covers.{alongside, part_of}
-use borrow.Author.Rules.{rules}
 use Rattle.coverage.proofs.covers.part_of.Goals as goal
 use Rattle.coverage.proofs.covers.part_of.Tie as tie
 use Rattle.coverage.proofs.covers.part_of.Lts as lts

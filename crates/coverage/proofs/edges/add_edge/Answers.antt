@@ -11,7 +11,6 @@ use Rattle.path.specs.Stored.{edge_at}
 use Rattle.coverage.specs.Scanline.{missed, beyond}
 use Rattle.coverage.proofs.Begin.{clean}
 use Rattle.coverage.proofs.Turn.{miss_sums, miss_marks, beyond_sums, beyond_marks}
-use borrow.Author.Rules.{rules}
 use Rattle.coverage.proofs.edges.add_edge.Goals as goal
 use Rattle.coverage.proofs.edges.add_edge.Tie as tie
 use Rattle.coverage.proofs.edges.add_edge.Lts as lts

@@ -20,7 +20,6 @@ use Rattle.coverage.proofs.Begin.{clean}
 use Rattle.coverage.proofs.Starts.{by_small}
 use Rattle.coverage.proofs.Steep.{Begins, columns_straight, rise_asks, small_turned, passes_up, passes_down}
 use Rattle.coverage.proofs.Turn.{Added, added_none, added_low, added_rows, added_all}
-use borrow.Author.Rules.{rules}
 use Rattle.coverage.proofs.edges.add_rows.Goals as goal
 use Rattle.coverage.proofs.edges.add_rows.Tie as tie
 use Rattle.coverage.proofs.edges.add_rows.Lts as lts

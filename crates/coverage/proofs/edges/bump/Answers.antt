@@ -5,7 +5,6 @@ use lib.ListN.{get_or, set}
 use mir.Syntax.{w32}
 use Rattle.fixed.proofs.Means.{Num, need, keep, add}
 use Rattle.coverage.proofs.Begin.{sized}
-use borrow.Author.Rules.{rules}
 use Rattle.coverage.proofs.edges.bump.Goals.{Start}
 use Rattle.coverage.proofs.edges.bump.Goals as goal
 

@@ -10,7 +10,6 @@ use mir.Syntax.{w32}
 use mir.Val.{to_z, of_z}
 use Rattle.coverage.specs.Scanline.{bumped, bumped_four, Low}
 use Rattle.coverage.proofs.Begin.{clean}
-use borrow.Author.Rules.{rules}
 use Rattle.coverage.proofs.edges.bump_four.Goals.{Start}
 use Rattle.coverage.proofs.edges.bump_four.Goals as goal
 

@@ -9,7 +9,6 @@ use mir.Syntax.{w32}
 use mir.Val.{to_z, of_z}
 use mir.Facts.{to_z-of_z, to_z_pos}
 use Rattle.coverage.specs.Winding.{sample}
-use borrow.Author.Rules.{rules}
 use Rattle.coverage.proofs.edges.misses.Goals.{Start}
 use Rattle.coverage.proofs.edges.misses.Goals as goal
 

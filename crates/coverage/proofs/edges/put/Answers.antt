@@ -8,7 +8,6 @@ use lib.Seq.{set_out}
 use borrow.Author.Tests.{le-ltb}
 use Rattle.coverage.specs.Scanline.{bumped, put_row}
 use Rattle.coverage.proofs.Groups.{one_grouped}
-use borrow.Author.Rules.{rules}
 use Rattle.coverage.proofs.edges.put.Goals as goal
 
 pub returns-then-cover-p : goal.returns-then-cover-p

@@ -13,7 +13,6 @@ use Rattle.coverage.proofs.Begin.{clean}
 use Rattle.coverage.proofs.Groups.{near_both, four_grouped}
 use Rattle.coverage.proofs.Rows.{as_rows, as_marks, fit_four}
 use Rattle.coverage.proofs.Steep.{straight_one, straight_ends}
-use borrow.Author.Rules.{rules}
 use Rattle.coverage.proofs.edges.put_columns.Goals as goal
 use Rattle.coverage.proofs.edges.put_columns.Tie as tie
 use Rattle.coverage.proofs.edges.put_columns.Lts as lts

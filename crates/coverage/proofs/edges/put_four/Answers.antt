@@ -8,7 +8,6 @@ use lib.Seq.{set_out}
 use borrow.Author.Tests.{lt-ltb, le-ltb}
 use Rattle.coverage.specs.Scanline.{bumped_four}
 use Rattle.coverage.proofs.Begin.{clean}
-use borrow.Author.Rules.{rules}
 use Rattle.coverage.proofs.edges.put_four.Goals as goal
 
 pub returns-then-cover-p : goal.returns-then-cover-p

@@ -4,7 +4,6 @@ use Prim.Native.Nat.{◌/◌, ◌<◌}
 use native.Mathlib.Omega.{arith}
 use lib.ListN.{length}
 use Rattle.coverage.proofs.Groups.{near_both, four_grouped}
-use borrow.Author.Rules.{rules}
 use Rattle.coverage.proofs.edges.put_rows.Goals as goal
 use Rattle.coverage.proofs.edges.put_rows.Tie as tie
 use Rattle.coverage.proofs.edges.put_rows.Lts as lts

@@ -7,7 +7,6 @@ use Rattle.coverage.specs.declared.Windings.{Windings}
 use Rattle.coverage.specs.Scanline.{at, LowFour, Sized, last_of, column_from}
 use Rattle.coverage.proofs.Cells.{column_sized, columns_cell}
 use Rattle.coverage.proofs.Zeros.{part_zeroed}
-use borrow.Author.Rules.{rules}
 use Rattle.coverage.proofs.samples.take_cell.Goals.{Start}
 use Rattle.coverage.proofs.samples.take_cell.Goals as goal
 

@@ -4,7 +4,6 @@ use mir.Syntax.{w32}
 use Rattle.fixed.proofs.Means.{Num, need, keep, add}
 use Rattle.coverage.specs.Scanline.{at, column_from}
 use Rattle.coverage.proofs.Begin.{sized}
-use borrow.Author.Rules.{rules}
 use Rattle.coverage.proofs.samples.take_column.Goals.{Start}
 use Rattle.coverage.proofs.samples.take_column.Goals as goal
 

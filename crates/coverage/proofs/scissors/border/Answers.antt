@@ -8,7 +8,7 @@ use mir.Syntax.{w64}
 use mir.Val.{SFits}
 use mir.Facts.{to_z-of_z}
 use Rattle.coverage.proofs.Borders.{lt_column, all_left, all_inside, all_right}
-use borrow.Author.Rules.{rules, sfits_of}
+use borrow.Author.Rules.{sfits_of}
 use Rattle.coverage.proofs.scissors.border.Goals as goal
 
 pub nearer-requires : goal.nearer-requires

@@ -8,7 +8,6 @@ use mir.Syntax.{w64}
 use mir.Val.{to_z, of_z}
 use mir.Facts.{to_z-of_z}
 use Rattle.coverage.proofs.Borders.{column_lt, is_nearer, not_nearer, column_fits}
-use borrow.Author.Rules.{rules}
 use Rattle.coverage.proofs.scissors.nearer.Goals.{Start}
 use Rattle.coverage.proofs.scissors.nearer.Goals as goal
 

@@ -1,7 +1,6 @@
 -- `coverage::scissors::nearest_border` meets its contract. Assumes nothing.
 use native.Mathlib.Omega.{arith}
 use Rattle.coverage.proofs.Rectangles.{four}
-use borrow.Author.Rules.{rules}
 use Rattle.coverage.proofs.scissors.nearest_border.Goals as goal
 
 pub returns : goal.returns

@@ -4,13 +4,12 @@ use mathlib.Core.Bool.{Bool, ◌||◌}
 use Prim.Native.Nat.{ℕ, ◌+◌, ◌-◌, ◌≤◌, ◌<◌}
 use native.Mathlib.Omega.{arith}
 use lib.ListN.{length}
-use Rattle.lists.specs.Lists.{tab, over}
+use Rattle.lists.specs.Lists.{tab}
 use Rattle.lists.proofs.Laws.{tab_all, tab_length, over_length}
 use Rattle.coverage.specs.Scissors.{in_scissors}
 use Rattle.coverage.specs.Scanline.{in_span}
 use Rattle.coverage.proofs.Rectangles.{spans_are, four_same}
 use Rattle.coverage.proofs.Borders.{pixel, stretch_cut}
-use borrow.Author.Rules.{rules}
 use Rattle.coverage.proofs.scissors.scissor_row.Goals as goal
 use Rattle.coverage.proofs.scissors.scissor_row.Tie as tie
 use Rattle.coverage.proofs.scissors.scissor_row.Lts as lts

@@ -9,7 +9,6 @@ use Rattle.fixed.proofs.Signed.{back}
 use Rattle.coverage.specs.declared.Span.{Span}
 use Rattle.coverage.specs.Scanline.{in_span, run_of}
 use Rattle.coverage.proofs.Rectangles.{span_past, span_of_lem}
-use borrow.Author.Rules.{rules}
 use Rattle.coverage.proofs.scissors.span.Goals as goal
 use Rattle.coverage.proofs.scissors.span.Tie as tie
 use Rattle.coverage.proofs.scissors.span.Lts as lts

@@ -1,11 +1,10 @@
 -- `coverage::walk::group_from` meets its contract. Assumes nothing.
 use mathlib.Core.Path.{◌≡◌, sym, subst}
-use Prim.Native.Nat.{ℕ, ◌+◌, ◌-◌, ◌*◌, ◌≤◌, min}
+use Prim.Native.Nat.{ℕ, ◌+◌, ◌-◌, ◌*◌, min}
 use native.Mathlib.Omega.{arith}
 use lib.ListN.{length}
 use Rattle.coverage.specs.Marks.{Blank}
 use Rattle.coverage.proofs.Groups.{blank_none, blank_more, blank_begin}
-use borrow.Author.Rules.{rules}
 use Rattle.coverage.proofs.walk.group_from.Goals as goal
 use Rattle.coverage.proofs.walk.group_from.Tie as tie
 use Rattle.coverage.proofs.walk.group_from.Lts as lts

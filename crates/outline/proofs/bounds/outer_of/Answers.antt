@@ -8,7 +8,6 @@ use mir.Facts.{to_z-of_z}
 use Rattle.path.specs.Boxes.{outer}
 use Rattle.fixed.proofs.Signed.{le_back}
 use Rattle.outline.proofs.bounds.outer_of.Goals as goal
-use Rattle.outline.proofs.bounds.outer_of.Tie as tie
 use Rattle.outline.proofs.bounds.outer_of.Lts as lts
 use Rattle.outline.proofs.bounds.outer_of.Reads as reads
 

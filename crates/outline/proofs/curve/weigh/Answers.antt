@@ -3,7 +3,6 @@ use Prim.Native.Nat.{ℕ, ◌≤◌}
 use lib.IntN.{ℤ}
 use mir.Syntax.{w32, w64}
 use mir.Val.{SFits}
-use borrow.Author.Rules.{rules}
 use Rattle.fixed.proofs.Means.{Num, need, keep, param, of_nat, add, mul}
 use Rattle.outline.proofs.curve.weigh.Goals.{Start}
 use Rattle.outline.proofs.curve.weigh.Goals as goal

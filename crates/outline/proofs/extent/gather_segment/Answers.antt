@@ -2,7 +2,6 @@
 use Prim.Native.Nat.{◌≤◌}
 use native.Mathlib.Omega.{arith}
 use lib.ListN.{length}
-use borrow.Author.Rules.{rules}
 use Rattle.path.specs.Matrices.{transform}
 use Rattle.path.specs.Segments.{drawn_by}
 use Rattle.path.specs.Curves.{transform_curve, drawn_edges}

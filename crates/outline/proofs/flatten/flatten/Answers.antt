@@ -1,15 +1,13 @@
 -- `outline::flatten::flatten` meets its contract: the edges so far are those of the segments passed.
 use mathlib.Core.Path.{◌≡◌, sym, subst, ◌∙◌}
-use Prim.Native.Nat.{◌+◌, ◌-◌, ◌≤◌}
 use native.Mathlib.Nat.{zero-add}
 use native.Mathlib.Omega.{arith}
 use lib.ListN.{length, get_or}
 use borrow.Author.Rules.{rules}
 use Rattle.path.specs.declared.Walk.{Walk}
 use Rattle.path.specs.declared.Curve.{Curve}
-use Rattle.path.specs.Segments.{line_to, drawn_by, walk_to}
+use Rattle.path.specs.Segments.{line_to, drawn_by}
 use Rattle.path.specs.Curves.{drawn_edges, edges_to, path_edges}
-use Rattle.path.specs.Stored.{put_edges}
 use Rattle.path.specs.Limits.{Supplied}
 use Rattle.outline.specs.Asked.{PenPlaced, CurvePlaced}
 use Rattle.outline.proofs.Counts.{edges_count}

@@ -1,5 +1,4 @@
 -- `outline::flatten::store_closing` meets its contract.
-use borrow.Author.Rules.{rules}
 use Rattle.outline.proofs.Stores.{puts_same}
 use Rattle.outline.proofs.Walked.{closing_edge}
 use Rattle.outline.proofs.flatten.store_closing.Goals as goal

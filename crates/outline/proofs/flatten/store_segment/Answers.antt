@@ -1,7 +1,6 @@
 -- `outline::flatten::store_segment` meets its contract.
 use mathlib.Core.Path.{sym, subst, ◌∙◌}
 use native.Mathlib.Omega.{arith}
-use borrow.Author.Rules.{rules}
 use Rattle.path.specs.declared.Point.{Point}
 use Rattle.outline.specs.Asked.{OnGrid}
 use Rattle.outline.proofs.Sizes.{placed_grid}

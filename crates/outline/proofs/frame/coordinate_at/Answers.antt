@@ -1,6 +1,6 @@
 -- `outline::frame::coordinate_at` meets its contract.
 use mathlib.Core.Path.{◌∙◌}
-use borrow.Author.Rules.{rules, sfits_of}
+use borrow.Author.Rules.{sfits_of}
 use mir.Syntax.{w16, w32}
 use Rattle.fixed.proofs.Means.{Num, need, keep, param}
 use Rattle.outline.proofs.frame.coordinate_at.Goals as goal

@@ -7,7 +7,6 @@ use mir.Val.{to_z, of_z}
 use mir.Facts.{to_z-of_z}
 use Rattle.fixed.proofs.Signed.{le_back}
 use Rattle.outline.proofs.store.same.Goals as goal
-use Rattle.outline.proofs.store.same.Tie as tie
 use Rattle.outline.proofs.store.same.Lts as lts
 use Rattle.outline.proofs.store.same.Reads as reads
 
