@@ -1,6 +1,6 @@
 -- The rectangle round the scissors: outside it they leave no pixel open.
-use mathlib.Core.Path.{◌≡◌, refl}
-use mathlib.Core.Bool.{Bool, true, false, not, cond, ◌&&◌, ◌||◌, false≢true}
+use mathlib.Core.Path.{◌≡◌}
+use mathlib.Core.Bool.{true, false≢true}
 use mathlib.Core.List.{List}
 use Prim.Native.Nat.{ℕ, zero, suc, ◌+◌, ◌*◌, ◌≤◌, ◌<◌}
 use native.Mathlib.Omega.{arith}
@@ -12,7 +12,7 @@ use Rattle.fixed.specs.Little.{i32_at}
 use Rattle.rect.specs.Rects.{Inside}
 use Rattle.rect.proofs.Laws.{both, either, not_true_is, join_left, join_right}
 use Rattle.path.specs.Boxes.{within}
-use Rattle.coverage.specs.Scissors.{spans_pixel, in_scissor, in_scissors, scissored}
+use Rattle.coverage.specs.Scissors.{in_scissor, in_scissors, scissored}
 use Rattle.coverage.specs.Clips.{scissor_rect, scissor_box}
 
 from_within : (z : ℤ) (x : ℕ) → le_z z (pos x) ≡ true → within 1024 z ≤ x

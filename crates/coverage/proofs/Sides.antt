@@ -1,6 +1,6 @@
 -- An edge that lies on one side of a sample, and a path all of whose edges do.
 use mathlib.Core.Path.{◌≡◌, refl, sym, ap, ap₂, subst, ◌∙◌}
-use mathlib.Core.List.{List, [], ◌∷◌}
+use mathlib.Core.List.{List}
 use mathlib.Core.Bool.{Bool, true, false, cond}
 use Prim.Native.Nat.{◌*◌}
 use native.Mathlib.Nat.{mul-pos}

@@ -10,21 +10,21 @@ use mir.Syntax.{w32}
 use mir.Val.{to_z, of_z, SFits}
 use Rattle.coverage.specs.Winding.{sample}
 use Rattle.coverage.proofs.Locals.{first_held, last_held}
-use borrow.Author.Rules.{rules}
+use Rattle.coverage.proofs.band.needed.Goals.{Start}
 use Rattle.coverage.proofs.band.needed.Goals as goal
 
 -- the first and the last row of samples, as the locals hold them
-first : (s : goal.Start) → to_z w32 (256 * s.args.from + 32) ≡ sample (4 * s.args.from)
+first : (s : Start) → to_z w32 (256 * s.args.from + 32) ≡ sample (4 * s.args.from)
 first s = first_held s.args.from (omega arith)
 
-last : (s : goal.Start) → to_z w32 (256 * s.args.end - 32) ≡ sample (4 * s.args.end - 1)
+last : (s : Start) → to_z w32 (256 * s.args.end - 32) ≡ sample (4 * s.args.end - 1)
 last s = last_held s.args.end (omega arith) (omega arith)
 
-low : (s : goal.Start) (z : ℤ) {t : Bool} → SFits w32 z
+low : (s : Start) (z : ℤ) {t : Bool} → SFits w32 z
     → le_z (to_z w32 (of_z w32 z)) (to_z w32 (256 * s.args.from + 32)) ≡ t → le_z z (sample (4 * s.args.from)) ≡ t
 low s z f e = rw (to_z-of_z f, first s) at e
 
-high : (s : goal.Start) (z : ℤ) {t : Bool} → SFits w32 z
+high : (s : Start) (z : ℤ) {t : Bool} → SFits w32 z
     → lt_z (to_z w32 (256 * s.args.end - 32)) (to_z w32 (of_z w32 z)) ≡ t → lt_z (sample (4 * s.args.end - 1)) z ≡ t
 high s z f e = rw (to_z-of_z f, last s) at e
 

@@ -13,17 +13,17 @@ use Rattle.coverage.specs.Scanline.{rise_of, columns_of}
 use Rattle.coverage.proofs.Begin.{clean}
 use Rattle.coverage.proofs.Steep.{rise_asks, small_turned, passes_up, passes_down}
 use Rattle.coverage.proofs.Paired.{begins_crosses}
-use borrow.Author.Rules.{rules}
+use Rattle.coverage.proofs.between.cross.Goals.{Start}
 use Rattle.coverage.proofs.between.cross.Goals as goal
 
 -- the first and the last sample row, as they are handed on
-first : (s : goal.Start) → to_z w32 (256 * s.args.y + 32) ≡ sample (4 * s.args.y + 0)
+first : (s : Start) → to_z w32 (256 * s.args.y + 32) ≡ sample (4 * s.args.y + 0)
 first s = to_z_pos w32 (omega (arith, s.requires.1)) ∙ ap pos (as_sample s.args.y)
   where
     as_sample : (y : ℕ) → 256 * y + 32 ≡ 64 * (4 * y + 0) + 32
     as_sample y = omega arith
 
-last : (s : goal.Start) → to_z w32 (256 * s.args.y + 224) ≡ sample (4 * s.args.y + 3)
+last : (s : Start) → to_z w32 (256 * s.args.y + 224) ≡ sample (4 * s.args.y + 3)
 last s = to_z_pos w32 (omega (arith, s.requires.1)) ∙ ap pos (as_sample s.args.y)
   where
     as_sample : (y : ℕ) → 256 * y + 224 ≡ 64 * (4 * y + 3) + 32
@@ -50,11 +50,11 @@ pub rise-requires : goal.rise-requires
 rise-requires c =
     let e = c.args.e in
     let p = c.requires.0 in
+    let asks = rise_asks c.args.y e (sym (up c) ∙ c.if-passes.true) p c.requires.1 in
     record {
-      y0_lt_y1 = (rw (clean e.x0 p.x0, clean e.y0 p.y0, clean e.x1 p.x1, clean e.y1 p.y1, first c.before.before.before.before.before.before)
-          (rise_asks c.args.y e (sym (up c) ∙ c.if-passes.true) p c.requires.1)).0;
-      x0_bound = (rw (clean e.x0 p.x0, clean e.y0 p.y0, clean e.x1 p.x1, clean e.y1 p.y1, first c.before.before.before.before.before.before)
-          (rise_asks c.args.y e (sym (up c) ∙ c.if-passes.true) p c.requires.1)).1;
+      y0_lt_y1 = rw (clean e.y0 p.y0, clean e.y1 p.y1) asks.0;
+      x0_bound = rw (clean e.x0 p.x0, clean e.y0 p.y0, clean e.x1 p.x1, clean e.y1 p.y1, first c.before.before.before.before.before.before)
+          asks.1;
     }
 
 pub columns-requires : goal.columns-requires
@@ -78,11 +78,11 @@ pub rise-requires-then-passes-2 : goal.rise-requires-then-passes-2
 rise-requires-then-passes-2 c =
     let e = c.args.e in
     let p = c.requires.0 in
+    let asks = rise_asks c.args.y (turned e) (sym (down c) ∙ c.if-passes-2.true) (small_turned e p) c.requires.1 in
     record {
-      y0_lt_y1 = (rw (clean e.x0 p.x0, clean e.y0 p.y0, clean e.x1 p.x1, clean e.y1 p.y1, first c.before.before.before.before.before.before.before.before)
-          (rise_asks c.args.y (turned e) (sym (down c) ∙ c.if-passes-2.true) (small_turned e p) c.requires.1)).0;
-      x0_bound = (rw (clean e.x0 p.x0, clean e.y0 p.y0, clean e.x1 p.x1, clean e.y1 p.y1, first c.before.before.before.before.before.before.before.before)
-          (rise_asks c.args.y (turned e) (sym (down c) ∙ c.if-passes-2.true) (small_turned e p) c.requires.1)).1;
+      y0_lt_y1 = rw (clean e.y0 p.y0, clean e.y1 p.y1) asks.0;
+      x0_bound = rw (clean e.x0 p.x0, clean e.y0 p.y0, clean e.x1 p.x1, clean e.y1 p.y1, first c.before.before.before.before.before.before.before.before)
+          asks.1;
     }
 
 pub columns-requires-then-passes-2 : goal.columns-requires-then-passes-2

@@ -10,7 +10,6 @@ use Rattle.runs.specs.Runs.{expand}
 use Rattle.runs.proofs.Expand.{tab_run}
 use Rattle.coverage.specs.Between.{level_at}
 use Rattle.coverage.proofs.Paired.{first_within, ends_rise, end_within, level_before, level_between, level_behind}
-use borrow.Author.Rules.{rules}
 use Rattle.coverage.proofs.between.fill_between.Goals as goal
 use Rattle.coverage.proofs.between.fill_between.Tie as tie
 use Rattle.coverage.proofs.between.fill_between.Lts as lts
@@ -120,7 +119,7 @@ push_each-m-requires c =
     let o = order c.before.before.before.before in
     let p = c.requires in
     let push = c.push-n.ensures in
-    record { runs = (push.0.0, o.0, omega (arith, o.1, o.2, o.3, p.2, push.0.1), omega (arith, o.1, o.2, o.3, p.1)); n_value = one c }
+    record { runs = (push.runs_2.0, o.0, omega (arith, o.1, o.2, o.3, p.2, push.runs_2.1), omega (arith, o.1, o.2, o.3, p.1)); n_value = one c }
 
 pub push-q-requires : goal.push-q-requires
 push-q-requires c =

@@ -1,6 +1,5 @@
 -- `coverage::between::greater` meets its contract. Assumes nothing.
 use Rattle.coverage.specs.Between.{greater_of}
-use borrow.Author.Rules.{rules}
 use Rattle.coverage.proofs.between.greater.Goals as goal
 
 pub returns : goal.returns

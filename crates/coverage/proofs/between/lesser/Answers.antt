@@ -1,6 +1,5 @@
 -- `coverage::between::lesser` meets its contract. Assumes nothing.
 use Rattle.coverage.specs.Between.{lesser_of}
-use borrow.Author.Rules.{rules}
 use Rattle.coverage.proofs.between.lesser.Goals as goal
 
 pub returns : goal.returns

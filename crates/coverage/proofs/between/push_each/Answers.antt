@@ -3,17 +3,16 @@ use mathlib.Core.Path.{◌≡◌, refl, sym, ap, subst, ◌∙◌}
 use mathlib.Core.List.{List, ◌++◌}
 use Prim.Native.Nat.{ℕ, ◌+◌, ◌-◌, ◌≤◌, ◌<◌}
 use native.Mathlib.Omega.{arith}
-use lib.ListN.{length, replicate}
+use lib.ListN.{replicate}
 use Rattle.lists.specs.Lists.{tab}
-use Rattle.runs.specs.Runs.{expand, Runs}
+use Rattle.runs.specs.Runs.{Runs}
 use Rattle.runs.proofs.Expand.{tab_run}
 use Rattle.coverage.specs.Between.{level_at}
-use borrow.Author.Rules.{rules}
 use Rattle.coverage.proofs.between.push_each.Goals as goal
 
 pub loop-i-init : goal.loop-i-init
 loop-i-init c =
-    let p = c.requires in (omega arith, p.0.1, refl, p.0.0, p.1)
+    let p = c.requires in (omega arith, p.runs.1, refl, p.runs.0, p.n_value)
 
 pub level-requires : goal.level-requires
 level-requires c =

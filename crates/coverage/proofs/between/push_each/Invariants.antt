@@ -1,14 +1,10 @@
 -- `coverage::between::push_each` meets its contract. Assumes nothing.
-use mathlib.Core.Path.{◌≡◌, refl, sym, ap, subst, ◌∙◌}
-use mathlib.Core.List.{List, ◌++◌}
-use Prim.Native.Nat.{ℕ, ◌+◌, ◌-◌, ◌≤◌, ◌<◌}
-use native.Mathlib.Omega.{arith}
-use lib.ListN.{length, replicate}
+use mathlib.Core.Path.{◌≡◌}
+use Prim.Native.Nat.{◌-◌, ◌≤◌}
+use lib.ListN.{length}
 use Rattle.lists.specs.Lists.{tab}
 use Rattle.runs.specs.Runs.{expand, Runs}
-use Rattle.runs.proofs.Expand.{tab_run}
 use Rattle.coverage.specs.Between.{level_at}
-use borrow.Author.Rules.{rules}
 use Rattle.coverage.proofs.between.push_each.Given as goal
 
 -- `coverage::between::push_each` meets its contract. Assumes nothing.

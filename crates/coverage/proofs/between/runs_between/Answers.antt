@@ -12,7 +12,6 @@ use Rattle.coverage.specs.Winding.{coverage}
 use Rattle.coverage.specs.Between.{Crosses, Opposed, Ordered, lesser_of, greater_of, level_at}
 use Rattle.coverage.proofs.Laid.{tab_same}
 use Rattle.coverage.proofs.Paired.{covered_between, known, ordered, crossed_within}
-use borrow.Author.Rules.{rules}
 use Rattle.coverage.proofs.between.runs_between.Goals as goal
 use Rattle.coverage.proofs.between.runs_between.Tie as tie
 use Rattle.coverage.proofs.between.runs_between.Lts as lts

@@ -1,12 +1,7 @@
 -- `coverage::clip::scissor_box` meets its contract. Assumes nothing.
-use mathlib.Core.Path.{◌≡◌, ap, ap₂, ◌∙◌}
-use mathlib.Core.List.{List}
-use Prim.Native.Nat.{ℕ, ◌+◌, ◌-◌, ◌≤◌}
-use native.Mathlib.Omega.{arith}
-use native.Mathlib.Numerals.{add-one}
-use Rattle.rect.specs.Rects.{join_of}
-use Rattle.coverage.specs.Clips.{scissor_rect, scissor_box}
-use borrow.Author.Rules.{rules}
+use mathlib.Core.Path.{◌≡◌}
+use Prim.Native.Nat.{◌-◌, ◌≤◌}
+use Rattle.coverage.specs.Clips.{scissor_box}
 use Rattle.coverage.proofs.clip.scissor_box.Given as goal
 
 -- `coverage::clip::scissor_box` meets its contract. Assumes nothing.

@@ -8,14 +8,14 @@ use Rattle.fixed.specs.Little.{i32_at}
 use Rattle.fixed.proofs.Signed.{back}
 use Rattle.coverage.specs.Scanline.{run_of}
 use Rattle.coverage.specs.Clips.{scissor_rect}
-use borrow.Author.Rules.{rules, sfits_of}
+use borrow.Author.Rules.{sfits_of}
 use Rattle.coverage.proofs.clip.scissor_rect.Goals as goal
 use Rattle.coverage.proofs.clip.scissor_rect.Tie as tie
 use Rattle.coverage.proofs.clip.scissor_rect.Lts as lts
 use Rattle.coverage.proofs.clip.scissor_rect.Reads as reads
 
 -- the columns of the scissor, and its rows
-columns : (c : lts.After-run tie.the-claims reads.Pre reads.Post tie.handed_clauses)
+columns : (c : lts.After-run tie.the-claims reads.Pre reads.Post)
     → let a = c.args in
     c.run-columns.result ≡ run_of (i32_at a.scissors.now (16 * a.i)) (i32_at a.scissors.now (16 * a.i + 8))
 columns c =
@@ -23,7 +23,7 @@ columns c =
     let q = c.i32_at-2 in
     c.run-columns.ensures ∙ ap₂ run_of (back w32 p.result p.type_inv ∙ p.ensures) (back w32 q.result q.type_inv ∙ q.ensures)
 
-rows : (c : lts.After-run2 tie.the-claims reads.Pre reads.Post tie.handed_clauses)
+rows : (c : lts.After-run2 tie.the-claims reads.Pre reads.Post)
     → let a = c.args in
     c.run-rows.result ≡ run_of (i32_at a.scissors.now (16 * a.i + 4)) (i32_at a.scissors.now (16 * a.i + 12))
 rows c =
@@ -42,10 +42,10 @@ returns c =
     let q = c.struct_told-2-1.given in
     let a = c.run-columns.result in
     let b = c.run-rows.result in
-    let left : to_z w64 (of_z w64 a.start) ≡ a.start = to_z-of_z (sfits_of p.0.1) in
-    let right : to_z w64 (of_z w64 a.end) ≡ a.end = to_z-of_z (sfits_of p.1.0.1) in
-    let low : to_z w64 (of_z w64 b.start) ≡ b.start = to_z-of_z (sfits_of q.0.1) in
-    let high : to_z w64 (of_z w64 b.end) ≡ b.end = to_z-of_z (sfits_of q.1.0.1) in
+    let left : to_z w64 (of_z w64 a.start) ≡ a.start = to_z-of_z {w = w64} (sfits_of p.0.1) in
+    let right : to_z w64 (of_z w64 a.end) ≡ a.end = to_z-of_z {w = w64} (sfits_of p.1.0.1) in
+    let low : to_z w64 (of_z w64 b.start) ≡ b.start = to_z-of_z {w = w64} (sfits_of q.0.1) in
+    let high : to_z w64 (of_z w64 b.end) ≡ b.end = to_z-of_z {w = w64} (sfits_of q.1.0.1) in
     rw (
       x0.ensures,
       y0.ensures,

@@ -31,7 +31,10 @@ its-column u Y r q = ap (λ (z : Rise). ceil_div z.n (64 * nat_abs z.d)) q ∙ c
 pub rise-r-requires : goal.rise-r-requires
 rise-r-requires c =
     let f = c.ranges in
-    record { y0_lt_y1 = (rw (to_z-of_z f.x0, to_z-of_z f.y0, to_z-of_z f.x1, to_z-of_z f.y1, to_z-of_z f.y) (c.requires.y0_lt_y1, c.requires.x0_bound)).0; x0_bound = (rw (to_z-of_z f.x0, to_z-of_z f.y0, to_z-of_z f.x1, to_z-of_z f.y1, to_z-of_z f.y) (c.requires.y0_lt_y1, c.requires.x0_bound)).1 }
+    record {
+      y0_lt_y1 = rw (to_z-of_z f.y0, to_z-of_z f.y1) c.requires.y0_lt_y1;
+      x0_bound = rw (to_z-of_z f.x0, to_z-of_z f.y0, to_z-of_z f.x1, to_z-of_z f.y1, to_z-of_z f.y) c.requires.x0_bound;
+    }
 
 pub column_of-requires : goal.column_of-requires
 column_of-requires c =

@@ -6,25 +6,25 @@ use lib.IntN.{ℤ, nat_abs}
 use mir.Syntax.{w64}
 use Rattle.fixed.proofs.Means.{Num, need, keep, small, lit, of_nat, sub, mul}
 use Rattle.coverage.specs.Scanline.{ceil_div, place}
-use borrow.Author.Rules.{rules}
+use Rattle.coverage.proofs.column.column_of.Goals.{Start}
 use Rattle.coverage.proofs.column.column_of.Goals as goal
 
-abbrev n : goal.Start → Num
+abbrev n : Start → Num
 n c = small w64 562949953421312 c.args.n c.ranges.n (record { size = c.requires.2 })
 
-abbrev d : goal.Start → Num
+abbrev d : Start → Num
 d c = small w64 16777216 c.args.d c.ranges.d (record { size = c.requires.1 })
 
-abbrev w : goal.Start → Num
+abbrev w : Start → Num
 w c = mul (lit 64) (d c)
 
-abbrev low : goal.Start → Num
+abbrev low : Start → Num
 low c = mul (of_nat w64 c.args.c 2147483648 (omega arith) tt) (keep w64 (w c) tt)
 
-abbrev last : goal.Start → Num
+abbrev last : Start → Num
 last c = sub (of_nat w64 (c.args.c + c.args.k) 2147483648 (omega arith) tt) (lit 1)
 
-abbrev high : goal.Start → Num
+abbrev high : Start → Num
 high c = mul (keep w64 (last c) tt) (keep w64 (w c) tt)
 
 pub overflow_mul-w : goal.overflow_mul-w
@@ -45,7 +45,10 @@ overflow_mul-c-2 c =
 
 pub column_at-requires : goal.column_at-requires
 column_at-requires c =
-    record { pos_bound = (rw ((keep w64 (low c) tt).same, (keep w64 (high c) tt).same, (n c).same, (d c).same) (c.requires, (refl, refl))).0; low_value = (rw ((keep w64 (low c) tt).same, (keep w64 (high c) tt).same, (n c).same, (d c).same) (c.requires, (refl, refl))).1 }
+    record {
+      pos_bound = rw ((n c).same, (d c).same) c.requires;
+      low_value = rw ((keep w64 (low c) tt).same, (keep w64 (high c) tt).same, (d c).same) (refl, refl);
+    }
 
 pub returns : goal.returns
 returns c =

@@ -12,7 +12,6 @@ use Rattle.fixed.proofs.Poly.{var, num, ◌⊕◌, ◌⊗◌, eq}
 use Rattle.coverage.specs.declared.Columns.{Columns}
 use Rattle.coverage.specs.Scanline.{ceil_div, place, column_in, columns_of}
 use Rattle.coverage.proofs.Steep.{columns_straight, straight_one}
-use borrow.Author.Rules.{rules}
 use Rattle.coverage.proofs.column.columns.Goals as goal
 use Rattle.coverage.proofs.column.columns.Tie as tie
 use Rattle.coverage.proofs.column.columns.Lts as lts

@@ -7,45 +7,46 @@ use Rattle.fixed.proofs.Means.{Num, need, keep, small, lit, add, sub, mul}
 use Rattle.coverage.specs.declared.Rise.{Rise}
 use Rattle.coverage.specs.Scanline.{rise_of, Sloped}
 use Rattle.coverage.proofs.Crossing.{rise_of_lem}
+use Rattle.coverage.proofs.column.rise.Goals.{Start}
 use Rattle.coverage.proofs.column.rise.Goals as goal
 
-abbrev x0 : goal.Start → Num
+abbrev x0 : Start → Num
 x0 c = small w32 8388608 c.args.x0 c.ranges.x0 (record { size = c.requires.x0_bound.0 })
 
-abbrev y0 : goal.Start → Num
+abbrev y0 : Start → Num
 y0 c = small w32 8388608 c.args.y0 c.ranges.y0 (record { size = c.requires.x0_bound.1 })
 
-abbrev x1 : goal.Start → Num
+abbrev x1 : Start → Num
 x1 c = small w32 8388608 c.args.x1 c.ranges.x1 (record { size = c.requires.x0_bound.2 })
 
-abbrev y1 : goal.Start → Num
+abbrev y1 : Start → Num
 y1 c = small w32 8388608 c.args.y1 c.ranges.y1 (record { size = c.requires.x0_bound.3 })
 
-abbrev y : goal.Start → Num
+abbrev y : Start → Num
 y c = small w32 8388608 c.args.y c.ranges.y (record { size = c.requires.x0_bound.4 })
 
-abbrev d : goal.Start → Num
+abbrev d : Start → Num
 d c = sub (keep w64 (y1 c) tt) (keep w64 (y0 c) tt)
 
-abbrev dx : goal.Start → Num
+abbrev dx : Start → Num
 dx c = sub (keep w64 (x1 c) tt) (keep w64 (x0 c) tt)
 
-abbrev above : goal.Start → Num
+abbrev above : Start → Num
 above c = sub (keep w64 (y c) tt) (keep w64 (y0 c) tt)
 
-abbrev slope : goal.Start → Num
+abbrev slope : Start → Num
 slope c = mul (keep w64 (above c) tt) (keep w64 (dx c) tt)
 
-abbrev from : goal.Start → Num
+abbrev from : Start → Num
 from c = sub (keep w64 (x0 c) tt) (lit 32)
 
-abbrev base : goal.Start → Num
+abbrev base : Start → Num
 base c = mul (keep w64 (from c) tt) (keep w64 (d c) tt)
 
-abbrev n : goal.Start → Num
+abbrev n : Start → Num
 n c = add (keep w64 (slope c) tt) (keep w64 (base c) tt)
 
-abbrev step : goal.Start → Num
+abbrev step : Start → Num
 step c = mul (lit 64) (keep w64 (dx c) tt)
 
 same-rise : {n d s n' d' s' : ℤ} → n ≡ n' → d ≡ d' → s ≡ s' → ◌≡◌ {A = Rise} (record { n = n; d = d; step = s }) (record { n = n'; d = d'; step = s' })

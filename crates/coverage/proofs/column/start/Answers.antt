@@ -1,7 +1,6 @@
 -- `coverage::column::start` meets its contract. Assumes nothing.
 use mathlib.Core.Path.{◌≡◌, sym, ap, subst, ◌∙◌}
 use Prim.Native.Nat.{ℕ}
-use borrow.Author.Rules.{rules}
 use lib.Dec.{T}
 use lib.IntN.{pos, negsuc}
 use Rattle.coverage.specs.Winding.{spans_up, turned}
@@ -30,18 +29,11 @@ column_in-requires c =
     let e = c.args.e in
     let p = c.requires.small in
     record {
-      y0_lt_y1 = (rw (clean e.x0 p.x0, clean e.y0 p.y0, clean e.x1 p.x1, clean e.y1 p.y1, clean c.args.y c.requires.y_bound.0) (
-        span_rises e c.args.y (subst T (sym (sym (up c.before) ∙ c.if-between.true)) tt),
-        ((p.x0, p.y0, p.x1, p.y1, c.requires.y_bound.0), c.requires.y_bound.1),
-      )).0;
-      x0_bound = (rw (clean e.x0 p.x0, clean e.y0 p.y0, clean e.x1 p.x1, clean e.y1 p.y1, clean c.args.y c.requires.y_bound.0) (
-        span_rises e c.args.y (subst T (sym (sym (up c.before) ∙ c.if-between.true)) tt),
-        ((p.x0, p.y0, p.x1, p.y1, c.requires.y_bound.0), c.requires.y_bound.1),
-      )).1.0;
-      k_bound = (rw (clean e.x0 p.x0, clean e.y0 p.y0, clean e.x1 p.x1, clean e.y1 p.y1, clean c.args.y c.requires.y_bound.0) (
-        span_rises e c.args.y (subst T (sym (sym (up c.before) ∙ c.if-between.true)) tt),
-        ((p.x0, p.y0, p.x1, p.y1, c.requires.y_bound.0), c.requires.y_bound.1),
-      )).1.1;
+      y0_lt_y1 = rw (clean e.y0 p.y0, clean e.y1 p.y1)
+          (span_rises e c.args.y (subst T (sym (sym (up c.before) ∙ c.if-between.true)) tt));
+      x0_bound = rw (clean e.x0 p.x0, clean e.y0 p.y0, clean e.x1 p.x1, clean e.y1 p.y1, clean c.args.y c.requires.y_bound.0)
+          (p.x0, p.y0, p.x1, p.y1, c.requires.y_bound.0);
+      k_bound = c.requires.y_bound.1;
     }
 
 pub returns-then-between : goal.returns-then-between
@@ -59,18 +51,11 @@ column_in-requires-then-between-2 c =
     let e = c.args.e in
     let p = c.requires.small in
     record {
-      y0_lt_y1 = (rw (clean e.x0 p.x0, clean e.y0 p.y0, clean e.x1 p.x1, clean e.y1 p.y1, clean c.args.y c.requires.y_bound.0) (
-        span_rises (turned e) c.args.y (subst T (sym (sym (down c.before) ∙ c.if-between-2.true)) tt),
-        ((p.x1, p.y1, p.x0, p.y0, c.requires.y_bound.0), c.requires.y_bound.1),
-      )).0;
-      x0_bound = (rw (clean e.x0 p.x0, clean e.y0 p.y0, clean e.x1 p.x1, clean e.y1 p.y1, clean c.args.y c.requires.y_bound.0) (
-        span_rises (turned e) c.args.y (subst T (sym (sym (down c.before) ∙ c.if-between-2.true)) tt),
-        ((p.x1, p.y1, p.x0, p.y0, c.requires.y_bound.0), c.requires.y_bound.1),
-      )).1.0;
-      k_bound = (rw (clean e.x0 p.x0, clean e.y0 p.y0, clean e.x1 p.x1, clean e.y1 p.y1, clean c.args.y c.requires.y_bound.0) (
-        span_rises (turned e) c.args.y (subst T (sym (sym (down c.before) ∙ c.if-between-2.true)) tt),
-        ((p.x1, p.y1, p.x0, p.y0, c.requires.y_bound.0), c.requires.y_bound.1),
-      )).1.1;
+      y0_lt_y1 = rw (clean e.y0 p.y0, clean e.y1 p.y1)
+          (span_rises (turned e) c.args.y (subst T (sym (sym (down c.before) ∙ c.if-between-2.true)) tt));
+      x0_bound = rw (clean e.x0 p.x0, clean e.y0 p.y0, clean e.x1 p.x1, clean e.y1 p.y1, clean c.args.y c.requires.y_bound.0)
+          (p.x1, p.y1, p.x0, p.y0, c.requires.y_bound.0);
+      k_bound = c.requires.y_bound.1;
     }
 
 pub returns-then-between-2 : goal.returns-then-between-2

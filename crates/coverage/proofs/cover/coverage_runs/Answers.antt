@@ -1,6 +1,5 @@
 -- `coverage::cover::coverage_runs` meets its contract. Assumes nothing.
 use mathlib.Core.Path.{refl}
-use borrow.Author.Rules.{rules}
 use Rattle.coverage.proofs.cover.coverage_runs.Goals as goal
 
 pub returns-then-n-gt0 : goal.returns-then-n-gt0

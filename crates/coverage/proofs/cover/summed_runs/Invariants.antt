@@ -1,19 +1,11 @@
 -- `coverage::cover::summed_runs` meets its contract. Assumes nothing.
-use mathlib.Core.Path.{◌≡◌, refl, sym, ap, subst, ◌∙◌}
-use mathlib.Core.List.{List, ◌++◌}
-use Prim.Native.Nat.{ℕ, ◌+◌, ◌-◌, ◌≤◌}
-use native.Mathlib.Omega.{arith}
-use lib.ListN.{length, take, drop}
-use lib.IntN.{ℤ}
+use mathlib.Core.Path.{◌≡◌}
+use Prim.Native.Nat.{◌-◌, ◌≤◌}
+use lib.ListN.{length}
 use Rattle.lists.specs.Lists.{tab}
-use Rattle.lists.proofs.Laws.{part_length}
 use Rattle.runs.specs.Runs.{expand, Runs}
 use Rattle.path.specs.Stored.{edges_of}
-use Rattle.coverage.specs.Winding.{coverage}
-use Rattle.coverage.specs.Scanline.{Outlined}
-use Rattle.coverage.specs.Band.{Needed}
-use Rattle.coverage.proofs.Window.{k_of, runs_turn}
-use borrow.Author.Rules.{rules}
+use Rattle.coverage.proofs.Window.{k_of}
 use Rattle.coverage.proofs.cover.summed_runs.Given as goal
 
 -- `coverage::cover::summed_runs` meets its contract. Assumes nothing.

@@ -14,14 +14,11 @@ use Rattle.coverage.specs.Scanline.{at, laid, zeros, pixel_of, Marked, Tame}
 use Rattle.coverage.proofs.Groups.{none_grouped}
 use Rattle.coverage.proofs.Zeros.{clear_laid}
 use Rattle.coverage.proofs.Window.{sums_of, sums_long, sums_marked, sums_tame, window_covers, part_is, given_back}
-use borrow.Author.Rules.{rules}
+use Rattle.coverage.proofs.cover.window_runs.Goals.{After-add_listed}
 use Rattle.coverage.proofs.cover.window_runs.Goals as goal
-use Rattle.coverage.proofs.cover.window_runs.Tie as tie
-use Rattle.coverage.proofs.cover.window_runs.Lts as lts
-use Rattle.coverage.proofs.cover.window_runs.Reads as reads
 
 -- the part that is lent
-lent : (c : lts.After-add_listed tie.the-claims reads.Pre reads.Post tie.handed_clauses)
+lent : (c : After-add_listed)
     → let a = c.args in
     let w = length c.zero_counts.new.s in
     let n = a.line.edges in
@@ -67,7 +64,7 @@ take_runs-requires c =
     let k : length d ≡ w = g.auto.cover in
     let few : length es ≤ 1000000 = omega (arith, tab_length a.line.edges (edge_at a.scratch.now), c.requires.outlined.0.few) in
     record {
-      sums_len = subst (λ (t : List ℤ). (length t ≡ length d * 16) × Marked d (at t) × Tame t (length d * 4)) (sym (lent c.before.before.before.before.before.before.before.before.before)) (
+      sums_len = subst (λ (t : List ℤ). (length t ≡ length d * 16) × Marked d (at t) × Tame t (length d * 4)) (sym (lent (goal.at.take_runs-requires c).After-add_listed)) (
         sums_long (4 * x) w a.line.y es ∙ ap (λ (n : ℕ). n * 16) (sym k),
         sums_marked (4 * x) w a.line.y es d k g.ensures.marked,
         subst (λ (n : ℕ). Tame (sums_of (4 * x) w a.line.y es) (n * 4)) (sym k) (sums_tame (4 * x) w a.line.y es few),
@@ -81,7 +78,7 @@ returns c =
     let a = c.args in
     let u = c.zero_counts in
     let g = c.add_listed in
-    let t = c.Take_runs in
+    let t = c.take_runs in
     let w = length u.new.s in
     let n = a.line.edges in
     let es = edges_of a.scratch.now n in
@@ -90,15 +87,15 @@ returns c =
     let r : n * 4 + w * 16 ≤ length a.scratch.now = omega (arith, u.auto.s, c.requires.y_bound.2) in
     let k : length g.new.cover ≡ w = g.auto.cover in
     record {
-      scratch_unchanged = given_back (n * 4) (w * 16) a.scratch.now (sums_of (4 * x) w a.line.y es) g.new.scratch r long g.ensures.scratch_after t.new.0
+      scratch_unchanged = given_back (n * 4) (w * 16) a.scratch.now (sums_of (4 * x) w a.line.y es) g.new.scratch r long g.ensures.scratch_after t.new.sums
           (clear_laid a.scratch.now n (w * 16) r c.requires.outlined.0.clear
-          ∙ ap (laid (n * 4) (w * 16) a.scratch.now) (sym (t.ensures.0 ∙ ap zeros (ap length (lent c.before.before.before.before.before.before.before.before.before.before.before.before.before) ∙ long))));
+          ∙ ap (laid (n * 4) (w * 16) a.scratch.now) (sym (t.ensures.sums_after ∙ ap zeros (ap length (lent (goal.at.returns c).After-add_listed) ∙ long))));
       runs_2 = (
-        subst (λ (p : ℕ). Runs t.new.1.1.1.1.0 t.result (a.from + p)) (k ∙ u.auto.s) t.ensures.1.0.0,
-        t.ensures.1.0.1,
+        subst (λ (p : ℕ). Runs t.new.runs t.result (a.from + p)) (k ∙ u.auto.s) t.ensures.runs_2.0,
+        t.ensures.runs_2.1,
       );
-      result_after = t.ensures.1.1
+      result_after = t.ensures.result_after
           ∙ ap (λ (q : List ℕ). expand a.runs.now a.n ++ q)
-          (ap₂ (λ (m : ℕ) (q : List ℤ). tab m (pixel_of a.line.nonzero q)) k (lent c.before.before.before.before.before.before.before.before.before.before.before.before.before) ∙ window_covers x w a.line.y es a.line.nonzero
+          (ap₂ (λ (m : ℕ) (q : List ℤ). tab m (pixel_of a.line.nonzero q)) k (lent (goal.at.returns c).After-add_listed) ∙ window_covers x w a.line.y es a.line.nonzero
           ∙ ap (λ (m : ℕ). tab m (λ i. coverage es a.line.nonzero (x + i) a.line.y)) u.auto.s);
     }

@@ -1,19 +1,9 @@
 -- `coverage::covers::covers` meets its contract: what is found is the sum over the edges before i. Assumes nothing.
-use mathlib.Core.Path.{◌≡◌, refl, sym, ap, ap₂, ◌∙◌}
-use Prim.Native.Nat.{ℕ, ◌+◌, ◌-◌, ◌*◌, ◌≤◌}
-use native.Mathlib.Omega.{arith}
-use native.Mathlib.Numerals.{add-one}
-use mir.Syntax.{w32}
-use mir.Val.{to_z, of_z}
-use borrow.Author.Tests.{eqb-true}
+use mathlib.Core.Path.{◌≡◌}
+use Prim.Native.Nat.{◌-◌, ◌*◌, ◌≤◌}
 use Rattle.lists.specs.Lists.{total}
-use Rattle.path.specs.declared.Edge.{Edge}
-use Rattle.path.specs.Stored.{edge_at, Small}
-use Rattle.coverage.specs.Scanline.{edge}
+use Rattle.path.specs.Stored.{edge_at}
 use Rattle.coverage.specs.Covers.{part_of}
-use Rattle.coverage.proofs.Begin.{clean}
-use Rattle.coverage.proofs.Covered.{one_covers}
-use borrow.Author.Rules.{rules}
 use Rattle.coverage.proofs.covers.covers.Given as goal
 
 -- `coverage::covers::covers` meets its contract: what is found is the sum over the edges before i. Assumes nothing.

@@ -9,17 +9,17 @@ use mir.Val.{to_z, of_z}
 use mir.Facts.{to_z-of_z}
 use Rattle.coverage.specs.Winding.{sample}
 use Rattle.coverage.proofs.Locals.{first_held, last_held}
-use borrow.Author.Rules.{rules}
+use Rattle.coverage.proofs.covers.is_across.Goals.{Start}
 use Rattle.coverage.proofs.covers.is_across.Goals as goal
 
 -- the first and the last row of samples, as the locals hold them, and the first test
-first : (s : goal.Start) → to_z w32 (256 * s.args.from + 32) ≡ sample (4 * s.args.from)
+first : (s : Start) → to_z w32 (256 * s.args.from + 32) ≡ sample (4 * s.args.from)
 first s = first_held s.args.from (omega arith)
 
-last : (s : goal.Start) → to_z w32 (256 * s.args.end - 32) ≡ sample (4 * s.args.end - 1)
+last : (s : Start) → to_z w32 (256 * s.args.end - 32) ≡ sample (4 * s.args.end - 1)
 last s = last_held s.args.end (omega arith) (omega arith)
 
-told : (s : goal.Start) {t : Bool} → le_z (to_z w32 (of_z w32 s.args.low)) (to_z w32 (256 * s.args.from + 32)) ≡ t
+told : (s : Start) {t : Bool} → le_z (to_z w32 (of_z w32 s.args.low)) (to_z w32 (256 * s.args.from + 32)) ≡ t
     → le_z s.args.low (sample (4 * s.args.from)) ≡ t
 told s e = rw (to_z-of_z s.ranges.low, first s) at e
 

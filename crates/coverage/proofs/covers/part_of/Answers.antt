@@ -8,7 +8,6 @@ use mir.Facts.{to_z-of_z}
 use Rattle.coverage.specs.Scanline.{edge, beyond}
 use Rattle.coverage.specs.Band.{apart}
 use Rattle.coverage.specs.Covers.{alongside, part_of}
-use borrow.Author.Rules.{rules}
 use Rattle.coverage.proofs.covers.part_of.Goals as goal
 use Rattle.coverage.proofs.covers.part_of.Tie as tie
 use Rattle.coverage.proofs.covers.part_of.Lts as lts
@@ -24,20 +23,20 @@ some-needed true e = absurd (e refl)
 some-needed false e = refl
 
 -- what the tests of the calls tell
-abbrev missing : (c : lts.After-needed tie.the-claims reads.Pre reads.Post tie.handed_clauses) → Bool
+abbrev missing : (c : lts.After-needed tie.the-claims reads.Pre reads.Post) → Bool
 missing c = apart c.args.y0 c.args.y1 c.args.a.y0 c.args.a.y1
 
-rows : (c : lts.After-needed tie.the-claims reads.Pre reads.Post tie.handed_clauses) → c.needed.result ≡ cond (missing c) 0 1
+rows : (c : lts.After-needed tie.the-claims reads.Pre reads.Post) → c.needed.result ≡ cond (missing c) 0 1
 rows c =
     c.needed.ensures.0 ∙ ap₂ (λ (a b : ℤ). cond (apart a b c.args.a.y0 c.args.a.y1) 0 1) (to_z-of_z c.ranges.y0) (to_z-of_z c.ranges.y1)
 
-present : (c : lts.After-is_right tie.the-claims reads.Pre reads.Post tie.handed_clauses) → missing c.before.before ≡ false
+present : (c : lts.After-is_right tie.the-claims reads.Pre reads.Post) → missing c.before.before ≡ false
 present c = some-needed (missing c.before.before) (λ e. c.if-needed-eq0.false (rows c.before.before ∙ e))
 
-right : (c : lts.After-is_right tie.the-claims reads.Pre reads.Post tie.handed_clauses) → c.is_right.result ≡ beyond c.args.x0 c.args.x1 (4 * c.args.a.x1)
+right : (c : lts.After-is_right tie.the-claims reads.Pre reads.Post) → c.is_right.result ≡ beyond c.args.x0 c.args.x1 (4 * c.args.a.x1)
 right c = c.is_right.ensures ∙ ap₂ (λ (a b : ℤ). beyond a b (4 * c.args.a.x1)) (to_z-of_z c.ranges.x0) (to_z-of_z c.ranges.x1)
 
-along : (c : lts.After-is_alongside tie.the-claims reads.Pre reads.Post tie.handed_clauses) {t : Bool} → c.is_alongside.result ≡ t
+along : (c : lts.After-is_alongside tie.the-claims reads.Pre reads.Post) {t : Bool} → c.is_alongside.result ≡ t
     → alongside (edge c.args.x0 c.args.y0 c.args.x1 c.args.y1)
     c.args.a ≡ t
 along c e =

@@ -11,7 +11,6 @@ use Rattle.path.specs.Stored.{edge_at}
 use Rattle.coverage.specs.Scanline.{missed, beyond}
 use Rattle.coverage.proofs.Begin.{clean}
 use Rattle.coverage.proofs.Turn.{miss_sums, miss_marks, beyond_sums, beyond_marks}
-use borrow.Author.Rules.{rules}
 use Rattle.coverage.proofs.edges.add_edge.Goals as goal
 use Rattle.coverage.proofs.edges.add_edge.Tie as tie
 use Rattle.coverage.proofs.edges.add_edge.Lts as lts
@@ -59,4 +58,4 @@ returns-then-is_beyond c =
 
 pub add_rows-requires : goal.add_rows-requires
 add_rows-requires c =
-    record { i_lt_n = c.requires.i_lt_n; edges = (c.requires.edges, c.load-e.ensures); scratch_value = (c.requires.1.1).0; marked = (c.requires.1.1).1 }
+    record { i_lt_n = c.requires.i_lt_n; edges = (c.requires.edges, c.load-e.ensures); scratch_value = c.requires.scratch_value; marked = c.requires.marked }

@@ -1,16 +1,11 @@
 -- `coverage::edges::add_listed` meets its contract. Assumes nothing.
-use mathlib.Core.Path.{◌≡◌, refl, sym, ap, subst, ◌∙◌}
-use mathlib.Core.Bool.{true}
-use Prim.Native.Nat.{ℕ, ◌+◌, ◌*◌, ◌-◌, ◌≤◌, ◌<◌}
-use native.Mathlib.Omega.{arith}
-use lib.ListN.{length, get_or}
-use Rattle.path.specs.Stored.{edge_at, edges_of}
-use Rattle.coverage.specs.Scanline.{missed, sums_at, with_sums, Marked}
+use mathlib.Core.Path.{◌≡◌}
+use Prim.Native.Nat.{◌*◌, ◌-◌, ◌≤◌}
+use lib.ListN.{length}
+use Rattle.path.specs.Stored.{edges_of}
+use Rattle.coverage.specs.Scanline.{sums_at, with_sums, Marked}
 use Rattle.coverage.specs.Marks.{Grouped}
 use Rattle.coverage.specs.Band.{reach}
-use Rattle.coverage.proofs.Turn.{no_sums, no_marks, turn_asks, turn_sums, turn_marks}
-use Rattle.coverage.proofs.Listed.{reach_at, reach_end, gap_laid, gap_marks}
-use borrow.Author.Rules.{rules}
 use Rattle.coverage.proofs.edges.add_listed.Given as goal
 
 -- `coverage::edges::add_listed` meets its contract. Assumes nothing.

@@ -20,7 +20,6 @@ use Rattle.coverage.proofs.Begin.{clean}
 use Rattle.coverage.proofs.Starts.{by_small}
 use Rattle.coverage.proofs.Steep.{Begins, columns_straight, rise_asks, small_turned, passes_up, passes_down}
 use Rattle.coverage.proofs.Turn.{Added, added_none, added_low, added_rows, added_all}
-use borrow.Author.Rules.{rules}
 use Rattle.coverage.proofs.edges.add_rows.Goals as goal
 use Rattle.coverage.proofs.edges.add_rows.Tie as tie
 use Rattle.coverage.proofs.edges.add_rows.Lts as lts
@@ -168,11 +167,10 @@ pub rise-requires : goal.rise-requires
 rise-requires c =
     let e = c.args.e in
     let p = small c.before.before.before.before.before.before.before.before.before.before.before in
+    let asks = rise_asks c.args.y e (sym (up c) ∙ c.if-passes.true) p c.requires.i_lt_n.1 in
     record {
-      y0_lt_y1 = (rw (clean e.x0 p.x0, clean e.y0 p.y0, clean e.x1 p.x1, clean e.y1 p.y1, first c.before.before.before.before.before.before.before.before.before.before.before)
-          (rise_asks c.args.y e (sym (up c) ∙ c.if-passes.true) p c.requires.i_lt_n.1)).0;
-      x0_bound = (rw (clean e.x0 p.x0, clean e.y0 p.y0, clean e.x1 p.x1, clean e.y1 p.y1, first c.before.before.before.before.before.before.before.before.before.before.before)
-          (rise_asks c.args.y e (sym (up c) ∙ c.if-passes.true) p c.requires.i_lt_n.1)).1;
+      y0_lt_y1 = rw (clean e.y0 p.y0, clean e.y1 p.y1) asks.0;
+      x0_bound = rw (clean e.x0 p.x0, clean e.y0 p.y0, clean e.x1 p.x1, clean e.y1 p.y1, first c.before.before.before.before.before.before.before.before.before.before.before) asks.1;
     }
 
 pub columns-requires : goal.columns-requires
@@ -202,11 +200,10 @@ pub rise-requires-then-passes-2 : goal.rise-requires-then-passes-2
 rise-requires-then-passes-2 c =
     let e = c.args.e in
     let p = small c.before.before.before.before.before.before.before.before.before.before.before.before.before in
+    let asks = rise_asks c.args.y (turned e) (sym (down c) ∙ c.if-passes-2.true) (small_turned e p) c.requires.i_lt_n.1 in
     record {
-      y0_lt_y1 = (rw (clean e.x0 p.x0, clean e.y0 p.y0, clean e.x1 p.x1, clean e.y1 p.y1, first c.before.before.before.before.before.before.before.before.before.before.before.before.before)
-          (rise_asks c.args.y (turned e) (sym (down c) ∙ c.if-passes-2.true) (small_turned e p) c.requires.i_lt_n.1)).0;
-      x0_bound = (rw (clean e.x0 p.x0, clean e.y0 p.y0, clean e.x1 p.x1, clean e.y1 p.y1, first c.before.before.before.before.before.before.before.before.before.before.before.before.before)
-          (rise_asks c.args.y (turned e) (sym (down c) ∙ c.if-passes-2.true) (small_turned e p) c.requires.i_lt_n.1)).1;
+      y0_lt_y1 = rw (clean e.y0 p.y0, clean e.y1 p.y1) asks.0;
+      x0_bound = rw (clean e.x0 p.x0, clean e.y0 p.y0, clean e.x1 p.x1, clean e.y1 p.y1, first c.before.before.before.before.before.before.before.before.before.before.before.before.before) asks.1;
     }
 
 pub columns-requires-then-passes-2 : goal.columns-requires-then-passes-2

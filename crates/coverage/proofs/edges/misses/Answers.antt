@@ -9,26 +9,26 @@ use mir.Syntax.{w32}
 use mir.Val.{to_z, of_z}
 use mir.Facts.{to_z-of_z, to_z_pos}
 use Rattle.coverage.specs.Winding.{sample}
-use borrow.Author.Rules.{rules}
+use Rattle.coverage.proofs.edges.misses.Goals.{Start}
 use Rattle.coverage.proofs.edges.misses.Goals as goal
 
 -- the first and the last row of samples, as the locals hold them, and the two tests with them
-first : (s : goal.Start) → to_z w32 (256 * s.args.y + 32) ≡ sample (4 * s.args.y)
+first : (s : Start) → to_z w32 (256 * s.args.y + 32) ≡ sample (4 * s.args.y)
 first s = to_z_pos w32 (omega arith) ∙ ap pos (as_sample s.args.y)
   where
     as_sample : (y : ℕ) → 256 * y + 32 ≡ 64 * (4 * y) + 32
     as_sample y = omega arith
 
-last : (s : goal.Start) → to_z w32 (256 * s.args.y + 224) ≡ sample (4 * s.args.y + 3)
+last : (s : Start) → to_z w32 (256 * s.args.y + 224) ≡ sample (4 * s.args.y + 3)
 last s = to_z_pos w32 (omega arith) ∙ ap pos (as_sample s.args.y)
   where
     as_sample : (y : ℕ) → 256 * y + 224 ≡ 64 * (4 * y + 3) + 32
     as_sample y = omega arith
 
-low : (s : goal.Start) {t : Bool} → le_z (to_z w32 (of_z w32 s.args.y0)) (to_z w32 (256 * s.args.y + 32)) ≡ t → le_z s.args.y0 (sample (4 * s.args.y)) ≡ t
+low : (s : Start) {t : Bool} → le_z (to_z w32 (of_z w32 s.args.y0)) (to_z w32 (256 * s.args.y + 32)) ≡ t → le_z s.args.y0 (sample (4 * s.args.y)) ≡ t
 low s e = rw (to_z-of_z s.ranges.y0, first s) at e
 
-high : (s : goal.Start) {t : Bool} → lt_z (to_z w32 (256 * s.args.y + 224)) (to_z w32 (of_z w32 s.args.y0)) ≡ t
+high : (s : Start) {t : Bool} → lt_z (to_z w32 (256 * s.args.y + 224)) (to_z w32 (of_z w32 s.args.y0)) ≡ t
     → lt_z (sample (4 * s.args.y + 3)) s.args.y0 ≡ t
 high s e = rw (to_z-of_z s.ranges.y0, last s) at e
 

@@ -8,7 +8,6 @@ use lib.Seq.{set_out}
 use borrow.Author.Tests.{le-ltb}
 use Rattle.coverage.specs.Scanline.{bumped, put_row}
 use Rattle.coverage.proofs.Groups.{one_grouped}
-use borrow.Author.Rules.{rules}
 use Rattle.coverage.proofs.edges.put.Goals as goal
 
 pub returns-then-cover-p : goal.returns-then-cover-p
@@ -26,4 +25,4 @@ pub returns : goal.returns
 returns c =
     let a = c.args in
     let p = c.put_inside.ensures in
-    record { scratch_after = p.0; cover_after = p.1; grouped = one_grouped a.cover.now a.groups.now (a.s.at / 4) p.1 c.touch.ensures (omega (arith, c.if-cover-p.false)) c.requires.r_bound.2 }
+    record { scratch_after = p.scratch_after; cover_after = p.cover_after; grouped = one_grouped a.cover.now a.groups.now (a.s.at / 4) p.cover_after c.touch.ensures (omega (arith, c.if-cover-p.false)) c.requires.r_bound.2 }

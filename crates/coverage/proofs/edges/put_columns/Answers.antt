@@ -13,7 +13,6 @@ use Rattle.coverage.proofs.Begin.{clean}
 use Rattle.coverage.proofs.Groups.{near_both, four_grouped}
 use Rattle.coverage.proofs.Rows.{as_rows, as_marks, fit_four}
 use Rattle.coverage.proofs.Steep.{straight_one, straight_ends}
-use borrow.Author.Rules.{rules}
 use Rattle.coverage.proofs.edges.put_columns.Goals as goal
 use Rattle.coverage.proofs.edges.put_columns.Tie as tie
 use Rattle.coverage.proofs.edges.put_columns.Lts as lts
@@ -51,25 +50,15 @@ returns-then-p-q c =
     let a = c.args in
     let w = length a.cover.now in
     let p = c.put_four.ensures in
+    let o = one c.before.before.before.before.before.before.before in
     record {
-      scratch_after = (rw ((one c.before.before.before.before.before.before.before).0, (one c.before.before.before.before.before.before.before).1, sym c.if-p-q.true) (
-        p.0
-            ∙ ap (λ (z : ℤ). cond (ltb (a.s.a / 4) w) (bumped_four a.scratch.now (a.base + a.s.a * 4) z) a.scratch.now) (by_read c.before.before.before.before.before.before.before.before.before.before.before.before.before)
-            ∙ as_rows a.base a.s.a a.by w a.scratch.now,
-        (p.1.0 ∙ as_marks (a.s.a / 4) a.cover.now, p.1.1),
-      )).0;
-      cover_after = (rw ((one c.before.before.before.before.before.before.before).0, (one c.before.before.before.before.before.before.before).1, sym c.if-p-q.true) (
-        p.0
-            ∙ ap (λ (z : ℤ). cond (ltb (a.s.a / 4) w) (bumped_four a.scratch.now (a.base + a.s.a * 4) z) a.scratch.now) (by_read c.before.before.before.before.before.before.before.before.before.before.before.before.before)
-            ∙ as_rows a.base a.s.a a.by w a.scratch.now,
-        (p.1.0 ∙ as_marks (a.s.a / 4) a.cover.now, p.1.1),
-      )).1.0;
-      grouped = (rw ((one c.before.before.before.before.before.before.before).0, (one c.before.before.before.before.before.before.before).1, sym c.if-p-q.true) (
-        p.0
-            ∙ ap (λ (z : ℤ). cond (ltb (a.s.a / 4) w) (bumped_four a.scratch.now (a.base + a.s.a * 4) z) a.scratch.now) (by_read c.before.before.before.before.before.before.before.before.before.before.before.before.before)
-            ∙ as_rows a.base a.s.a a.by w a.scratch.now,
-        (p.1.0 ∙ as_marks (a.s.a / 4) a.cover.now, p.1.1),
-      )).1.1;
+      scratch_after = rw (o.0, o.1, sym c.if-p-q.true) (
+          p.scratch_after
+          ∙ ap (λ (z : ℤ). cond (ltb (a.s.a / 4) w) (bumped_four a.scratch.now (a.base + a.s.a * 4) z) a.scratch.now) (by_read c.before.before.before.before.before.before.before.before.before.before.before.before.before)
+          ∙ as_rows a.base a.s.a a.by w a.scratch.now
+          );
+      cover_after = rw (o.0, o.1, sym c.if-p-q.true) (p.cover_after ∙ as_marks (a.s.a / 4) a.cover.now);
+      grouped = p.grouped_2;
     }
 
 pub touch-requires : goal.touch-requires
@@ -80,10 +69,9 @@ touch-requires c =
 pub put_near-requires : goal.put_near-requires
 put_near-requires c =
     record {
-      cover_in_bounds = (rw (by_read c.before.before.before.before.before.before.before.before.before.before.before.before.before.before, (straight_ends c.args.s c.requires.cover_in_bounds.2).1)
-          ((c.requires.cover_in_bounds.0, c.requires.fit_rows), omega (arith, (near c.before.before.before.before.before.before.before).0, c.most-hi.ensures))).0;
-      at_in_bounds = (rw (by_read c.before.before.before.before.before.before.before.before.before.before.before.before.before.before, (straight_ends c.args.s c.requires.cover_in_bounds.2).1)
-          ((c.requires.cover_in_bounds.0, c.requires.fit_rows), omega (arith, (near c.before.before.before.before.before.before.before).0, c.most-hi.ensures))).1;
+      cover_in_bounds = rw (by_read c.before.before.before.before.before.before.before.before.before.before.before.before.before.before) (c.requires.cover_in_bounds.0, c.requires.fit_rows);
+      at_in_bounds = rw (straight_ends c.args.s c.requires.cover_in_bounds.2).1
+          (omega (arith, (near c.before.before.before.before.before.before.before).0, c.most-hi.ensures));
     }
 
 pub returns-then-is_near : goal.returns-then-is_near
@@ -93,19 +81,27 @@ returns-then-is_near c =
     let both = near c.before.before.before.before.before.before.before.before.before.before.before in
     let p = c.put_near.ensures in
     record {
-      scratch_after = rw (by_read c.before.before.before.before.before.before.before.before.before.before.before.before.before.before.before.before.before.before) at p.0;
-      cover_after = p.1;
+      scratch_after = rw (by_read c.before.before.before.before.before.before.before.before.before.before.before.before.before.before.before.before.before.before) at p.scratch_after;
+      cover_after = p.cover_after;
       grouped = four_grouped a.cover.now a.groups.now a.s.a a.s.b a.s.c a.s.d (c.least-lo.result / 4)
           (c.most-hi.result / 4) (ap (λ (n : ℕ). n / 4) (c.least-lo.ensures ∙ sym ends.0))
-          (ap (λ (n : ℕ). n / 4) (c.most-hi.ensures ∙ sym ends.1)) p.1 c.touch.ensures both.0 both.1
+          (ap (λ (n : ℕ). n / 4) (c.most-hi.ensures ∙ sym ends.1)) p.cover_after c.touch.ensures both.0 both.1
           c.requires.cover_in_bounds.1;
     }
 
 -- ---- wherever they lie
 pub put_far-requires : goal.put_far-requires
 put_far-requires c =
-    record { cover_in_bounds = (rw (by_read c.before.before.before.before.before.before.before.before.before.before) ((c.requires.cover_in_bounds.0, c.requires.cover_in_bounds.1), c.requires.fit_rows)).0; fit_rows = (rw (by_read c.before.before.before.before.before.before.before.before.before.before) ((c.requires.cover_in_bounds.0, c.requires.cover_in_bounds.1), c.requires.fit_rows)).1 }
+    record {
+      cover_in_bounds = (c.requires.cover_in_bounds.0, c.requires.cover_in_bounds.1);
+      fit_rows = rw (by_read c.before.before.before.before.before.before.before.before.before.before) c.requires.fit_rows;
+    }
 
 pub returns : goal.returns
 returns c =
-    record { scratch_after = (rw (by_read c.before.before.before.before.before.before.before.before.before.before.before.before.before.before.before.before.before) at c.put_far.ensures).0; cover_after = (rw (by_read c.before.before.before.before.before.before.before.before.before.before.before.before.before.before.before.before.before) at c.put_far.ensures).1.0; grouped = (rw (by_read c.before.before.before.before.before.before.before.before.before.before.before.before.before.before.before.before.before) at c.put_far.ensures).1.1 }
+    let p = c.put_far.ensures in
+    record {
+      scratch_after = rw (by_read c.before.before.before.before.before.before.before.before.before.before.before.before.before.before.before.before.before) at p.scratch_after;
+      cover_after = p.cover_after;
+      grouped = p.grouped;
+    }

@@ -4,7 +4,6 @@ use Prim.Native.Nat.{◌/◌}
 use native.Mathlib.Omega.{arith}
 use lib.ListN.{length}
 use Rattle.coverage.proofs.Rows.{fits_second, fits_third, fits_fourth, rows_put, rows_marked}
-use borrow.Author.Rules.{rules}
 use Rattle.coverage.proofs.edges.put_far.Goals as goal
 
 pub put-requires-2 : goal.put-requires-2

@@ -8,7 +8,6 @@ use lib.Seq.{set_out}
 use borrow.Author.Tests.{lt-ltb, le-ltb}
 use Rattle.coverage.specs.Scanline.{bumped_four}
 use Rattle.coverage.proofs.Begin.{clean}
-use borrow.Author.Rules.{rules}
 use Rattle.coverage.proofs.edges.put_four.Goals as goal
 
 pub returns-then-cover-p : goal.returns-then-cover-p
@@ -38,6 +37,6 @@ returns c =
       scratch_after = c.bump_four.ensures ∙ ap (bumped_four a.scratch.now (a.base + a.at * 4)) (clean a.by (omega (arith, c.requires.cover_in_bounds.1)))
           ∙ ap (λ (t : Bool). cond t (bumped_four a.scratch.now (a.base + a.at * 4) a.by) a.scratch.now)
           (sym (lt-ltb (a.at / 4) (length a.cover.now) (omega (arith, c.if-cover-p.false))));
-      cover_after = (c.mark.ensures).0;
-      grouped_2 = (c.mark.ensures).1;
+      cover_after = c.mark.ensures.marks_after;
+      grouped_2 = c.mark.ensures.grouped;
     }

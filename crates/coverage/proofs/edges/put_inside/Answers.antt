@@ -7,7 +7,6 @@ use lib.ListN.{length}
 use borrow.Author.Tests.{lt-ltb}
 use Rattle.coverage.specs.Scanline.{bumped, put_row}
 use Rattle.coverage.proofs.Begin.{clean}
-use borrow.Author.Rules.{rules}
 use Rattle.coverage.proofs.edges.put_inside.Goals as goal
 
 pub bump-requires : goal.bump-requires

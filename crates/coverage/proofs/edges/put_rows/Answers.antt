@@ -4,7 +4,6 @@ use Prim.Native.Nat.{◌/◌, ◌<◌}
 use native.Mathlib.Omega.{arith}
 use lib.ListN.{length}
 use Rattle.coverage.proofs.Groups.{near_both, four_grouped}
-use borrow.Author.Rules.{rules}
 use Rattle.coverage.proofs.edges.put_rows.Goals as goal
 use Rattle.coverage.proofs.edges.put_rows.Tie as tie
 use Rattle.coverage.proofs.edges.put_rows.Lts as lts
@@ -34,9 +33,9 @@ returns-then-is_near c =
     let p = c.put_near.ensures in
     let both = near c.before.before.before.before.before.before.before.before.before.before.before in
     record {
-      scratch_after = p.0;
-      cover_after = p.1;
+      scratch_after = p.scratch_after;
+      cover_after = p.cover_after;
       grouped = four_grouped a.cover.now a.groups.now a.s.at a.u.at a.v.at a.t.at c.first_pixel-lo.result
-          c.last_pixel-hi.result c.first_pixel-lo.ensures c.last_pixel-hi.ensures p.1 c.touch.ensures
+          c.last_pixel-hi.result c.first_pixel-lo.ensures c.last_pixel-hi.ensures p.cover_after c.touch.ensures
           both.0 both.1 c.requires.cover_in_bounds.1;
     }

@@ -2,7 +2,6 @@
 use mathlib.Core.Path.{refl}
 use native.Mathlib.Omega.{arith}
 use Rattle.coverage.proofs.Groups.{one_grouped}
-use borrow.Author.Rules.{rules}
 use Rattle.coverage.proofs.marks.mark.Goals as goal
 
 pub touch-requires : goal.touch-requires

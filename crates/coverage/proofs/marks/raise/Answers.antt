@@ -2,7 +2,6 @@
 use mathlib.Core.Path.{refl}
 use native.Mathlib.Omega.{arith}
 use Rattle.coverage.specs.Marks.{raised}
-use borrow.Author.Rules.{rules}
 use Rattle.coverage.proofs.marks.raise.Goals as goal
 
 pub overflow_cast-groups : goal.overflow_cast-groups

@@ -3,7 +3,6 @@ use mathlib.Core.Path.{ap, ◌∙◌}
 use mathlib.Core.List.{List}
 use Prim.Native.Nat.{ℕ, ◌+◌, ◌-◌, ◌/◌, ◌%◌}
 use Rattle.coverage.specs.Marks.{raised, touched}
-use borrow.Author.Rules.{rules}
 use Rattle.coverage.proofs.marks.touch.Goals as goal
 
 pub returns : goal.returns

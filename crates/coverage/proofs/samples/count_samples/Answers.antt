@@ -1,7 +1,6 @@
 -- `coverage::samples::count_samples` meets its contract. Assumes nothing.
 use native.Mathlib.Omega.{arith}
 use Rattle.coverage.proofs.Tally.{four_counts}
-use borrow.Author.Rules.{rules}
 use Rattle.coverage.proofs.samples.count_samples.Goals as goal
 
 pub returns-then-nonzero : goal.returns-then-nonzero

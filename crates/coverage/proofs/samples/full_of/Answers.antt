@@ -2,7 +2,6 @@
 use mathlib.Core.Path.{ap}
 use Prim.Native.Nat.{ℕ, ◌*◌}
 use native.Mathlib.Omega.{arith}
-use borrow.Author.Rules.{rules}
 use Rattle.coverage.proofs.samples.full_of.Goals as goal
 
 pub returns-then-nonzero : goal.returns-then-nonzero

@@ -7,11 +7,11 @@ use Rattle.coverage.specs.declared.Windings.{Windings}
 use Rattle.coverage.specs.Scanline.{at, LowFour, Sized, last_of, column_from}
 use Rattle.coverage.proofs.Cells.{column_sized, columns_cell}
 use Rattle.coverage.proofs.Zeros.{part_zeroed}
-use borrow.Author.Rules.{rules}
+use Rattle.coverage.proofs.samples.take_cell.Goals.{Start}
 use Rattle.coverage.proofs.samples.take_cell.Goals as goal
 
 -- the numbers of a column do not overflow, nor do the winding numbers at the first three
-low-four : (s : goal.Start) (i : ℕ) → s.args.p * 16 ≤ i → LowFour s.args.sums.now i
+low-four : (s : Start) (i : ℕ) → s.args.p * 16 ≤ i → LowFour s.args.sums.now i
 low-four s i k = (size i k, size (i + 1) (omega arith), size (i + 2) (omega arith), size (i + 3) (omega arith))
   where
     size : (j : ℕ) → s.args.p * 16 ≤ j → nat_abs (at s.args.sums.now j) ≤ 1000000
@@ -20,28 +20,28 @@ low-four s i k = (size i k, size (i + 1) (omega arith), size (i + 2) (omega arit
         whole : (b j : ℕ) → b ≤ j → b + (j - b) ≡ j
         whole b j k = omega arith
 
-abbrev column : (s : goal.Start) → Windings → ℕ → Windings
+abbrev column : (s : Start) → Windings → ℕ → Windings
 column s z i = column_from z s.args.sums.now i
 
-first : (s : goal.Start) → {z : Windings} → z ≡ last_of s.args.z → Sized 1000000 z
+first : (s : Start) → {z : Windings} → z ≡ last_of s.args.z → Sized 1000000 z
 first s e =
     subst (λ (v : Windings). Sized 1000000 v) (sym e)
     (record { a = s.requires.p_in_bounds.1.a; b = s.requires.p_in_bounds.1.b; c = s.requires.p_in_bounds.1.c; d = s.requires.p_in_bounds.1.d })
 
-next : (s : goal.Start) → {n : ℕ} {z w : Windings} (i : ℕ) → s.args.p * 16 ≤ i → Sized n z → w ≡ (column s) z i → Sized (n + 1000000) w
+next : (s : Start) → {n : ℕ} {z w : Windings} (i : ℕ) → s.args.p * 16 ≤ i → Sized n z → w ≡ (column s) z i → Sized (n + 1000000) w
 next s i k h e = column_sized s.args.sums.now i h (low-four s i k) e
 
-second : (s : goal.Start) → {z t : Windings} → z ≡ last_of s.args.z → t ≡ (column s) z (s.args.p * 16) → Sized 2000000 t
+second : (s : Start) → {z t : Windings} → z ≡ last_of s.args.z → t ≡ (column s) z (s.args.p * 16) → Sized 2000000 t
 second s e f = (next s) (s.args.p * 16) (omega arith) ((first s) e) f
 
-third : (s : goal.Start) → {z t u : Windings} → z ≡ last_of s.args.z → t ≡ (column s) z (s.args.p * 16) → u ≡ (column s) t (s.args.p * 16 + 4) → Sized 3000000 u
+third : (s : Start) → {z t u : Windings} → z ≡ last_of s.args.z → t ≡ (column s) z (s.args.p * 16) → u ≡ (column s) t (s.args.p * 16 + 4) → Sized 3000000 u
 third s e f g = (next s) (s.args.p * 16 + 4) (omega arith) ((second s) e f) g
 
 larger : {n : ℕ} {z : Windings} → n ≤ 4000000 → Sized n z → Sized 4000000 z
 larger k h = record { a = omega (arith, h.a); b = omega (arith, h.b); c = omega (arith, h.c); d = omega (arith, h.d) }
 
 -- where its numbers end fits a machine word, in bytes too
-far : (s : goal.Start) → (s.args.p * 16 + 16) * 4 < 18446744073709551616
+far : (s : Start) → (s.args.p * 16 + 16) * 4 < 18446744073709551616
 far s = omega (arith, s.requires.p_in_bounds.0)
 
 pub take_column-a-requires : goal.take_column-a-requires

@@ -4,43 +4,43 @@ use mir.Syntax.{w32}
 use Rattle.fixed.proofs.Means.{Num, need, keep, add}
 use Rattle.coverage.specs.Scanline.{at, column_from}
 use Rattle.coverage.proofs.Begin.{sized}
-use borrow.Author.Rules.{rules}
+use Rattle.coverage.proofs.samples.take_column.Goals.{Start}
 use Rattle.coverage.proofs.samples.take_column.Goals as goal
 
-abbrev za : goal.After-struct_told-4-1 → Num
+abbrev za : Start → Num
 za c = add (sized 4000000 c.args.z.a tt c.requires.2.a) (sized 1000000 (at c.args.sums.now c.args.i) tt c.requires.1.0)
 
-abbrev zb : goal.After-struct_told-4-1 → Num
+abbrev zb : Start → Num
 zb c = add (sized 4000000 c.args.z.b tt c.requires.2.b) (sized 1000000 (at c.args.sums.now (c.args.i + 1)) tt c.requires.1.1)
 
-abbrev zc : goal.After-struct_told-4-1 → Num
+abbrev zc : Start → Num
 zc c = add (sized 4000000 c.args.z.c tt c.requires.2.c) (sized 1000000 (at c.args.sums.now (c.args.i + 2)) tt c.requires.1.2)
 
-abbrev zd : goal.After-struct_told-4-1 → Num
+abbrev zd : Start → Num
 zd c = add (sized 4000000 c.args.z.d tt c.requires.2.d) (sized 1000000 (at c.args.sums.now (c.args.i + 3)) tt c.requires.1.3)
 
 pub overflow_add-result : goal.overflow_add-result
 overflow_add-result c =
-    need (za c.before) tt
+    need (za (goal.at.overflow_add-result c).Start) tt
 
 pub overflow_add-result-3 : goal.overflow_add-result-3
 overflow_add-result-3 c =
-    need (zb c.before.before) tt
+    need (zb (goal.at.overflow_add-result-3 c).Start) tt
 
 pub overflow_add-result-5 : goal.overflow_add-result-5
 overflow_add-result-5 c =
-    need (zc c.before.before.before) tt
+    need (zc (goal.at.overflow_add-result-5 c).Start) tt
 
 pub overflow_add-result-7 : goal.overflow_add-result-7
 overflow_add-result-7 c =
-    need (zd c.before.before.before.before) tt
+    need (zd (goal.at.overflow_add-result-7 c).Start) tt
 
 pub returns : goal.returns
 unfolding column_from
 returns c =
     λ i. record {
-      a = (keep w32 (za c.before.before.before.before) tt).same i;
-      b = (keep w32 (zb c.before.before.before.before) tt).same i;
-      c = (keep w32 (zc c.before.before.before.before) tt).same i;
-      d = (keep w32 (zd c.before.before.before.before) tt).same i;
+      a = (keep w32 (za (goal.at.returns c).Start) tt).same i;
+      b = (keep w32 (zb (goal.at.returns c).Start) tt).same i;
+      c = (keep w32 (zc (goal.at.returns c).Start) tt).same i;
+      d = (keep w32 (zd (goal.at.returns c).Start) tt).same i;
     }

@@ -1,6 +1,5 @@
 -- `coverage::scissors::cut` meets its contract. Assumes nothing.
 use Rattle.coverage.proofs.Borders.{cut_away, cut_nothing}
-use borrow.Author.Rules.{rules}
 use borrow.Author.Tests.{not-true, not-false}
 use Rattle.coverage.proofs.scissors.cut.Goals as goal
 

@@ -3,7 +3,7 @@ use native.Mathlib.Omega.{arith}
 use mir.Syntax.{w64}
 use mir.Facts.{to_z-of_z, to_z_pos}
 use Rattle.fixed.proofs.Signed.{le_nat}
-use borrow.Author.Rules.{rules, sfits_of}
+use borrow.Author.Rules.{sfits_of}
 use Rattle.coverage.proofs.scissors.in_span.Goals as goal
 
 pub returns-then-start-x : goal.returns-then-start-x

@@ -2,7 +2,6 @@
 use mathlib.Core.Path.{sym, ◌∙◌}
 use Rattle.coverage.specs.Scanline.{in_span}
 use Rattle.coverage.proofs.Rectangles.{first_holds, second_holds, third_holds, last_tells}
-use borrow.Author.Rules.{rules}
 use Rattle.coverage.proofs.scissors.kept.Goals as goal
 
 pub returns-then-in_span : goal.returns-then-in_span

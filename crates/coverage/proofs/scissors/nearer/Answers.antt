@@ -8,14 +8,14 @@ use mir.Syntax.{w64}
 use mir.Val.{to_z, of_z}
 use mir.Facts.{to_z-of_z}
 use Rattle.coverage.proofs.Borders.{column_lt, is_nearer, not_nearer, column_fits}
-use borrow.Author.Rules.{rules}
+use Rattle.coverage.proofs.scissors.nearer.Goals.{Start}
 use Rattle.coverage.proofs.scissors.nearer.Goals as goal
 
 -- the test of the two columns, and the first of them read back
-test : (c : goal.Start) → {t : Bool} → lt_z (to_z w64 (of_z w64 c.args.column)) (to_z w64 c.args.end) ≡ t → lt_z c.args.column (pos c.args.end) ≡ t
+test : (c : Start) → {t : Bool} → lt_z (to_z w64 (of_z w64 c.args.column)) (to_z w64 c.args.end) ≡ t → lt_z c.args.column (pos c.args.end) ≡ t
 test c e = column_lt c.args.column c.args.end c.ranges.column (omega (arith, c.requires)) e
 
-same : (c : goal.Start) → to_z w64 (of_z w64 c.args.column) ≡ c.args.column
+same : (c : Start) → to_z w64 (of_z w64 c.args.column) ≡ c.args.column
 same c = to_z-of_z c.ranges.column
 
 pub overflow_cast-result : goal.overflow_cast-result

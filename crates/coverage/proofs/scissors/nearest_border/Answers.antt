@@ -1,7 +1,6 @@
 -- `coverage::scissors::nearest_border` meets its contract. Assumes nothing.
 use native.Mathlib.Omega.{arith}
 use Rattle.coverage.proofs.Rectangles.{four}
-use borrow.Author.Rules.{rules}
 use Rattle.coverage.proofs.scissors.nearest_border.Goals as goal
 
 pub returns : goal.returns
@@ -11,8 +10,8 @@ returns c =
     let of_c = c.border-2.ensures in
     let of-d = c.border.ensures in
     record {
-      lower_bound = (of-a.0.0, omega (arith, of-a.0, of-b.0, of_c.0, of-d.0));
+      lower_bound = (of-a.lower_bound.0, omega (arith, of-a.lower_bound, of-b.lower_bound, of_c.lower_bound, of-d.lower_bound));
       by_index = λ j g l.
-          four (of-a.1 j g l) (of-b.1 j g (omega (arith, of-a.0))) (of_c.1 j g (omega (arith, of-a.0, of-b.0)))
-          (of-d.1 j g (omega (arith, of-a.0, of-b.0, of_c.0)));
+          four (of-a.by_index j g l) (of-b.by_index j g (omega (arith, of-a.lower_bound))) (of_c.by_index j g (omega (arith, of-a.lower_bound, of-b.lower_bound)))
+          (of-d.by_index j g (omega (arith, of-a.lower_bound, of-b.lower_bound, of_c.lower_bound)));
     }

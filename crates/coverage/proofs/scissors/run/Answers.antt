@@ -3,15 +3,16 @@ use mathlib.Core.Path.{ap₂}
 use lib.IntN.{ℤ}
 use mir.Syntax.{w32, w64}
 use Rattle.fixed.proofs.Means.{Num, param, keep, need, add}
+use Rattle.coverage.proofs.scissors.run.Goals.{Start}
 use Rattle.coverage.proofs.scissors.run.Goals as goal
 
-abbrev start : goal.Start → Num
+abbrev start : Start → Num
 start c = param w32 c.args.start c.ranges.start
 
-abbrev size : goal.Start → Num
+abbrev size : Start → Num
 size c = param w32 c.args.size c.ranges.size
 
-abbrev end : goal.Start → Num
+abbrev end : Start → Num
 end c = add (keep w64 (start c) tt) (keep w64 (size c) tt)
 
 pub overflow_cast-result : goal.overflow_cast-result

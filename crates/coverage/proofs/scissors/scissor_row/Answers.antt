@@ -4,13 +4,12 @@ use mathlib.Core.Bool.{Bool, ◌||◌}
 use Prim.Native.Nat.{ℕ, ◌+◌, ◌-◌, ◌≤◌, ◌<◌}
 use native.Mathlib.Omega.{arith}
 use lib.ListN.{length}
-use Rattle.lists.specs.Lists.{tab, over}
+use Rattle.lists.specs.Lists.{tab}
 use Rattle.lists.proofs.Laws.{tab_all, tab_length, over_length}
 use Rattle.coverage.specs.Scissors.{in_scissors}
 use Rattle.coverage.specs.Scanline.{in_span}
 use Rattle.coverage.proofs.Rectangles.{spans_are, four_same}
 use Rattle.coverage.proofs.Borders.{pixel, stretch_cut}
-use borrow.Author.Rules.{rules}
 use Rattle.coverage.proofs.scissors.scissor_row.Goals as goal
 use Rattle.coverage.proofs.scissors.scissor_row.Tie as tie
 use Rattle.coverage.proofs.scissors.scissor_row.Lts as lts
@@ -33,7 +32,7 @@ abbrev e : (c : lts.After-nearest_border tie.the-claims reads.Pre reads.Post goa
 e c = c.nearest_border.result - (x c)
 
 within : (c : lts.After-nearest_border tie.the-claims reads.Pre reads.Post goal.the-invariant-loop-i goal.the-decreases-loop-i tie.handed_clauses) → (c.loop-i.i < (e c)) × ((e c) ≤ length c.args.cover.now)
-within c = (omega (arith, c.nearest_border.ensures.lower_bound), omega (arith, c.nearest_border.ensures.lower_bound, c.loop-i.inv.1))
+within c = (omega (arith, c.nearest_border.ensures.lower_bound), omega (arith, c.nearest_border.ensures.lower_bound, c.loop-i.invariant.1))
 
 alike : (c : lts.After-nearest_border tie.the-claims reads.Pre reads.Post goal.the-invariant-loop-i goal.the-decreases-loop-i tie.handed_clauses) → (keep : Bool) → keep ≡ columns-held c.before.before.before ((x c) + c.loop-i.i) → (m : ℕ) → c.loop-i.i ≤ m → m < (e c)
     → keep ≡ in_scissors c.args.scissors.now c.args.n ((x c) + m) c.args.y
@@ -56,7 +55,7 @@ loop-i-preserved c =
     let a = c.args in
     let laid =
     stretch_cut a.scissors.now a.n a.x a.y a.cover.now c.loop-i.cover c.cut.new.part c.loop-i.i (e c.before.before.before.before.before.before)
-    c.kept-keep.result (omega (arith, within c.before.before.before.before.before.before)) (within c.before.before.before.before.before.before).1 c.loop-i.inv.1 c.loop-i.inv.2
+    c.kept-keep.result (omega (arith, within c.before.before.before.before.before.before)) (within c.before.before.before.before.before.before).1 c.loop-i.invariant.1 c.loop-i.invariant.2
     (alike c.before.before.before.before.before.before c.kept-keep.result c.kept-keep.ensures) c.cut.ensures
     in (
       (within c.before.before.before.before.before.before).1,

@@ -9,14 +9,13 @@ use Rattle.fixed.proofs.Signed.{back}
 use Rattle.coverage.specs.declared.Span.{Span}
 use Rattle.coverage.specs.Scanline.{in_span, run_of}
 use Rattle.coverage.proofs.Rectangles.{span_past, span_of_lem}
-use borrow.Author.Rules.{rules}
 use Rattle.coverage.proofs.scissors.span.Goals as goal
 use Rattle.coverage.proofs.scissors.span.Tie as tie
 use Rattle.coverage.proofs.scissors.span.Lts as lts
 use Rattle.coverage.proofs.scissors.span.Reads as reads
 
 -- what the test of the row tells
-row-held : (c : lts.After-in_span tie.the-claims reads.Pre reads.Post tie.handed_clauses)
+row-held : (c : lts.After-in_span tie.the-claims reads.Pre reads.Post)
     → c.in_span.result
     ≡ in_span (run_of (i32_at c.args.scissors.now (16 * c.args.r + 4)) (i32_at c.args.scissors.now (16 * c.args.r + 12)))
     c.args.y

@@ -1,18 +1,17 @@
 -- `coverage::walk::group_from` meets its contract. Assumes nothing.
 use mathlib.Core.Path.{◌≡◌, sym, subst}
-use Prim.Native.Nat.{ℕ, ◌+◌, ◌-◌, ◌*◌, ◌≤◌, min}
+use Prim.Native.Nat.{ℕ, ◌+◌, ◌-◌, ◌*◌, min}
 use native.Mathlib.Omega.{arith}
 use lib.ListN.{length}
 use Rattle.coverage.specs.Marks.{Blank}
 use Rattle.coverage.proofs.Groups.{blank_none, blank_more, blank_begin}
-use borrow.Author.Rules.{rules}
 use Rattle.coverage.proofs.walk.group_from.Goals as goal
 use Rattle.coverage.proofs.walk.group_from.Tie as tie
 use Rattle.coverage.proofs.walk.group_from.Lts as lts
 use Rattle.coverage.proofs.walk.group_from.Reads as reads
 
 -- blank up to where the marks of group h begin
-begin : (c : lts.After-least tie.the-claims reads.Pre reads.Post goal.the-invariant-loop-h goal.the-decreases-loop-h tie.handed_clauses)
+begin : (c : lts.After-least tie.the-claims reads.Pre reads.Post goal.the-invariant-loop-h goal.the-decreases-loop-h)
     → let a = c.args in
     let m = a.marks.now in
     Blank m (min (a.g * 64) (length m)) (min (c.loop-h.h * 64 + (64 - c.least-back.result)) (length m))

@@ -1,11 +1,7 @@
 -- `coverage::walk::group_from` meets its contract. Assumes nothing.
-use mathlib.Core.Path.{◌≡◌, sym, subst}
-use Prim.Native.Nat.{ℕ, ◌+◌, ◌-◌, ◌*◌, ◌≤◌, min}
-use native.Mathlib.Omega.{arith}
+use Prim.Native.Nat.{◌-◌, ◌*◌, ◌≤◌, min}
 use lib.ListN.{length}
 use Rattle.coverage.specs.Marks.{Blank}
-use Rattle.coverage.proofs.Groups.{blank_none, blank_more, blank_begin}
-use borrow.Author.Rules.{rules}
 use Rattle.coverage.proofs.walk.group_from.Given as goal
 
 -- `coverage::walk::group_from` meets its contract. Assumes nothing.

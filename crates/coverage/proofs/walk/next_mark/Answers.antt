@@ -3,7 +3,6 @@ use Prim.Native.Nat.{◌+◌, ◌*◌, ◌/◌, min}
 use native.Mathlib.Omega.{arith}
 use lib.ListN.{length}
 use Rattle.coverage.proofs.Groups.{blank_none, blank_more, blank_past}
-use borrow.Author.Rules.{rules}
 use Rattle.coverage.proofs.walk.next_mark.Goals as goal
 
 pub returns-then-marks-p : goal.returns-then-marks-p

@@ -1,10 +1,9 @@
 -- `coverage::walk::scan` meets its contract. Assumes nothing.
 use mathlib.Core.Path.{◌≡◌, subst}
-use Prim.Native.Nat.{◌+◌, ◌-◌, ◌≤◌}
+use Prim.Native.Nat.{◌+◌}
 use native.Mathlib.Omega.{arith}
 use Rattle.coverage.specs.Marks.{Blank}
 use Rattle.coverage.proofs.Groups.{blank_none, blank_one, blank_more}
-use borrow.Author.Rules.{rules}
 use Rattle.coverage.proofs.walk.scan.Goals as goal
 
 pub loop-e-init : goal.loop-e-init

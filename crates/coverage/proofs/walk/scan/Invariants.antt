@@ -1,10 +1,6 @@
 -- `coverage::walk::scan` meets its contract. Assumes nothing.
-use mathlib.Core.Path.{◌≡◌, subst}
-use Prim.Native.Nat.{◌+◌, ◌-◌, ◌≤◌}
-use native.Mathlib.Omega.{arith}
+use Prim.Native.Nat.{◌-◌, ◌≤◌}
 use Rattle.coverage.specs.Marks.{Blank}
-use Rattle.coverage.proofs.Groups.{blank_none, blank_one, blank_more}
-use borrow.Author.Rules.{rules}
 use Rattle.coverage.proofs.walk.scan.Given as goal
 
 -- `coverage::walk::scan` meets its contract. Assumes nothing.

@@ -11,7 +11,6 @@ use Rattle.coverage.specs.Scanline.{pixel_of}
 use Rattle.coverage.specs.Marks.{Blank}
 use Rattle.coverage.proofs.Cells.{stands_bounded, numbers_stand}
 use Rattle.coverage.proofs.Walked.{Walked, Longer, no_cell, pixel_le, walked_first, walked_blank, cell_count, cell_full, walked_cell, walked_sums}
-use borrow.Author.Rules.{rules}
 use Rattle.coverage.proofs.walk.take_runs.Goals as goal
 use Rattle.coverage.proofs.walk.take_runs.Tie as tie
 use Rattle.coverage.proofs.walk.take_runs.Lts as lts

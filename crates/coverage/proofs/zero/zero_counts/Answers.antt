@@ -1,9 +1,8 @@
 -- `coverage::zero::zero_counts` meets its contract. Assumes nothing.
-use mathlib.Core.Path.{◌≡◌, refl}
-use Prim.Native.Nat.{ℕ, ◌-◌, ◌≤◌}
+use mathlib.Core.Path.{refl}
+use Prim.Native.Nat.{ℕ}
 use native.Mathlib.Omega.{arith}
 use lib.ListN.{length, length-set}
-use Rattle.lists.specs.Lists.{tab, over}
 use Rattle.lists.proofs.Laws.{tab_turn, tab_all}
 use borrow.Author.Rules.{rules}
 use Rattle.coverage.proofs.zero.zero_counts.Goals as goal

@@ -2,7 +2,6 @@
 use mathlib.Core.Path.{sym, ap, ◌∙◌}
 use Prim.Native.Nat.{ℕ, ◌<◌}
 use native.Mathlib.Omega.{arith}
-use borrow.Author.Rules.{rules}
 use Rattle.path.specs.Boxes.{box_of}
 use Rattle.path.specs.Stored.{edges_of}
 use Rattle.outline.specs.Corners.{pixels_of}

@@ -1,11 +1,8 @@
 -- `outline::bounds::corners` meets its contract: the corners of the edges passed.
-use mathlib.Core.Path.{◌≡◌, ap, ap₂, ◌∙◌}
-use Prim.Native.Nat.{ℕ, ◌-◌, ◌≤◌, ◌<◌}
-use native.Mathlib.Omega.{arith}
-use borrow.Author.Rules.{rules}
+use mathlib.Core.Path.{◌≡◌}
+use Prim.Native.Nat.{◌-◌, ◌≤◌, ◌<◌}
 use Rattle.path.specs.Stored.{edges_of}
-use Rattle.outline.specs.Corners.{ordered_of, grown_by, corners}
-use Rattle.outline.proofs.Outermost.{corners_first, corners_next}
+use Rattle.outline.specs.Corners.{corners}
 use Rattle.outline.proofs.bounds.corners.Given as goal
 
 -- `outline::bounds::corners` meets its contract: the corners of the edges passed.

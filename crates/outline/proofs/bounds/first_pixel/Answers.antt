@@ -1,6 +1,5 @@
 -- `outline::bounds::first_pixel` meets its contract.
 use mathlib.Core.Path.{ap, ◌∙◌}
-use borrow.Author.Rules.{rules}
 use Rattle.path.specs.Boxes.{within}
 use Rattle.outline.proofs.Outermost.{pixel}
 use Rattle.outline.proofs.bounds.first_pixel.Goals as goal

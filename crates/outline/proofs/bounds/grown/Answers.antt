@@ -1,7 +1,7 @@
 -- `outline::bounds::grown` meets its contract.
 use mathlib.Core.Path.{ap, ◌∙◌}
 use mathlib.Core.Bool.{false, true}
-use borrow.Author.Rules.{rules, sfits_of}
+use borrow.Author.Rules.{sfits_of}
 use Rattle.path.specs.declared.Edge.{Edge}
 use Rattle.path.specs.Boxes.{outer}
 use Rattle.outline.proofs.Outermost.{outer_told}

@@ -1,6 +1,6 @@
 -- `outline::bounds::ordered` meets its contract.
 use mathlib.Core.Bool.{false, true}
-use borrow.Author.Rules.{rules, sfits_of}
+use borrow.Author.Rules.{sfits_of}
 use Rattle.outline.proofs.Outermost.{outer_told}
 use Rattle.outline.proofs.bounds.ordered.Goals as goal
 

@@ -8,12 +8,11 @@ use mir.Facts.{to_z-of_z}
 use Rattle.path.specs.Boxes.{outer}
 use Rattle.fixed.proofs.Signed.{le_back}
 use Rattle.outline.proofs.bounds.outer_of.Goals as goal
-use Rattle.outline.proofs.bounds.outer_of.Tie as tie
 use Rattle.outline.proofs.bounds.outer_of.Lts as lts
 use Rattle.outline.proofs.bounds.outer_of.Reads as reads
 
 -- the first test
-told : (s : lts.Start reads.Pre reads.Post tie.handed_clauses) {t : Bool} → le_z (to_z w32 (of_z w32 s.args.a)) (to_z w32 (of_z w32 s.args.b)) ≡ t → le_z s.args.a s.args.b ≡ t
+told : (s : lts.Start reads.Pre reads.Post) {t : Bool} → le_z (to_z w32 (of_z w32 s.args.a)) (to_z w32 (of_z w32 s.args.b)) ≡ t → le_z s.args.a s.args.b ≡ t
 told s e = le_back w32 s.args.a s.args.b s.ranges.a s.ranges.b e
 
 pub returns-then-greater : goal.returns-then-greater

@@ -1,7 +1,6 @@
 -- `outline::bounds::past_pixel` meets its contract.
 use mathlib.Core.Path.{ap, ◌∙◌}
 use mir.Syntax.{w32}
-use borrow.Author.Rules.{rules}
 use Rattle.fixed.proofs.Means.{Num, need, keep, lit, add}
 use Rattle.path.specs.Boxes.{within}
 use Rattle.outline.proofs.Outermost.{pixel}

@@ -5,7 +5,7 @@ use mir.Syntax.{w32}
 use mir.Val.{SFits, to_z, of_z}
 use mir.Facts.{to_z-of_z}
 use Prim.Native.Nat.{ℕ}
-use borrow.Author.Rules.{rules, sfits_of}
+use borrow.Author.Rules.{sfits_of}
 use Rattle.fixed.specs.Floor.{floor_div}
 use Rattle.path.specs.Boxes.{within}
 use Rattle.outline.proofs.bounds.pixels.Goals as goal

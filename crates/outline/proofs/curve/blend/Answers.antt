@@ -53,8 +53,7 @@ quad c =
 
 three : (c : goal.Else-degree-eq2) → c.args.degree ≡ 3
 three c =
-    let pre = c.requires in
-    let f = pre.0 in omega (arith, f.some, f.most)
+    let f = c.requires.full in omega (arith, f.some, f.most)
 
 abbrev cubic : (c : goal.Else-degree-eq2) → Num
 cubic c =

@@ -1,6 +1,5 @@
 -- `outline::curve::cubic_weights` meets its contract.
 use native.Mathlib.Omega.{arith}
-use borrow.Author.Rules.{rules}
 use Rattle.outline.proofs.Bezier.{square, cube}
 use Rattle.outline.proofs.curve.cubic_weights.Goals as goal
 

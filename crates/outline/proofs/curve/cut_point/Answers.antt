@@ -5,7 +5,6 @@ use lib.IntN.{ℤ, nat_abs}
 use lib.Signed.{mag}
 use mir.Syntax.{w32}
 use mir.Val.{to_z, of_z}
-use borrow.Author.Rules.{rules}
 use Rattle.fixed.proofs.Signed.{back, clean}
 use Rattle.path.specs.Curves.{cut}
 use Rattle.outline.specs.declared.Weights.{Weights}

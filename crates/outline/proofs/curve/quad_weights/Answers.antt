@@ -1,6 +1,5 @@
 -- `outline::curve::quad_weights` meets its contract.
 use native.Mathlib.Omega.{arith}
-use borrow.Author.Rules.{rules}
 use Rattle.outline.proofs.Bezier.{square}
 use Rattle.outline.proofs.curve.quad_weights.Goals as goal
 

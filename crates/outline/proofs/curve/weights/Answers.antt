@@ -1,7 +1,6 @@
 -- `outline::curve::weights` meets its contract.
 use mathlib.Core.Path.{◌∙◌}
 use native.Mathlib.Omega.{arith}
-use borrow.Author.Rules.{rules}
 use Rattle.outline.proofs.Bezier.{quad, cubic, quad_weights_lem, cubic_weights_lem, weights_told}
 use Rattle.outline.proofs.curve.weights.Goals as goal
 

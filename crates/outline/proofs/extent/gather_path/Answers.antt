@@ -1,18 +1,16 @@
 -- `outline::extent::gather_path` meets its contract: what is kept has the box of the segments passed, whatever follows.
 use mathlib.Core.Path.{◌≡◌, refl, sym, subst, ◌∙◌}
-use Prim.Native.Nat.{◌-◌, ◌≤◌}
 use native.Mathlib.Omega.{arith}
-use lib.ListN.{length, get_or}
+use lib.ListN.{get_or}
 use borrow.Author.Rules.{rules}
 use Rattle.path.specs.declared.Walk.{Walk}
 use Rattle.path.specs.declared.Curve.{Curve}
 use Rattle.path.specs.Matrices.{transform}
-use Rattle.path.specs.Segments.{line_to, drawn_by, walk_to}
+use Rattle.path.specs.Segments.{line_to, drawn_by}
 use Rattle.path.specs.Curves.{transform_curve, drawn_edges, edges_to}
 use Rattle.path.specs.Stored.{edges_of}
 use Rattle.path.specs.Limits.{Supplied}
 use Rattle.outline.specs.Asked.{PenPlaced, CurvePlaced}
-use Rattle.outline.specs.Alike.{Alike}
 use Rattle.outline.proofs.Counts.{curve_count}
 use Rattle.outline.proofs.Sizes.{curve_placed, segment_supplied, pen_placed}
 use Rattle.outline.proofs.Merged.{alike_same, alike_trans, alike_more, stored_alike}

@@ -2,7 +2,6 @@
 use Prim.Native.Nat.{◌≤◌}
 use native.Mathlib.Omega.{arith}
 use lib.ListN.{length}
-use borrow.Author.Rules.{rules}
 use Rattle.path.specs.Matrices.{transform}
 use Rattle.path.specs.Segments.{drawn_by}
 use Rattle.path.specs.Curves.{transform_curve, drawn_edges}
@@ -16,7 +15,7 @@ few s = curve_count (transform s.args.m s.args.pen.current) (transform_curve s.a
 pub store_segment-all-requires : goal.store_segment-all-requires
 store_segment-all-requires c =
     let h = c.requires in
-    record { n_in_bounds = omega (arith, h); limited = h.1 }
+    record { n_in_bounds = omega (arith, h.n_bound); limited = h.limited }
 
 pub merge-requires : goal.merge-requires
 merge-requires c =
@@ -29,8 +28,8 @@ returns c =
     let e = c.store_segment-all in
     let r = c.merge.ensures in
     record {
-      alike = alike_trans r.0
+      alike = alike_trans r.alike
           (stored_alike a.ends.now _ a.n (drawn_edges a.m a.pen (drawn_by a.pen a.byte a.c)) e.result e.ensures.edges_after e.ensures.value
           (omega (arith, few c.before.before.before.before.before, c.requires)));
-      upper_bound = r.1;
+      upper_bound = r.upper_bound;
     }

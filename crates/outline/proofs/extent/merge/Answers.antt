@@ -1,9 +1,10 @@
 -- `outline::extent::merge` meets its contract.
+use mir.Syntax.{w32}
 use mathlib.Core.Path.{sym, ap, ◌∙◌}
 use native.Mathlib.Omega.{arith}
 use lib.ListN.{length-set}
 use mir.Facts.{to_z-of_z}
-use borrow.Author.Rules.{rules, sfits_of}
+use borrow.Author.Rules.{sfits_of}
 use Rattle.path.specs.declared.Edge.{Edge}
 use Rattle.path.specs.Stored.{edges_of, put_edge}
 use Rattle.outline.proofs.Merged.{alike_same, merged_stored}
@@ -31,10 +32,10 @@ returns c =
     let l = c.args.ends.now in
     let n = c.args.n in
     let r = c.corners-c in
-    let x0 = to_z-of_z (sfits_of told.0.1) ∙ ap (λ (e : Edge). e.x0) r.ensures in
-    let y0 = to_z-of_z (sfits_of told.1.0.1) ∙ ap (λ (e : Edge). e.y0) r.ensures in
-    let x1 = to_z-of_z (sfits_of told.1.1.0.1) ∙ ap (λ (e : Edge). e.x1) r.ensures in
-    let y1 = to_z-of_z (sfits_of told.1.1.1.0.1) ∙ ap (λ (e : Edge). e.y1) r.ensures in
+    let x0 = to_z-of_z {w = w32} (sfits_of told.0.1) ∙ ap (λ (e : Edge). e.x0) r.ensures in
+    let y0 = to_z-of_z {w = w32} (sfits_of told.1.0.1) ∙ ap (λ (e : Edge). e.y0) r.ensures in
+    let x1 = to_z-of_z {w = w32} (sfits_of told.1.1.0.1) ∙ ap (λ (e : Edge). e.x1) r.ensures in
+    let y1 = to_z-of_z {w = w32} (sfits_of told.1.1.1.0.1) ∙ ap (λ (e : Edge). e.y1) r.ensures in
     record {
       alike = merged_stored l _ n (omega (arith, c.if-n-eq0.false)) (omega (arith, c.requires))
           (λ i. put_edge l 0 (record { x0 = x0 i; y0 = y0 i; x1 = x1 i; y1 = y1 i }));

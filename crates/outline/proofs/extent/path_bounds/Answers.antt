@@ -1,7 +1,6 @@
 -- `outline::extent::path_bounds` meets its contract.
 use mathlib.Core.Path.{◌∙◌}
 use native.Mathlib.Omega.{arith}
-use borrow.Author.Rules.{rules}
 use Rattle.outline.proofs.Merged.{alike_box}
 use Rattle.outline.proofs.extent.path_bounds.Goals as goal
 

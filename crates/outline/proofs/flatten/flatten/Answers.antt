@@ -1,15 +1,13 @@
 -- `outline::flatten::flatten` meets its contract: the edges so far are those of the segments passed.
 use mathlib.Core.Path.{◌≡◌, sym, subst, ◌∙◌}
-use Prim.Native.Nat.{◌+◌, ◌-◌, ◌≤◌}
 use native.Mathlib.Nat.{zero-add}
 use native.Mathlib.Omega.{arith}
 use lib.ListN.{length, get_or}
 use borrow.Author.Rules.{rules}
 use Rattle.path.specs.declared.Walk.{Walk}
 use Rattle.path.specs.declared.Curve.{Curve}
-use Rattle.path.specs.Segments.{line_to, drawn_by, walk_to}
+use Rattle.path.specs.Segments.{line_to, drawn_by}
 use Rattle.path.specs.Curves.{drawn_edges, edges_to, path_edges}
-use Rattle.path.specs.Stored.{put_edges}
 use Rattle.path.specs.Limits.{Supplied}
 use Rattle.outline.specs.Asked.{PenPlaced, CurvePlaced}
 use Rattle.outline.proofs.Counts.{edges_count}
@@ -63,7 +61,7 @@ loop-i-preserved c =
       search rules,
       e.auto.edges ∙ l.invariant.1,
       traced_walk a.m ss cs l.i l.walk l.invariant.2 t.result t.ensures,
-      puts_more (edges_to a.m ss cs l.i) drawn a.edges.now 0 more l.invariant.3 e.ensures,
+      puts_more (edges_to a.m ss cs l.i) drawn a.edges.now 0 more l.invariant.3 (e.ensures.edges_after, e.ensures.value),
     )
 
 pub store_closing-requires : goal.store_closing-requires
@@ -93,5 +91,5 @@ returns c =
     let last : l.i ≡ a.n = omega arith in
     let drawn = drawn_edges a.m l.walk.pen (line_to l.walk.pen.start) in
     let all = puts_more (edges_to a.m ss cs l.i) drawn a.edges.now 0 (edges_all a.m ss cs l.i l.walk l.invariant.2 a.n last) l.invariant.3
-    c.store_closing.ensures in
+    (c.store_closing.ensures.edges_after, c.store_closing.ensures.value) in
     record { edges_after = all.0; value = all.1 ∙ zero-add (length (path_edges a.m ss cs a.n)) }

@@ -1,21 +1,10 @@
 -- `outline::flatten::flatten` meets its contract: the edges so far are those of the segments passed.
-use mathlib.Core.Path.{◌≡◌, sym, subst, ◌∙◌}
+use mathlib.Core.Path.{◌≡◌}
 use Prim.Native.Nat.{◌+◌, ◌-◌, ◌≤◌}
-use native.Mathlib.Nat.{zero-add}
-use native.Mathlib.Omega.{arith}
-use lib.ListN.{length, get_or}
-use borrow.Author.Rules.{rules}
-use Rattle.path.specs.declared.Walk.{Walk}
-use Rattle.path.specs.declared.Curve.{Curve}
-use Rattle.path.specs.Segments.{line_to, drawn_by, walk_to}
-use Rattle.path.specs.Curves.{drawn_edges, edges_to, path_edges}
+use lib.ListN.{length}
+use Rattle.path.specs.Segments.{walk_to}
+use Rattle.path.specs.Curves.{edges_to}
 use Rattle.path.specs.Stored.{put_edges}
-use Rattle.path.specs.Limits.{Supplied}
-use Rattle.outline.specs.Asked.{PenPlaced, CurvePlaced}
-use Rattle.outline.proofs.Counts.{edges_count}
-use Rattle.outline.proofs.Sizes.{curve_placed, segment_supplied, pen_placed}
-use Rattle.outline.proofs.Stores.{puts_more}
-use Rattle.outline.proofs.Walked.{traced_curve, traced_walk, edges_more, edges_all}
 use Rattle.outline.proofs.flatten.flatten.Given as goal
 
 -- `outline::flatten::flatten` meets its contract: the edges so far are those of the segments passed.

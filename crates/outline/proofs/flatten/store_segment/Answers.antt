@@ -1,7 +1,6 @@
 -- `outline::flatten::store_segment` meets its contract.
 use mathlib.Core.Path.{sym, subst, ◌∙◌}
 use native.Mathlib.Omega.{arith}
-use borrow.Author.Rules.{rules}
 use Rattle.path.specs.declared.Point.{Point}
 use Rattle.outline.specs.Asked.{OnGrid}
 use Rattle.outline.proofs.Sizes.{placed_grid}
@@ -11,18 +10,16 @@ use Rattle.outline.proofs.flatten.store_segment.Goals as goal
 
 pub store_closing-requires : goal.store_closing-requires
 store_closing-requires c =
-    let h = c.requires in
-    record { n_in_bounds = omega arith; limited = (h.1.0, h.1.1.0) }
+    let h = c.requires.limited in
+    record { n_in_bounds = omega arith; limited = (h.0, h.1.0) }
 
 pub returns-then-returns : goal.returns-then-returns
 returns-then-returns c =
     let a = c.args in
-    record {
-      edges_after = (puts_same a.edges.now a.n
-          (drawn_closing a.m a.pen a.byte a.c (sym c.returns.ensures ∙ c.if-returns.true)) c.store_closing.ensures).0;
-      value = (puts_same a.edges.now a.n
-          (drawn_closing a.m a.pen a.byte a.c (sym c.returns.ensures ∙ c.if-returns.true)) c.store_closing.ensures).1;
-    }
+    let e = c.store_closing.ensures in
+    let all = puts_same a.edges.now a.n (drawn_closing a.m a.pen a.byte a.c (sym c.returns.ensures ∙ c.if-returns.true))
+    (e.edges_after, e.value) in
+    record { edges_after = all.0; value = all.1 }
 
 pub apply-from-requires : goal.apply-from-requires
 apply-from-requires c =
@@ -41,13 +38,8 @@ store_curve-requires c =
 pub returns : goal.returns
 returns c =
     let a = c.args in
-    record {
-      edges_after = (puts_same a.edges.now a.n
-          (drawn_curve a.m a.pen a.byte a.c c.apply-from.result c.transform_curve-curve.result
-          (sym c.returns.ensures ∙ c.if-returns.false) c.apply-from.ensures c.transform_curve-curve.ensures.0)
-          c.store_curve.ensures).0;
-      value = (puts_same a.edges.now a.n
-          (drawn_curve a.m a.pen a.byte a.c c.apply-from.result c.transform_curve-curve.result
-          (sym c.returns.ensures ∙ c.if-returns.false) c.apply-from.ensures c.transform_curve-curve.ensures.0)
-          c.store_curve.ensures).1;
-    }
+    let e = c.store_curve.ensures in
+    let drawn = drawn_curve a.m a.pen a.byte a.c c.apply-from.result c.transform_curve-curve.result
+    (sym c.returns.ensures ∙ c.if-returns.false) c.apply-from.ensures c.transform_curve-curve.ensures.0 in
+    let all = puts_same a.edges.now a.n drawn (e.edges_after, e.value) in
+    record { edges_after = all.0; value = all.1 }

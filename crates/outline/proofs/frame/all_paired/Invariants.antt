@@ -1,12 +1,7 @@
 -- `outline::frame::all_paired` meets its contract.
-use mathlib.Core.Path.{◌≡◌, ap, sym, ◌∙◌}
+use mathlib.Core.Path.{◌≡◌}
 use Prim.Native.Nat.{◌-◌, ◌≤◌}
-use mathlib.Core.Bool.{Bool, ◌&&◌}
-use native.Mathlib.Numerals.{add-one}
-use native.Mathlib.Omega.{arith}
-use lib.ListN.{get_or}
-use borrow.Author.Rules.{rules}
-use Rattle.outline.specs.Frames.{is_paired, paired_to}
+use Rattle.outline.specs.Frames.{paired_to}
 use Rattle.outline.proofs.frame.all_paired.Given as goal
 
 -- `outline::frame::all_paired` meets its contract.

@@ -1,6 +1,5 @@
 -- `outline::frame::corner_box` meets its contract.
 use mathlib.Core.Path.{ap, ◌∙◌}
-use borrow.Author.Rules.{rules}
 use Rattle.path.specs.declared.Edge.{Edge}
 use Rattle.path.specs.Matrices.{transform}
 use Rattle.path.specs.Curves.{edge}

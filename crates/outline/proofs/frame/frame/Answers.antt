@@ -1,5 +1,4 @@
 -- `outline::frame::frame` meets its contract.
-use borrow.Author.Rules.{rules}
 use Rattle.outline.proofs.Frames.{framed_taken}
 use Rattle.outline.proofs.frame.frame.Goals as goal
 

@@ -1,7 +1,6 @@
 -- `outline::frame::is_paired` meets its contract.
 use native.Mathlib.Omega.{arith}
 use lib.ListN.{get_or}
-use borrow.Author.Rules.{rules}
 use borrow.Author.Tests.{le-leb, eq-eqb, ne_eqb}
 use Rattle.outline.proofs.frame.is_paired.Goals as goal
 

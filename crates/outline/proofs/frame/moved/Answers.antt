@@ -1,6 +1,5 @@
 -- `outline::frame::moved` meets its contract.
 use mathlib.Core.Path.{ap, ap₂, ◌∙◌}
-use borrow.Author.Rules.{rules}
 use Rattle.path.specs.Matrices.{transform}
 use Rattle.path.specs.Curves.{edge}
 use Rattle.outline.specs.Frames.{from_end, to_end}

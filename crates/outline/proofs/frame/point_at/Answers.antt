@@ -1,6 +1,5 @@
 -- `outline::frame::point_at` meets its contract.
 use mathlib.Core.Path.{◌∙◌}
-use borrow.Author.Rules.{rules}
 use mir.Syntax.{w32}
 use Rattle.fixed.proofs.Signed.{clean}
 use Rattle.outline.specs.Frames.{point_of}

@@ -1,12 +1,6 @@
 -- `outline::frame::point_box` meets its contract: the box holds the points passed.
-use mathlib.Core.Path.{◌≡◌, ap, subst, ◌∙◌}
-use Prim.Native.Nat.{ℕ, ◌-◌, ◌≤◌}
-use native.Mathlib.Omega.{arith}
-use lib.Dec.{lit≤}
-use borrow.Author.Rules.{rules}
-use Rattle.outline.specs.Corners.{grown_by}
+use Prim.Native.Nat.{◌-◌, ◌≤◌}
 use Rattle.outline.specs.Frames.{Framed, NearEnds}
-use Rattle.outline.proofs.Frames.{framed_none, framed_more, near_more}
 use Rattle.outline.proofs.frame.point_box.Given as goal
 
 -- `outline::frame::point_box` meets its contract: the box holds the points passed.

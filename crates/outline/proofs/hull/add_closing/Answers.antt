@@ -1,7 +1,6 @@
 -- `outline::hull::add_closing` meets its contract.
 use mathlib.Core.Path.{refl, sym, ap, subst, ◌∙◌}
 use mathlib.Core.List.{List}
-use borrow.Author.Rules.{rules}
 use Rattle.path.specs.declared.Edge.{Edge}
 use Rattle.path.specs.Matrices.{transform}
 use Rattle.outline.specs.Corners.{grown_by}

@@ -1,7 +1,6 @@
 -- `outline::hull::add_segment` meets its contract.
 use mathlib.Core.Path.{refl, sym, ap, ap₂, subst, ◌∙◌}
 use mathlib.Core.List.{List}
-use borrow.Author.Rules.{rules}
 use Rattle.path.specs.declared.Edge.{Edge}
 use Rattle.path.specs.Curves.{edge, transform_curve}
 use Rattle.outline.specs.Corners.{grown_by}

@@ -1,6 +1,5 @@
 -- `outline::hull::path_hull` meets its contract.
 use mathlib.Core.Path.{sym, subst}
-use borrow.Author.Rules.{rules}
 use Rattle.rect.specs.declared.Rect.{Rect}
 use Rattle.rect.specs.Rects.{Holds}
 use Rattle.path.specs.Boxes.{box_of}

@@ -1,14 +1,13 @@
 -- `outline::hull::surround` meets its contract: the box is around the edges of the segments passed.
 use mathlib.Core.Path.{◌≡◌, sym, subst}
 use mathlib.Core.List.{List}
-use Prim.Native.Nat.{◌-◌, ◌≤◌}
 use native.Mathlib.Omega.{arith}
 use lib.ListN.{get_or}
 use borrow.Author.Rules.{rules}
 use Rattle.path.specs.declared.Edge.{Edge}
 use Rattle.path.specs.declared.Walk.{Walk}
 use Rattle.path.specs.declared.Curve.{Curve}
-use Rattle.path.specs.Segments.{line_to, drawn_by, walk_to}
+use Rattle.path.specs.Segments.{line_to, drawn_by}
 use Rattle.path.specs.Curves.{drawn_edges, edges_to}
 use Rattle.path.specs.Limits.{Supplied}
 use Rattle.outline.specs.Asked.{PenPlaced, CurvePlaced}

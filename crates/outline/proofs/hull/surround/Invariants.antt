@@ -1,21 +1,9 @@
 -- `outline::hull::surround` meets its contract: the box is around the edges of the segments passed.
-use mathlib.Core.Path.{◌≡◌, sym, subst}
-use mathlib.Core.List.{List}
+use mathlib.Core.Path.{◌≡◌}
 use Prim.Native.Nat.{◌-◌, ◌≤◌}
-use native.Mathlib.Omega.{arith}
-use lib.ListN.{get_or}
-use borrow.Author.Rules.{rules}
-use Rattle.path.specs.declared.Edge.{Edge}
-use Rattle.path.specs.declared.Walk.{Walk}
-use Rattle.path.specs.declared.Curve.{Curve}
-use Rattle.path.specs.Segments.{line_to, drawn_by, walk_to}
-use Rattle.path.specs.Curves.{drawn_edges, edges_to}
-use Rattle.path.specs.Limits.{Supplied}
-use Rattle.outline.specs.Asked.{PenPlaced, CurvePlaced}
+use Rattle.path.specs.Segments.{walk_to}
+use Rattle.path.specs.Curves.{edges_to}
 use Rattle.outline.specs.Around.{Around}
-use Rattle.outline.proofs.Around.{around_none, around_more}
-use Rattle.outline.proofs.Sizes.{curve_placed, segment_supplied, pen_placed}
-use Rattle.outline.proofs.Walked.{traced_curve, traced_walk, edges_more, edges_all}
 use Rattle.outline.proofs.hull.surround.Given as goal
 
 -- `outline::hull::surround` meets its contract: the box is around the edges of the segments passed.

@@ -11,7 +11,7 @@ use Rattle.outline.proofs.store.same_point.Tie as tie
 use Rattle.outline.proofs.store.same_point.Lts as lts
 use Rattle.outline.proofs.store.same_point.Reads as reads
 
-told : (c : lts.After-same tie.the-claims reads.Pre reads.Post tie.handed_clauses) → c.same.result ≡ equal c.args.a.x c.args.b.x
+told : (c : lts.After-same tie.the-claims reads.Pre reads.Post) → c.same.result ≡ equal c.args.a.x c.args.b.x
 told c =
     let f : SFits w32 c.args.a.x = search rules in
     let g : SFits w32 c.args.b.x = search rules in

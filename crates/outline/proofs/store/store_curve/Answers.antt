@@ -1,12 +1,9 @@
 -- `outline::store::store_curve` meets its contract.
 use mathlib.Core.Path.{◌≡◌, sym, ap, ◌∙◌}
-use Prim.Native.Nat.{◌+◌, ◌-◌, ◌≤◌}
 use native.Mathlib.Nat.{add-zero}
 use native.Mathlib.Omega.{arith}
-use lib.ListN.{length}
 use borrow.Author.Rules.{rules}
-use Rattle.path.specs.Curves.{cut_point, edge_between}
-use Rattle.path.specs.Stored.{put_edges}
+use Rattle.path.specs.Curves.{edge_between}
 use Rattle.outline.proofs.Counts.{pieces, pieces_count, pieces_more, curve_line, curve_pieces}
 use Rattle.outline.proofs.Stores.{puts_more, puts_same}
 use Rattle.outline.proofs.store.store_curve.Goals as goal
@@ -15,7 +12,9 @@ pub returns-then-c-eq1 : goal.returns-then-c-eq1
 returns-then-c-eq1 c =
     let if1 = c.if-c-eq1 in
     let a = c.args in
-    record { edges_after = (puts_same a.edges.now a.n (sym (curve_line a.o a.c if1.true)) c.store_edge.ensures).0; value = (puts_same a.edges.now a.n (sym (curve_line a.o a.c if1.true)) c.store_edge.ensures).1 }
+    let e = c.store_edge.ensures in
+    let all = puts_same a.edges.now a.n (sym (curve_line a.o a.c if1.true)) (e.edges_after, e.value) in
+    record { edges_after = all.0; value = all.1 }
 
 pub cut_point-from-requires : goal.cut_point-from-requires
 cut_point-from-requires c =
@@ -48,7 +47,7 @@ loop-k-preserved c =
       e.auto.edges ∙ l.invariant.1,
       to.ensures.0,
       puts_more (pieces a.o a.c l.k) (edge_between l.from to.result) a.edges.now
-          a.n more l.invariant.3 e.ensures,
+          a.n more l.invariant.3 (e.ensures.edges_after, e.ensures.value),
     )
 
 pub returns : goal.returns
@@ -57,4 +56,5 @@ returns c =
     let a = c.args in
     let l = c.loop-k in
     let last : l.k ≡ 16 = omega arith in
-    record { edges_after = (puts_same a.edges.now a.n (ap (pieces a.o a.c) last ∙ sym (curve_pieces a.o a.c if1.false)) l.invariant.3).0; value = (puts_same a.edges.now a.n (ap (pieces a.o a.c) last ∙ sym (curve_pieces a.o a.c if1.false)) l.invariant.3).1 }
+    let all = puts_same a.edges.now a.n (ap (pieces a.o a.c) last ∙ sym (curve_pieces a.o a.c if1.false)) l.invariant.3 in
+    record { edges_after = all.0; value = all.1 }

@@ -1,14 +1,10 @@
 -- `outline::store::store_curve` meets its contract.
-use mathlib.Core.Path.{◌≡◌, sym, ap, ◌∙◌}
+use mathlib.Core.Path.{◌≡◌}
 use Prim.Native.Nat.{◌+◌, ◌-◌, ◌≤◌}
-use native.Mathlib.Nat.{add-zero}
-use native.Mathlib.Omega.{arith}
 use lib.ListN.{length}
-use borrow.Author.Rules.{rules}
-use Rattle.path.specs.Curves.{cut_point, edge_between}
+use Rattle.path.specs.Curves.{cut_point}
 use Rattle.path.specs.Stored.{put_edges}
-use Rattle.outline.proofs.Counts.{pieces, pieces_count, pieces_more, curve_line, curve_pieces}
-use Rattle.outline.proofs.Stores.{puts_more, puts_same}
+use Rattle.outline.proofs.Counts.{pieces}
 use Rattle.outline.proofs.store.store_curve.Given as goal
 
 -- `outline::store::store_curve` meets its contract.

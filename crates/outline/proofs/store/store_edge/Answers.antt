@@ -12,7 +12,8 @@ use Rattle.outline.proofs.store.store_edge.Goals as goal
 pub returns-then-same_point : goal.returns-then-same_point
 returns-then-same_point c =
     let a = c.args in
-    record { edges_after = (none_put a.edges.now a.n a.a a.b (sym c.same_point.ensures ∙ c.if-same_point.true)).0; value = (none_put a.edges.now a.n a.a a.b (sym c.same_point.ensures ∙ c.if-same_point.true)).1 }
+    let put = none_put a.edges.now a.n a.a a.b (sym c.same_point.ensures ∙ c.if-same_point.true) in
+    record { edges_after = put.0; value = put.1 }
 
 pub bounds-edges-at-2 : goal.bounds-edges-at-2
 bounds-edges-at-2 c =
@@ -33,9 +34,5 @@ returns c =
     let y0 : SFits w32 a.a.y = search rules in
     let x1 : SFits w32 a.b.x = search rules in
     let y1 : SFits w32 a.b.y = search rules in
-    record {
-      edges_after = (rw (to_z-of_z x0, to_z-of_z y0, to_z-of_z x1, to_z-of_z y1)
-          (one_put a.edges.now a.n a.a a.b (sym c.same_point.ensures ∙ c.if-same_point.false))).0;
-      value = (rw (to_z-of_z x0, to_z-of_z y0, to_z-of_z x1, to_z-of_z y1)
-          (one_put a.edges.now a.n a.a a.b (sym c.same_point.ensures ∙ c.if-same_point.false))).1;
-    }
+    let put = one_put a.edges.now a.n a.a a.b (sym c.same_point.ensures ∙ c.if-same_point.false) in
+    record { edges_after = rw (to_z-of_z x0, to_z-of_z y0, to_z-of_z x1, to_z-of_z y1) put.0; value = put.1 }
