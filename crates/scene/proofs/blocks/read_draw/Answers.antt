@@ -10,11 +10,8 @@ use Rattle.scene.specs.Layout.{block_bytes, payload_bytes, draw_blocks}
 use Rattle.scene.specs.Blocks.{draw_of, block_of}
 use Rattle.scene.proofs.Copies.{part_kept, part_turn}
 use borrow.Author.Rules.{rules}
+use Rattle.scene.proofs.blocks.read_draw.Invariants.{payload}
 use Rattle.scene.proofs.blocks.read_draw.Goals as goal
-
--- the payload of block k of draw i
-abbrev payload : List ℕ → ℕ → ℕ → List ℕ
-payload s i k = take payload_bytes (drop (block_bytes * (block_of i + k)) s)
 
 -- the part that is lent has the bytes of a payload
 lent : (out : List ℕ) (j : ℕ) → payload_bytes * j + payload_bytes ≤ length out

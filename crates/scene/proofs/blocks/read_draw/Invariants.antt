@@ -12,6 +12,10 @@ use Rattle.scene.proofs.Copies.{part_kept, part_turn}
 use borrow.Author.Rules.{rules}
 use Rattle.scene.proofs.blocks.read_draw.Given as goal
 
+-- the payload of block k of draw i
+abbrev pub payload : List ℕ → ℕ → ℕ → List ℕ
+payload s i k = take payload_bytes (drop (block_bytes * (block_of i + k)) s)
+
 abbrev pub invariant-loop-j : goal.invariant-loop-j
 invariant-loop-j l =
     (l.j ≤ draw_blocks) × (length l.out ≡ length l.initial.out) × (take (payload_bytes * l.j) l.out ≡ upto l.j (payload l.s l.i))

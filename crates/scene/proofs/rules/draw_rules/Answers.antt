@@ -115,9 +115,8 @@ returns-then-flat-ne-ACCEPTED c =
 
 pub path_rules-requires : goal.path_rules-requires
 path_rules-requires c =
-    λ c κs.
-    let measured = at-lists (at-transform (at-flat c)) in
-    record { d_len = (((search rules, (counted (at-floats measured)).segments), within measured) c).0; d_value = (((search rules, (counted (at-floats measured)).segments), within measured) c).1 }
+    let measured = c.before.before.before.before.before.before.before.before.before.before in
+    record { d_len = (search rules, (counted measured.before.before.before).segments); d_value = within measured }
 
 pub returns : goal.returns
 unfolding draw_rules

@@ -9,7 +9,10 @@ use Rattle.scene.proofs.rules.focal_rule.Goals as goal
 pub fixed_circle-requires : goal.fixed_circle-requires
 fixed_circle-requires c =
     let a = limits c.args.d.now radial_limit radial_at radial_floats c.requires.1 in
-    record { cx_value = (rw c.radial_points.ensures ((a 0 (omega arith), a 1 (omega arith)), (a 2 (omega arith), a 3 (omega arith), a 4 (omega arith)))).0; fx_value = (rw c.radial_points.ensures ((a 0 (omega arith), a 1 (omega arith)), (a 2 (omega arith), a 3 (omega arith), a 4 (omega arith)))).1 }
+    record {
+      cx_value = rw c.radial_points.ensures (a 0 (omega arith), a 1 (omega arith));
+      fx_value = rw c.radial_points.ensures (a 2 (omega arith), a 3 (omega arith), a 4 (omega arith));
+    }
 
 pub returns : goal.returns
 unfolding focal_rule

@@ -14,14 +14,8 @@ use Rattle.scene.specs.Faults.{accepted, fault, first_fault, demand}
 use Rattle.scene.specs.Rules.{check_faults_from}
 use Rattle.scene.proofs.First.{demands_turn, demands_hit}
 use borrow.Author.Rules.{rules}
+use Rattle.scene.proofs.verdict.check_faults.Invariants.{right, wrong}
 use Rattle.scene.proofs.verdict.check_faults.Goals as goal
-
--- block j of draw i has its check, or is the fault
-abbrev right : List ℕ → ℕ → ℕ → Bool
-right s i j = block_right s (block_of i + j)
-
-abbrev wrong : ℕ → ℕ → Fault
-wrong i j = fault bad_checksum i (block_bytes * (block_of i + j) + payload_bytes)
 
 pub returns-then-not-block_right : goal.returns-then-not-block_right
 unfolding check_faults_from

@@ -16,6 +16,13 @@ use Rattle.scene.proofs.First.{demands_turn, demands_hit}
 use borrow.Author.Rules.{rules}
 use Rattle.scene.proofs.verdict.check_faults.Given as goal
 
+-- block j of draw i has its check, or is the fault
+abbrev pub right : List ℕ → ℕ → ℕ → Bool
+right s i j = block_right s (block_of i + j)
+
+abbrev pub wrong : ℕ → ℕ → Fault
+wrong i j = fault bad_checksum i (block_bytes * (block_of i + j) + payload_bytes)
+
 abbrev pub invariant-loop-j : goal.invariant-loop-j
 invariant-loop-j l = (l.j ≤ draw_blocks) × (first_fault l.j (λ k. demand (right l.s l.i k) (wrong l.i k)) ≡ accepted)
 

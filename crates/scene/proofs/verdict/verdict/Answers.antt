@@ -19,22 +19,22 @@ use Rattle.scene.proofs.verdict.verdict.Lts as lts
 use Rattle.scene.proofs.verdict.verdict.Reads as reads
 
 -- ---- what the tests passed tell: whole blocks, block 0's check, its fields
-abbrev scene : lts.Else1 tie.the-claims reads.Pre reads.Post tie.handed_clauses → List ℕ
+abbrev scene : lts.Else1 tie.the-claims reads.Pre reads.Post → List ℕ
 scene cut = cut.args.s.now
 
-abbrev lent : lts.Else1 tie.the-claims reads.Pre reads.Post tie.handed_clauses → Bool
+abbrev lent : lts.Else1 tie.the-claims reads.Pre reads.Post → Bool
 lent cut = cut.args.lent
 
-is_whole : (cut : lts.Else1 tie.the-claims reads.Pre reads.Post tie.handed_clauses) → whole (scene cut) ≡ true
+is_whole : (cut : lts.Else1 tie.the-claims reads.Pre reads.Post) → whole (scene cut) ≡ true
 is_whole cut = sym cut.whole_blocks.ensures ∙ not-false _ cut.if-not-whole_blocks.false-raw
 
-is_right : (checked : lts.Else2 tie.the-claims reads.Pre reads.Post tie.handed_clauses) → block_right (scene checked.before.before) 0 ≡ true
+is_right : (checked : lts.Else2 tie.the-claims reads.Pre reads.Post) → block_right (scene checked.before.before) 0 ≡ true
 is_right checked = sym checked.block_right.ensures ∙ not-false _ checked.if-not-block_right.false-raw
 
-calm : (read : lts.Else3 tie.the-claims reads.Pre reads.Post tie.handed_clauses) → (header_rules (scene read.before.before.before.before.before)).code ≡ 0
+calm : (read : lts.Else3 tie.the-claims reads.Pre reads.Post) → (header_rules (scene read.before.before.before.before.before)).code ≡ 0
 calm read = sym (ap (λ f. f.code) read.header_rules-header.ensures) ∙ read.if-header-ne-ACCEPTED.false
 
-long : (cut : lts.Else1 tie.the-claims reads.Pre reads.Post tie.handed_clauses) → block_bytes ≤ length (scene cut)
+long : (cut : lts.Else1 tie.the-claims reads.Pre reads.Post) → block_bytes ≤ length (scene cut)
 long cut = whole_length (scene cut) (is_whole cut)
 
 pub returns-then-not-whole_blocks : goal.returns-then-not-whole_blocks
