@@ -26,8 +26,8 @@ draw_bounds-requires c =
         subst (λ (z : ℕ). AcceptedDraw z c.read_draw.new.out) (sym c.edition.ensures)
             (subst (AcceptedDraw (edition_of a.s.now)) (sym c.read_draw.ensures) e),
       );
-      blank = (c.requires.1).0;
-      width_bound = (c.requires.1).1;
+      blank = c.requires.blank;
+      width_bound = c.requires.width_bound;
     }
 
 pub returns : goal.returns

@@ -28,4 +28,4 @@ redraw_from-requires c =
 
 pub returns : goal.returns
 returns c =
-    record { value = (c.redraw_from.ensures).0; surface_after = (c.redraw_from.ensures).1.0; scratch_after = (c.redraw_from.ensures).1.1 }
+    record { value = c.redraw_from.ensures.value; surface_after = c.redraw_from.ensures.surface_after; scratch_after = c.redraw_from.ensures.scratch_after }

@@ -50,7 +50,7 @@ returns-then-not-all_apart c =
 
 pub changes_covered-requires : goal.changes_covered-requires
 changes_covered-requires c =
-    record { accepted_scene = (c.requires).0; width_bound = (c.requires).1 }
+    record { accepted_scene = c.requires.accepted_scene; width_bound = c.requires.width_bound }
 
 pub returns : goal.returns
 returns c =
