@@ -5,7 +5,6 @@ use native.Mathlib.Omega.{arith}
 use Prim.Native.Nat.{◌≤◌}
 use lib.Dec.{leb}
 use borrow.Author.Tests.{leb-true, not-false}
-use borrow.Author.Rules.{rules}
 use Rattle.rect.proofs.Laws.{both}
 use Rattle.path.specs.Plain.{is_small, plain_to}
 use Rattle.path.proofs.Untraced.{plain_checked}
