@@ -13,7 +13,8 @@ use Rattle.path.proofs.rules.check.Tie as tie
 use Rattle.path.proofs.rules.check.Lts as lts
 use Rattle.path.proofs.rules.check.Reads as reads
 
-passed : (c : lts.Else1 tie.the-claims reads.Pre reads.Post tie.handed_clauses) → let a = c.args in (a.n ≤ 128) × ((is_small a.m ≡ true) × (plain_to a.segments.now a.n ≡ true))
+passed : (c : lts.Else1 tie.the-claims reads.Pre reads.Post tie.handed_clauses) → let a = c.args in (a.n ≤ 128) × ((is_small a.m ≡ true)
+    × (plain_to a.segments.now a.n ≡ true))
 passed c =
     let a = c.args in
     let answer = c.is_plain in
