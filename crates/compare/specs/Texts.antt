@@ -1,6 +1,6 @@
 -- A picture's text read back. A reviewer of the paper need not read it.
 use Rattle.std.specs.Prelude.{◌≡◌, Bool, true, false, cond, List, ◌∷◌, ◌++◌, ℕ, ◌+◌, ◌*◌, ◌-◌, ◌/◌, ◌%◌, ◌<◌, leb, ltb, length, get_or}
-use Rattle.io.specs.Digits.{last_digits, IsDigitCount}
+use Rattle.console.specs.Digits.{last_digits, IsDigitCount}
 use Rattle.lists.specs.Lists.{tab}
 use Rattle.text.specs.Text.{row_text}
 use Rattle.compare.specs.declared.Size.{Size}

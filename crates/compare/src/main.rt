@@ -16,15 +16,16 @@ ghost use Rattle.difference.specs.Rows.{Small};
 use crate::files::{read_row, read_size};
 use codes::{ILLEGAL_ARGUMENT, UNSUPPORTED_IMAGE_FORMAT};
 use console::Line;
-use console::files::open;
+use console::arguments::argument_count;
+use console::files::{Source, open};
 use console::usage::is_called;
 use difference::{Comparison, Found};
 
-// A picture's file: which argument names it, and its descriptor.
-#[derive(Clone, Copy)]
+// A picture's file: which argument names it, and what is read.
+#[derive(Drop)]
 pub struct Picture {
     pub argument: usize,
-    pub fd: i32,
+    pub source: Source,
 }
 
 // A picture's size as its first line has it.
@@ -47,9 +48,10 @@ const ROW_BYTES: usize = 4096;
 
 const ROW_TEXT: usize = 9216;
 
-fn main() {
+fn main(rt: HostRuntime) {
     if !is_called(
-        os::arg_count() == 3,
+        &rt,
+        argument_count(&rt) == 3,
         b"usage: compare PICTURE PICTURE\n",
         b"Compares two pictures as draw prints them, and prints `equal 0 0 0 0 0 0 0`, or `differ` and how many pixels do, the smallest\n\
         rectangle round them as X Y WIDTH HEIGHT, the largest difference and the least number of a pixel that differs. Pictures of\n\
@@ -57,57 +59,62 @@ fn main() {
     ) {
         return;
     }
-    let first = open(1);
-    if first < 0 {
+    let Some(first) = open(&rt, 1) else {
         return;
-    }
-    let second = open(2);
-    if second < 0 {
+    };
+    let Some(second) = open(&rt, 2) else {
         return;
-    }
+    };
     compare_sizes(
-        Picture {
+        &rt,
+        &mut Picture {
             argument: 1,
-            fd: first,
+            source: first,
         },
-        Picture {
+        &mut Picture {
             argument: 2,
-            fd: second,
+            source: second,
         },
     );
 }
 
 // The sizes are judged before any row is read.
-fn compare_sizes(first: Picture, second: Picture) {
-    let a = read_size(first);
+fn compare_sizes(rt: &HostRuntime, first: &mut Picture, second: &mut Picture) {
+    let a = read_size(rt, first);
     if a.width == texts::NO_NUMBER {
         return;
     }
-    let b = read_size(second);
+    let b = read_size(rt, second);
     if b.width == texts::NO_NUMBER {
         return;
     }
     if !difference::is_allowed(a.width, a.height) {
-        print_refusal(ILLEGAL_ARGUMENT);
+        print_refusal(rt, ILLEGAL_ARGUMENT);
         return;
     }
     if !difference::is_allowed(b.width, b.height) {
-        print_refusal(ILLEGAL_ARGUMENT);
+        print_refusal(rt, ILLEGAL_ARGUMENT);
         return;
     }
     if a.width != b.width {
-        print_refusal(UNSUPPORTED_IMAGE_FORMAT);
+        print_refusal(rt, UNSUPPORTED_IMAGE_FORMAT);
         return;
     }
     if a.height != b.height {
-        print_refusal(UNSUPPORTED_IMAGE_FORMAT);
+        print_refusal(rt, UNSUPPORTED_IMAGE_FORMAT);
         return;
     }
-    lend_rows(first, second, a.width as usize, a.height as usize);
+    lend_rows(rt, first, second, a.width as usize, a.height as usize);
 }
 
 // A place for a row of each, and for the text of a row, as it is read and as it should be.
-fn lend_rows(first: Picture, second: Picture, width: usize, height: usize)
+fn lend_rows(
+    rt: &HostRuntime,
+    first: &mut Picture,
+    second: &mut Picture,
+    width: usize,
+    height: usize,
+)
     requires { (width ≤ 1024) × (height ≤ 1024) }
 {
     let mut a = [0u8; ROW_BYTES];
@@ -117,6 +124,7 @@ fn lend_rows(first: Picture, second: Picture, width: usize, height: usize)
     let n = width * 4;
     let e = width * 9;
     compare_rows(
+        rt,
         first,
         second,
         width,
@@ -129,8 +137,9 @@ fn lend_rows(first: Picture, second: Picture, width: usize, height: usize)
 }
 
 fn compare_rows(
-    first: Picture,
-    second: Picture,
+    rt: &HostRuntime,
+    first: &mut Picture,
+    second: &mut Picture,
     width: usize,
     height: usize,
     a: &mut [u8],
@@ -147,18 +156,19 @@ fn compare_rows(
         y -= 1;
         // The top row is on line 2.
         let line = height - y + 1;
-        if !read_rows(first, second, line, width, a, b, text, again) {
+        if !read_rows(rt, first, second, line, width, a, b, text, again) {
             return;
         }
         found = found.with_row(a, b, width, y);
     }
-    finish(first, second, height + 2, found);
+    finish(rt, first, second, height + 2, found);
 }
 
 // Whether both have a row on that line.
 fn read_rows(
-    first: Picture,
-    second: Picture,
+    rt: &HostRuntime,
+    first: &mut Picture,
+    second: &mut Picture,
     line: usize,
     width: usize,
     a: &mut [u8],
@@ -168,34 +178,34 @@ fn read_rows(
 ) -> bool
     requires { (length a.old ≡ width * 4) × (length b.old ≡ width * 4) × (length text.old ≡ width * 9) × (length again.old ≡ width * 9) }
 {
-    if !read_row(first, line, width, a, text, again) {
+    if !read_row(rt, first, line, width, a, text, again) {
         return false;
     }
-    read_row(second, line, width, b, text, again)
+    read_row(rt, second, line, width, b, text, again)
 }
 
 // Both must end before that line.
-fn finish(first: Picture, second: Picture, line: usize, found: Found)
+fn finish(rt: &HostRuntime, first: &mut Picture, second: &mut Picture, line: usize, found: Found)
     requires { Small found }
 {
-    if !files::ends(first, line) {
+    if !files::ends(rt, first, line) {
         return;
     }
-    if !files::ends(second, line) {
+    if !files::ends(rt, second, line) {
         return;
     }
-    print_comparison(difference::answer(found));
+    print_comparison(rt, difference::answer(found));
 }
 
-fn print_refusal(code: u32) {
-    Line::new().word(b"refused").hex(code as u64).print();
+fn print_refusal(rt: &HostRuntime, code: u32) {
+    Line::new().word(b"refused").hex(code as u64).print(rt);
 }
 
-fn print_comparison(c: Comparison) {
+fn print_comparison(rt: &HostRuntime, c: Comparison) {
     with_pixels(verdict(c.equal), c)
         .decimal(c.largest as u64)
         .decimal(c.least as u64)
-        .print();
+        .print(rt);
 }
 
 // The line's first word.

@@ -4,6 +4,7 @@ ghost use Rattle.console.specs.Words.{Tells};
 ghost use Rattle.compare.specs.Texts.{no_number, Printed, SizeLine, digit_value, row_bytes, RowRead};
 
 use crate::Size;
+use console::numbers::decimal;
 use text::PIXEL_TEXT;
 
 // Stands for a number that a text is not.
@@ -55,7 +56,7 @@ fn number(text: &[u8]) -> u32
 {
     let n = digits_value(text);
     let mut digits = [0u8; 20];
-    let k = io::decimal(n as u64, &mut digits);
+    let k = decimal(n as u64, &mut digits);
     if is_same(text, &digits[..k]) {
         n
     } else {

@@ -1,7 +1,7 @@
 -- A line of output in an array of 160 bytes: words and numbers, a space between two of them. A reviewer of the paper need not read it.
 use Rattle.std.specs.Prelude.{◌≡◌, cond, ℕ, ◌+◌, eqb, ltb, set, replicate}
 use mathlib.Core.List.{List, foldl}
-use Rattle.io.specs.Digits.{last_digits, IsDigitCount}
+use Rattle.console.specs.Digits.{last_digits, IsDigitCount}
 use Rattle.console.specs.declared.Line.{Line}
 
 abbrev pub empty_line : Line

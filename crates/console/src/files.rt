@@ -1,55 +1,116 @@
 // A file, named by an argument.
-ghost use Rattle.std.specs.Prelude.{◌≡◌, ◌≤◌, length};
+ghost use Rattle.std.specs.Prelude.{◌≡◌, ◌≤◌, length, IfOk};
 
-use crate::Loaded;
+use crate::arguments::{argument, argument_count, buffer};
+use crate::errors::{INVALID, NAME_TOO_LONG, NO_TEXT, tell};
 use crate::words::{is_word, same_bytes};
-use libc::{STDERR_FILENO, STDIN_FILENO};
+use crate::{Loaded, errors};
+use std::env::{Env, FillError};
+use std::fs::File;
+use std::io::{Read, Stdin};
+use std::{fs, io};
 
 // The bytes of a buffer for a file: one more than the longest file that the programs take has.
 pub const FILE_BUFFER: usize = 262145;
 
-// Puts the file that argument i names at the start of the buffer. Why a file cannot be read is told on standard error.
-pub fn load(i: usize, file: &mut [u8]) -> Loaded
-    ensures { result.length ≤ length file.new }
-{
-    let fd = open(i);
-    if fd < 0 {
-        return unreadable();
-    }
-    let mut name = io::buffer();
-    let n = os::arg(i, &mut name);
-    let loaded = read_to_end(fd, file);
-    if !loaded.readable {
-        fail(&name[..n]);
-    }
-    libc::close(fd);
-    loaded
+// What is read: standard input, or a file that is open.
+#[derive(Drop)]
+pub enum Source {
+    Input(Stdin),
+    Named(File),
 }
 
-// Opens the file that argument i names, where `-` is standard input: its descriptor, or a number below 0, and then why is told on standard error.
-pub fn open(i: usize) -> i32 {
-    let mut name = io::buffer();
-    let n = os::arg(i, &mut name);
-    if os::errno() != 0 {
-        os::fail(&name);
-        return -1;
+impl Source {
+    // Reads once: how many bytes stand at the start of the place now, 0 at the end.
+    pub fn read(&mut self, place: &mut [u8]) -> io::Result<usize>
+        ensures { IfOk result (λ n. n ≤ length place.new) }
+    {
+        match self {
+            Source::Input(input) => input.read(place),
+            Source::Named(file) => file.read(place),
+        }
     }
-    if same_bytes(&name[..n], b"-") {
-        return standard_input(i);
+}
+
+// Puts the file that argument i names at the start of the buffer. Why a file cannot be read is told on standard error.
+pub fn load(rt: &HostRuntime, i: usize, file: &mut [u8]) -> Loaded
+    ensures { result.length ≤ length file.new }
+{
+    let Some(mut source) = open(rt, i) else {
+        return unreadable();
+    };
+    match read_to_end(&mut source, file) {
+        Ok(length) => Loaded {
+            readable: true,
+            length,
+        },
+        Err(error) => {
+            fail_argument(rt, i, error);
+            unreadable()
+        }
     }
-    let fd = os::open_read(&name[..n]);
-    if fd < 0 {
-        os::fail(&name[..n]);
+}
+
+// Opens the file that argument i names, where `-` is standard input. Where there is none, why is told on standard error.
+pub fn open(rt: &HostRuntime, i: usize) -> Option<Source> {
+    let mut name = buffer();
+    match rt.arg(i, &mut name) {
+        Ok(n) => open_word(rt, i, &name[..n]),
+        Err(error) => {
+            errors::fail(rt, &name, argument_error(error));
+            None
+        }
     }
-    fd
+}
+
+fn open_word(rt: &HostRuntime, i: usize, name: &[u8]) -> Option<Source> {
+    if same_bytes(name, b"-") {
+        return standard_input(rt, i);
+    }
+    match open_named(rt, name) {
+        Ok(file) => Some(Source::Named(file)),
+        Err(error) => {
+            errors::fail(rt, name, error);
+            None
+        }
+    }
+}
+
+fn open_named(rt: &HostRuntime, name: &[u8]) -> io::Result<File> {
+    fs::open(rt, name_text(name)?)
+}
+
+// The name as text, which the names of files are here.
+pub fn name_text(name: &[u8]) -> io::Result<&str>
+    ensures { IfOk result (λ text. text.now ≡ name.now) }
+{
+    match std::str::from_utf8(name) {
+        Ok(text) => Ok(text),
+        Err(_) => Err(io::Error::from_raw_os_error(NO_TEXT)),
+    }
+}
+
+// Why an argument is no name.
+pub fn argument_error(error: FillError) -> io::Error {
+    match error {
+        FillError::TooLong => io::Error::from_raw_os_error(NAME_TOO_LONG),
+        FillError::NotPresent => io::Error::from_raw_os_error(INVALID),
+    }
+}
+
+// Tells on standard error why the file that argument i names could not be read.
+pub fn fail_argument(rt: &HostRuntime, i: usize, error: io::Error) {
+    let mut name = buffer();
+    let n = argument(rt, i, &mut name);
+    fail(rt, &name[..n], error);
 }
 
 // Tells on standard error why the file of that name could not be read.
-pub fn fail(name: &[u8]) {
+pub fn fail(rt: &HostRuntime, name: &[u8], error: io::Error) {
     if same_bytes(name, b"-") {
-        os::fail(b"standard input");
+        errors::fail(rt, b"standard input", error);
     } else {
-        os::fail(name);
+        errors::fail(rt, name, error);
     }
 }
 
@@ -63,42 +124,35 @@ fn unreadable() -> Loaded
 }
 
 // Reads until there is no more, or the buffer is full.
-fn read_to_end(fd: i32, file: &mut [u8]) -> Loaded
-    ensures { result.length ≤ length file.new }
+fn read_to_end(source: &mut Source, file: &mut [u8]) -> io::Result<usize>
+    ensures { IfOk result (λ n. n ≤ length file.new) }
 {
     let mut n = 0;
     while n < file.len() {
-        let got = libc::read(fd, &mut file[n..]);
-        if got < 0 {
-            return unreadable();
-        }
-        let more = io::count(got, &file[n..]);
+        let more = source.read(&mut file[n..])?;
         if more == 0 {
             break;
         }
         n += more;
     }
-    Loaded {
-        readable: true,
-        length: n,
-    }
+    Ok(n)
 }
 
 // Standard input for argument i, if for no other: it has one end, so it cannot be two files.
-fn standard_input(i: usize) -> i32 {
-    if is_input_besides(i) {
-        io::write_all(STDERR_FILENO, b"-: standard input can be one file only\n");
-        return -1;
+fn standard_input(rt: &HostRuntime, i: usize) -> Option<Source> {
+    if is_input_besides(rt, i) {
+        tell(rt, b"-: standard input can be one file only\n");
+        return None;
     }
-    STDIN_FILENO
+    Some(Source::Input(rt.stdin()))
 }
 
 // Whether an argument besides i is `-` too.
-fn is_input_besides(i: usize) -> bool {
-    let count = os::arg_count();
+fn is_input_besides(rt: &HostRuntime, i: usize) -> bool {
+    let count = argument_count(rt);
     let mut k = 1;
     while k < count {
-        if k != i && is_input(k) {
+        if k != i && is_input(rt, k) {
             return true;
         }
         k += 1;
@@ -107,6 +161,6 @@ fn is_input_besides(i: usize) -> bool {
 }
 
 // Whether argument i is `-`.
-fn is_input(i: usize) -> bool {
-    is_word(i, b"-")
+fn is_input(rt: &HostRuntime, i: usize) -> bool {
+    is_word(rt, i, b"-")
 }

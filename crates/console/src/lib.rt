@@ -2,8 +2,11 @@
 // No contract can say what is read or written.
 #![tactic(auto)]
 
+pub mod arguments;
+pub mod errors;
 pub mod files;
 pub mod lines;
+pub mod numbers;
 mod output;
 pub mod pictures;
 pub mod sizes;

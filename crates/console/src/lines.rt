@@ -2,7 +2,7 @@
 ghost use Rattle.std.specs.Prelude.{◌≡◌};
 ghost use Rattle.console.specs.Lines.{empty_line, with_byte, with_bytes, spaced, with_word, WithNumber};
 
-use crate::{Line, output};
+use crate::{Line, numbers, output};
 
 impl Line {
     pub fn new() -> Line
@@ -24,7 +24,7 @@ impl Line {
         ensures { WithNumber 10 1 n self result }
     {
         let mut digits = [0u8; 20];
-        let k = io::decimal(n, &mut digits);
+        let k = numbers::decimal(n, &mut digits);
         self.word(&digits[..k])
     }
 
@@ -33,7 +33,7 @@ impl Line {
         ensures { WithNumber 16 4 n self result }
     {
         let mut digits = [0u8; 16];
-        let k = io::hex(n, 4, &mut digits);
+        let k = numbers::hex(n, 4, &mut digits);
         self.word(&digits[..k])
     }
 
@@ -51,8 +51,8 @@ impl Line {
     }
 
     // Writes the line and a newline.
-    pub fn print(self) {
-        output::write_line(self.byte(b'\n'));
+    pub fn print(self, rt: &HostRuntime) {
+        output::write_line(rt, self.byte(b'\n'));
     }
 }
 
@@ -63,7 +63,7 @@ fn space(l: Line) -> Line
     if l.length == 0 { l } else { l.byte(b' ') }
 }
 
-fn put_all(l: Line, s: &[u8]) -> Line
+pub fn put_all(l: Line, s: &[u8]) -> Line
     ensures { result ≡ with_bytes l s.now }
 {
     let mut next = l;
@@ -76,6 +76,6 @@ fn put_all(l: Line, s: &[u8]) -> Line
 }
 
 // What a program prints for a file past its limit.
-pub fn print_limit() {
-    Line::new().word(b"limit").print();
+pub fn print_limit(rt: &HostRuntime) {
+    Line::new().word(b"limit").print(rt);
 }

@@ -1,29 +1,30 @@
 // Writing to standard output. Why a write fails is told on standard error.
-use crate::Line;
-use libc::STDOUT_FILENO;
+use crate::{Line, errors};
 
 // Whether all of s was written.
-pub fn write(s: &[u8]) -> bool {
-    let done = io::write_all(STDOUT_FILENO, s);
-    if !done {
-        os::fail(b"standard output");
+pub fn write(rt: &HostRuntime, s: &[u8]) -> bool {
+    match rt.write_all(s) {
+        Ok(()) => true,
+        Err(error) => {
+            errors::fail(rt, b"standard output", error);
+            false
+        }
     }
-    done
 }
 
 // Whether the line was written.
-pub fn write_line(l: Line) -> bool {
+pub fn write_line(rt: &HostRuntime, l: Line) -> bool {
     let bytes = l.bytes;
-    write_array(&bytes, l.length)
+    write_array(rt, &bytes, l.length)
 }
 
-fn write_array(bytes: &[u8; 160], n: usize) -> bool {
-    write_start(bytes, n)
+fn write_array(rt: &HostRuntime, bytes: &[u8; 160], n: usize) -> bool {
+    write_start(rt, bytes, n)
 }
 
-fn write_start(s: &[u8], n: usize) -> bool {
+fn write_start(rt: &HostRuntime, s: &[u8], n: usize) -> bool {
     if s.len() < n {
         return false;
     }
-    write(&s[0..n])
+    write(rt, &s[0..n])
 }

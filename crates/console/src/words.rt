@@ -2,10 +2,12 @@
 ghost use Rattle.std.specs.Prelude.{◌≡◌};
 ghost use Rattle.console.specs.Words.{Tells};
 
+use crate::arguments::{argument, buffer};
+
 // Whether argument i is that word.
-pub fn is_word(i: usize, word: &[u8]) -> bool {
-    let mut text = io::buffer();
-    let n = os::arg(i, &mut text);
+pub fn is_word(rt: &HostRuntime, i: usize, word: &[u8]) -> bool {
+    let mut text = buffer();
+    let n = argument(rt, i, &mut text);
     same_bytes(&text[..n], word)
 }
 

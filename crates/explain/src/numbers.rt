@@ -2,20 +2,21 @@
 ghost use Rattle.std.specs.Prelude.{◌≤◌, ◌<◌};
 
 use crate::Coordinate;
-use libc::STDERR_FILENO;
+use console::arguments::{argument, buffer};
+use console::errors::tell;
 
 // A number outside every picture.
 const OUTSIDE: usize = 1000000000;
 
 // The coordinate that argument i is. What is no number is told on standard error.
-pub fn coordinate(i: usize) -> Coordinate {
-    let mut text = io::buffer();
-    let n = os::arg(i, &mut text);
+pub fn coordinate(rt: &HostRuntime, i: usize) -> Coordinate {
+    let mut text = buffer();
+    let n = argument(rt, i, &mut text);
     let c = signed(&text[..n]);
     if !c.given {
-        io::write_all(STDERR_FILENO, b"explain: ");
-        io::write_all(STDERR_FILENO, &text[..n]);
-        io::write_all(STDERR_FILENO, b" is not a number\n");
+        tell(rt, b"explain: ");
+        tell(rt, &text[..n]);
+        tell(rt, b" is not a number\n");
     }
     c
 }

@@ -8,81 +8,81 @@ use console::files::load;
 use console::words::is_word;
 
 // The call that starts at argument i, of the arguments before count. Its files are loaded.
-pub fn read_call(i: usize, count: usize, old: &mut [u8], new: &mut [u8]) -> Call
+pub fn read_call(rt: &HostRuntime, i: usize, count: usize, old: &mut [u8], new: &mut [u8]) -> Call
     requires { i < count }
     ensures { Sized result (length old.new) (length new.new) }
 {
-    if is_word(i, b"draw") {
-        return read_draw(i, count, new);
+    if is_word(rt, i, b"draw") {
+        return read_draw(rt, i, count, new);
     }
-    if is_word(i, b"redraw") {
-        return read_redraw(i, count, old, new);
+    if is_word(rt, i, b"redraw") {
+        return read_redraw(rt, i, count, old, new);
     }
-    complain(i, b" is neither draw nor redraw\n");
+    complain(rt, i, b" is neither draw nor redraw\n");
     no_call()
 }
 
-fn read_draw(i: usize, count: usize, new: &mut [u8]) -> Call
+fn read_draw(rt: &HostRuntime, i: usize, count: usize, new: &mut [u8]) -> Call
     requires { i < count }
     ensures { Sized result 0 (length new.new) }
 {
     if count - i < 4 {
-        complain(i, b" takes FILE SURFACE ROOM\n");
+        complain(rt, i, b" takes FILE SURFACE ROOM\n");
         return no_call();
     }
-    let n = load_file(i + 1, new);
+    let n = load_file(rt, i + 1, new);
     if n == new.len() {
         return no_call();
     }
-    sized(i + 4, 0, n)
+    sized(rt, i + 4, 0, n)
 }
 
-fn read_redraw(i: usize, count: usize, old: &mut [u8], new: &mut [u8]) -> Call
+fn read_redraw(rt: &HostRuntime, i: usize, count: usize, old: &mut [u8], new: &mut [u8]) -> Call
     requires { i < count }
     ensures { Sized result (length old.new) (length new.new) }
 {
     if count - i < 5 {
-        complain(i, b" takes OLD NEW SURFACE ROOM\n");
+        complain(rt, i, b" takes OLD NEW SURFACE ROOM\n");
         return no_call();
     }
-    let m = load_file(i + 1, old);
+    let m = load_file(rt, i + 1, old);
     if m == old.len() {
         return no_call();
     }
-    let n = load_file(i + 2, new);
+    let n = load_file(rt, i + 2, new);
     if n == new.len() {
         return no_call();
     }
-    sized(i + 5, m, n)
+    sized(rt, i + 5, m, n)
 }
 
 // The length of the file that argument i names, or that of the buffer where there is none that fits.
-fn load_file(i: usize, file: &mut [u8]) -> usize
+fn load_file(rt: &HostRuntime, i: usize, file: &mut [u8]) -> usize
     ensures { result ≤ length file.new }
 {
-    let loaded = load(i, file);
+    let loaded = load(rt, i, file);
     if !loaded.readable {
         return file.len();
     }
     if loaded.length == file.len() {
-        complain(i, b" is too long\n");
+        complain(rt, i, b" is too long\n");
     }
     loaded.length
 }
 
 // The call with the sizes that its last two arguments are.
-fn sized(end: usize, old: usize, new: usize) -> Call
+fn sized(rt: &HostRuntime, end: usize, old: usize, new: usize) -> Call
     requires { 2 ≤ end }
     ensures { Sized result old new }
 {
-    let surface = number(end - 2);
+    let surface = number(rt, end - 2);
     if SURFACE_BYTES < surface {
-        complain(end - 2, b" is not a number of bytes up to 1048576\n");
+        complain(rt, end - 2, b" is not a number of bytes up to 1048576\n");
         return no_call();
     }
-    let scratch = number(end - 1);
+    let scratch = number(rt, end - 1);
     if SCRATCH_NUMBERS < scratch {
-        complain(end - 1, b" is not a count of numbers up to 16384\n");
+        complain(rt, end - 1, b" is not a count of numbers up to 16384\n");
         return no_call();
     }
     Call {

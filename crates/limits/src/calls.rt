@@ -14,6 +14,7 @@ use render::Answer;
 
 // Runs the call that starts at argument i, and prints its line. What it is not lent stays as it is.
 pub fn run(
+    rt: &HostRuntime,
     i: usize,
     c: Call,
     old: &[u8],
@@ -38,8 +39,9 @@ pub fn run(
     let n = c.new;
     let s = c.surface;
     let r = c.scratch;
-    print_words(i, c.end);
+    print_words(rt, i, c.end);
     run_lent(
+        rt,
         c.end - i == 4,
         &old[0..m],
         &new[0..n],
@@ -50,6 +52,7 @@ pub fn run(
 }
 
 fn run_lent(
+    rt: &HostRuntime,
     full: bool,
     old: &[u8],
     new: &[u8],
@@ -69,9 +72,9 @@ fn run_lent(
     fill_bytes(other, 0);
     let answer = call(full, old, new, surface, other, scratch);
     if answer.code == ACCEPTED {
-        report_accepted(answer, new, surface, other, scratch);
+        report_accepted(rt, answer, new, surface, other, scratch);
     } else {
-        report_refused(answer, surface, other, scratch);
+        report_refused(rt, answer, surface, other, scratch);
     }
 }
 
@@ -100,8 +103,9 @@ fn call(
     render::redraw_unmasked(old, new, surface, scratch)
 }
 
-fn report_refused(a: Answer, surface: &[u8], other: &[u8], scratch: &[i32]) {
+fn report_refused(rt: &HostRuntime, a: Answer, surface: &[u8], other: &[u8], scratch: &[i32]) {
     print_line(
+        rt,
         a,
         same_bytes(surface, other),
         b"kept",
@@ -111,7 +115,14 @@ fn report_refused(a: Answer, surface: &[u8], other: &[u8], scratch: &[i32]) {
 }
 
 // Draws the scene on the other surface, from another pattern, to compare.
-fn report_accepted(a: Answer, scene: &[u8], surface: &[u8], other: &mut [u8], scratch: &mut [i32])
+fn report_accepted(
+    rt: &HostRuntime,
+    a: Answer,
+    scene: &[u8],
+    surface: &[u8],
+    other: &mut [u8],
+    scratch: &mut [i32],
+)
     ensures other_after { other.new ≡ draw_surface scene.now no_mask (bytes 85 (length other.old)) (length scratch.old) }
     ensures scratch_after { scratch.new ≡ draw_scratch scene.now no_mask (length other.old) (numbers (length scratch.old)) }
 {
@@ -119,15 +130,29 @@ fn report_accepted(a: Answer, scene: &[u8], surface: &[u8], other: &mut [u8], sc
     fill_bytes(other, 85);
     fill_numbers(scratch);
     render::draw_unmasked(scene, other, scratch);
-    print_line(a, same_bytes(surface, other), b"drawn", is_clear, b"zero");
+    print_line(
+        rt,
+        a,
+        same_bytes(surface, other),
+        b"drawn",
+        is_clear,
+        b"zero",
+    );
 }
 
-fn print_line(a: Answer, surface: bool, surface_word: &[u8], scratch: bool, scratch_word: &[u8]) {
+fn print_line(
+    rt: &HostRuntime,
+    a: Answer,
+    surface: bool,
+    surface_word: &[u8],
+    scratch: bool,
+    scratch_word: &[u8],
+) {
     let numbers = answer_line(a).byte(b',').word(b"surface");
     let drawn = claim(numbers, surface, surface_word)
         .byte(b',')
         .word(b"room");
-    claim(drawn, scratch, scratch_word).print();
+    claim(drawn, scratch, scratch_word).print(rt);
 }
 
 fn answer_line(a: Answer) -> Line {

@@ -15,6 +15,7 @@ mod words;
 ghost use Rattle.std.specs.Prelude.{◌≤◌, length};
 
 use console::Line;
+use console::arguments::argument_count;
 use console::files::FILE_BUFFER;
 use console::usage::is_called;
 
@@ -34,9 +35,10 @@ const SURFACE_BYTES: usize = 1048576;
 
 const SCRATCH_NUMBERS: usize = 16384;
 
-fn main() {
+fn main(rt: HostRuntime) {
     if !is_called(
-        2 <= os::arg_count(),
+        &rt,
+        2 <= argument_count(&rt),
         b"usage: limits (draw FILE SURFACE ROOM | redraw OLD NEW SURFACE ROOM)..\n",
         b"Runs calls of the renderer, each on a surface of so many bytes with a working room of so many numbers, and prints for each the\n\
         seven numbers of its answer and what it leaves. It stops at what is no call.\n",
@@ -48,11 +50,19 @@ fn main() {
     let mut surface = [0u8; SURFACE_BYTES];
     let mut other = [0u8; SURFACE_BYTES];
     let mut scratch = [0i32; SCRATCH_NUMBERS];
-    lend(&mut old, &mut new, &mut surface, &mut other, &mut scratch);
+    lend(
+        &rt,
+        &mut old,
+        &mut new,
+        &mut surface,
+        &mut other,
+        &mut scratch,
+    );
 }
 
 // A large array is made a slice in a function of its own, since the checker would write out an array that is lent directly.
 fn lend(
+    rt: &HostRuntime,
     old: &mut [u8; FILE_BUFFER],
     new: &mut [u8; FILE_BUFFER],
     surface: &mut [u8; SURFACE_BYTES],
@@ -61,11 +71,12 @@ fn lend(
 ) {
     Line::new()
         .word(b"call FILES SURFACE ROOM: code draw scene x y width height, surface, room")
-        .print();
-    run_calls(old, new, surface, other, scratch);
+        .print(rt);
+    run_calls(rt, old, new, surface, other, scratch);
 }
 
 fn run_calls(
+    rt: &HostRuntime,
     old: &mut [u8],
     new: &mut [u8],
     surface: &mut [u8],
@@ -74,14 +85,14 @@ fn run_calls(
 )
     requires { (1048576 ≤ length surface.old) × (1048576 ≤ length other.old) × (16384 ≤ length scratch.old) }
 {
-    let count = os::arg_count();
+    let count = argument_count(rt);
     let mut i = 1;
     while i < count {
-        let call = arguments::read_call(i, count, old, new);
+        let call = arguments::read_call(rt, i, count, old, new);
         if call.end <= i {
             return;
         }
-        calls::run(i, call, old, new, surface, other, scratch);
+        calls::run(rt, i, call, old, new, surface, other, scratch);
         i = call.end;
     }
 }

@@ -2,14 +2,15 @@
 ghost use Rattle.std.specs.Prelude.{◌≡◌, ◌<◌};
 ghost use Rattle.limits.specs.Digits.{digit_of, number_of, OfSomeText};
 
-use libc::{STDERR_FILENO, STDOUT_FILENO};
+use console::arguments::{argument, buffer};
+use console::errors::tell;
 
 // The number that argument i is, or one that no buffer has where it is none.
-pub fn number(i: usize) -> usize
+pub fn number(rt: &HostRuntime, i: usize) -> usize
     ensures { OfSomeText result }
 {
-    let mut text = io::buffer();
-    let n = os::arg(i, &mut text);
+    let mut text = buffer();
+    let n = argument(rt, i, &mut text);
     value(&text[..n])
 }
 
@@ -51,29 +52,34 @@ fn digit(b: u8) -> usize
 }
 
 // Prints the arguments from i to e - 1, with a space between two of them.
-pub fn print_words(i: usize, e: usize)
+pub fn print_words(rt: &HostRuntime, i: usize, e: usize)
     requires { i < e }
 {
-    print_word(i);
+    print_word(rt, i);
     let mut j = i + 1;
     while j < e {
-        io::write_all(STDOUT_FILENO, b" ");
-        print_word(j);
+        write(rt, b" ");
+        print_word(rt, j);
         j += 1;
     }
 }
 
-fn print_word(i: usize) {
-    let mut text = io::buffer();
-    let n = os::arg(i, &mut text);
-    io::write_all(STDOUT_FILENO, &text[..n]);
+fn print_word(rt: &HostRuntime, i: usize) {
+    let mut text = buffer();
+    let n = argument(rt, i, &mut text);
+    write(rt, &text[..n]);
+}
+
+// Why these bytes cannot be written is told with the line's other part.
+fn write(rt: &HostRuntime, s: &[u8]) {
+    let _ = rt.write_all(s);
 }
 
 // Tells on standard error what is wrong with argument i.
-pub fn complain(i: usize, what: &[u8]) {
-    let mut text = io::buffer();
-    let n = os::arg(i, &mut text);
-    io::write_all(STDERR_FILENO, b"limits: ");
-    io::write_all(STDERR_FILENO, &text[..n]);
-    io::write_all(STDERR_FILENO, what);
+pub fn complain(rt: &HostRuntime, i: usize, what: &[u8]) {
+    let mut text = buffer();
+    let n = argument(rt, i, &mut text);
+    tell(rt, b"limits: ");
+    tell(rt, &text[..n]);
+    tell(rt, what);
 }

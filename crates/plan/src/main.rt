@@ -5,6 +5,7 @@ ghost use Rattle.std.specs.Prelude.{◌≤◌, length};
 
 use codes::ACCEPTED;
 use console::Line;
+use console::arguments::argument_count;
 use console::files::{FILE_BUFFER, load};
 use console::lines::print_limit;
 use console::usage::is_called;
@@ -12,9 +13,10 @@ use planner::PROPOSAL_NUMBERS;
 use planner::planning::{Planning, plan};
 use regions::proposal::size;
 
-fn main() {
+fn main(rt: HostRuntime) {
     if !is_called(
-        os::arg_count() == 3,
+        &rt,
+        argument_count(&rt) == 3,
         b"usage: plan OLD NEW\n",
         b"Prints how many rectangles the planner proposes for a redraw from the scene file OLD to NEW, then each as X Y WIDTH HEIGHT.\n\
         A redraw that is refused prints `refused CODE DRAW SCENE`, a file that is too long `limit`.\n",
@@ -23,55 +25,55 @@ fn main() {
     }
     let mut old = [0u8; FILE_BUFFER];
     let mut new = [0u8; FILE_BUFFER];
-    lend_files(&mut old, &mut new);
+    lend_files(&rt, &mut old, &mut new);
 }
 
 // A large array is made a slice in a function of its own, since the checker would write out an array that is lent directly.
-fn lend_files(old: &mut [u8; FILE_BUFFER], new: &mut [u8; FILE_BUFFER]) {
-    load_scenes(old, new);
+fn lend_files(rt: &HostRuntime, old: &mut [u8; FILE_BUFFER], new: &mut [u8; FILE_BUFFER]) {
+    load_scenes(rt, old, new);
 }
 
 // Where a file cannot be read it does not matter how long the other is.
-fn load_scenes(old: &mut [u8], new: &mut [u8]) {
-    let first = load(1, old);
+fn load_scenes(rt: &HostRuntime, old: &mut [u8], new: &mut [u8]) {
+    let first = load(rt, 1, old);
     if !first.readable {
         return;
     }
-    let second = load(2, new);
+    let second = load(rt, 2, new);
     if !second.readable {
         return;
     }
     let m = first.length;
     let n = second.length;
     if m == old.len() || n == new.len() {
-        print_limit();
+        print_limit(rt);
     } else {
-        plan_scenes(&old[0..m], &new[0..n]);
+        plan_scenes(rt, &old[0..m], &new[0..n]);
     }
 }
 
-fn plan_scenes(old: &[u8], new: &[u8]) {
+fn plan_scenes(rt: &HostRuntime, old: &[u8], new: &[u8]) {
     let mut rectangles = [0i32; PROPOSAL_NUMBERS];
     let answer = plan(old, new, false, &old[0..0], &mut rectangles);
     if answer.code != ACCEPTED {
-        print_refusal(answer);
+        print_refusal(rt, answer);
         return;
     }
-    Line::new().decimal(answer.count as u64).print();
-    print_rectangles(&rectangles, answer.count as usize);
+    Line::new().decimal(answer.count as u64).print(rt);
+    print_rectangles(rt, &rectangles, answer.count as usize);
 }
 
-fn print_refusal(r: Planning) {
+fn print_refusal(rt: &HostRuntime, r: Planning) {
     Line::new()
         .word(b"refused")
         .hex(r.code as u64)
         .decimal(r.draw as u64)
         .decimal(r.scene as u64)
-        .print();
+        .print(rt);
 }
 
 // The first n rectangles, of which a plan has at most four.
-fn print_rectangles(rectangles: &[i32], n: usize)
+fn print_rectangles(rt: &HostRuntime, rectangles: &[i32], n: usize)
     requires { 16 ≤ length rectangles.now }
 {
     let mut k = 0;
@@ -79,6 +81,7 @@ fn print_rectangles(rectangles: &[i32], n: usize)
         if k < n {
             let at = k * 4;
             print_rectangle(
+                rt,
                 rectangles[at],
                 rectangles[at + 1],
                 rectangles[at + 2],
@@ -89,11 +92,11 @@ fn print_rectangles(rectangles: &[i32], n: usize)
     }
 }
 
-fn print_rectangle(x: i32, y: i32, width: i32, height: i32) {
+fn print_rectangle(rt: &HostRuntime, x: i32, y: i32, width: i32, height: i32) {
     Line::new()
         .decimal(size(x) as u64)
         .decimal(size(y) as u64)
         .decimal(size(width) as u64)
         .decimal(size(height) as u64)
-        .print();
+        .print(rt);
 }

@@ -13,6 +13,7 @@ ghost use Rattle.std.specs.Prelude.{◌≡◌, ◌≤◌, ◌<◌, ◌+◌, ◌*
 ghost use Rattle.console.specs.Sizes.{most_bytes, Surface, Allowed};
 
 use codes::ACCEPTED;
+use console::arguments::argument_count;
 use console::files::load;
 use console::lines::print_limit;
 use console::pictures::print_picture;
@@ -32,9 +33,10 @@ const LENGTHS: usize = 601;
 
 const ANSWERS: usize = 4207;
 
-fn main() {
+fn main(rt: HostRuntime) {
     if !is_called(
-        2 <= os::arg_count(),
+        &rt,
+        2 <= argument_count(&rt),
         b"usage: replay SCENE ..\n",
         b"Shows scene files one after the other in one call, and prints `code C` for the call, CODE DRAW SCENE X Y WIDTH HEIGHT for each\n\
         scene, `context C` with the first code that is not 0, and `last I` and the picture if a scene was accepted. Files that are too\n\
@@ -43,34 +45,34 @@ fn main() {
         return;
     }
     let mut run = [0u8; RUN_BUFFER];
-    lend_run(&mut run);
+    lend_run(&rt, &mut run);
 }
 
 // A large array is made a slice in a function of its own, since the checker would write out an array that is lent directly.
-fn lend_run(run: &mut [u8; RUN_BUFFER]) {
-    lend_lengths(run);
+fn lend_run(rt: &HostRuntime, run: &mut [u8; RUN_BUFFER]) {
+    lend_lengths(rt, run);
 }
 
-fn lend_lengths(run: &mut [u8])
+fn lend_lengths(rt: &HostRuntime, run: &mut [u8])
     requires { length run.old < 4294967296 }
 {
     let mut lengths = [0u32; LENGTHS];
-    load_scenes(run, &mut lengths);
+    load_scenes(rt, run, &mut lengths);
 }
 
-fn load_scenes(run: &mut [u8], lengths: &mut [u32])
+fn load_scenes(rt: &HostRuntime, run: &mut [u8], lengths: &mut [u32])
     requires { (length run.old < 4294967296) × (length lengths.old ≡ 601) }
 {
-    let n = scene_count(os::arg_count());
-    let loaded = load_files(run, lengths, n);
+    let n = scene_count(argument_count(rt));
+    let loaded = load_files(rt, run, lengths, n);
     if !loaded.readable {
         return;
     }
     let m = loaded.length;
     if m == run.len() {
-        print_limit();
+        print_limit(rt);
     } else {
-        replay_scenes(&run[0..m], &lengths[0..n]);
+        replay_scenes(rt, &run[0..m], &lengths[0..n]);
     }
 }
 
@@ -88,14 +90,14 @@ fn scene_count(count: usize) -> usize
 }
 
 // Loads n files one behind the other, as far as the run goes, and their lengths. Told is how many bytes they have together.
-fn load_files(run: &mut [u8], lengths: &mut [u32], n: usize) -> Loaded
+fn load_files(rt: &HostRuntime, run: &mut [u8], lengths: &mut [u32], n: usize) -> Loaded
     requires { (length run.old < 4294967296) × (n ≤ length lengths.old) }
     ensures { result.length ≤ length run.new }
 {
     let mut at = 0;
     let mut i = 0;
     while i < n {
-        let file = load_behind(i + 1, run, at);
+        let file = load_behind(rt, i + 1, run, at);
         if !file.readable {
             return Loaded {
                 readable: false,
@@ -114,33 +116,33 @@ fn load_files(run: &mut [u8], lengths: &mut [u32], n: usize) -> Loaded
 }
 
 // The file that argument i names, behind the first bytes of the run.
-fn load_behind(i: usize, run: &mut [u8], at: usize) -> Loaded
+fn load_behind(rt: &HostRuntime, i: usize, run: &mut [u8], at: usize) -> Loaded
     requires { at ≤ length run.old }
     ensures { at + result.length ≤ length run.old }
 {
     let end = run.len();
-    load(i, &mut run[at..end])
+    load(rt, i, &mut run[at..end])
 }
 
-fn replay_scenes(run: &[u8], lengths: &[u32])
+fn replay_scenes(rt: &HostRuntime, run: &[u8], lengths: &[u32])
     requires { length lengths.now ≤ 601 }
 {
     let mut surface = [0u8; SURFACE_BYTES];
-    lend_surface(run, lengths, &mut surface);
+    lend_surface(rt, run, lengths, &mut surface);
 }
 
-fn lend_surface(run: &[u8], lengths: &[u32], surface: &mut [u8; SURFACE_BYTES])
+fn lend_surface(rt: &HostRuntime, run: &[u8], lengths: &[u32], surface: &mut [u8; SURFACE_BYTES])
     requires { length lengths.now ≤ 601 }
 {
-    size_surface(run, lengths, surface);
+    size_surface(rt, run, lengths, surface);
 }
 
-fn size_surface(run: &[u8], lengths: &[u32], surface: &mut [u8])
+fn size_surface(rt: &HostRuntime, run: &[u8], lengths: &[u32], surface: &mut [u8])
     requires { (length lengths.now ≤ 601) × (most_bytes ≤ length surface.old) }
 {
     let size = first_size(run, lengths);
     let n = surface_bytes(size);
-    replay_on(run, lengths, &mut surface[0..n], size);
+    replay_on(rt, run, lengths, &mut surface[0..n], size);
 }
 
 // The size of the first scene that passes; of none, where none does.
@@ -168,7 +170,7 @@ fn passes(scene: &[u8]) -> bool {
     scene::verdict::verdict(scene, false).code == ACCEPTED
 }
 
-fn replay_on(run: &[u8], lengths: &[u32], surface: &mut [u8], size: Size)
+fn replay_on(rt: &HostRuntime, run: &[u8], lengths: &[u32], surface: &mut [u8], size: Size)
     requires { (length lengths.now ≤ 601) × Surface size surface.old }
 {
     let mut scratch = [0i32; SCRATCH_NUMBERS];
@@ -182,40 +184,50 @@ fn replay_on(run: &[u8], lengths: &[u32], surface: &mut [u8], size: Size)
         &mut scratch,
         &mut answers,
     );
-    print_replay(replayed, &answers, lengths.len(), surface, size);
+    print_replay(rt, replayed, &answers, lengths.len(), surface, size);
 }
 
-fn print_replay(replayed: Replayed, answers: &[u32], n: usize, surface: &[u8], size: Size)
+fn print_replay(
+    rt: &HostRuntime,
+    replayed: Replayed,
+    answers: &[u32],
+    n: usize,
+    surface: &[u8],
+    size: Size,
+)
     requires { (n * 7 ≤ length answers.now) × Surface size surface.now }
 {
-    Line::new().word(b"code").hex(replayed.code as u64).print();
+    Line::new()
+        .word(b"code")
+        .hex(replayed.code as u64)
+        .print(rt);
     if replayed.code != ACCEPTED {
-        print_context(replayed);
+        print_context(rt, replayed);
         return;
     }
-    let last = print_answers(answers, n);
-    print_context(replayed);
-    print_last(last, n, surface, size);
+    let last = print_answers(rt, answers, n);
+    print_context(rt, replayed);
+    print_last(rt, last, n, surface, size);
 }
 
-fn print_last(last: usize, n: usize, surface: &[u8], size: Size)
+fn print_last(rt: &HostRuntime, last: usize, n: usize, surface: &[u8], size: Size)
     requires { Surface size surface.now }
 {
     if last < n {
-        Line::new().word(b"last").decimal(last as u64).print();
-        print_picture(surface, size);
+        Line::new().word(b"last").decimal(last as u64).print(rt);
+        print_picture(rt, surface, size);
     }
 }
 
-fn print_context(replayed: Replayed) {
+fn print_context(rt: &HostRuntime, replayed: Replayed) {
     Line::new()
         .word(b"context")
         .hex(replayed.first as u64)
-        .print();
+        .print(rt);
 }
 
 // The answers of n scenes. Returns the number of the scene accepted last, or n.
-fn print_answers(answers: &[u32], n: usize) -> usize
+fn print_answers(rt: &HostRuntime, answers: &[u32], n: usize) -> usize
     requires { n * 7 ≤ length answers.now }
 {
     let mut last = n;
@@ -224,7 +236,7 @@ fn print_answers(answers: &[u32], n: usize) -> usize
         let at = i * 7;
         let end = at + 7;
         let answer = answer_at(&answers[at..end]);
-        print_answer(answer);
+        print_answer(rt, answer);
         if answer.code == ACCEPTED {
             last = i;
         }
@@ -247,7 +259,7 @@ fn answer_at(a: &[u32]) -> Answer
     }
 }
 
-fn print_answer(a: Answer) {
+fn print_answer(rt: &HostRuntime, a: Answer) {
     Line::new()
         .hex(a.code as u64)
         .decimal(a.draw as u64)
@@ -256,5 +268,5 @@ fn print_answer(a: Answer) {
         .decimal(a.y as u64)
         .decimal(a.width as u64)
         .decimal(a.height as u64)
-        .print();
+        .print(rt);
 }
