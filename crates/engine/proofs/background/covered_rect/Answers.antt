@@ -11,7 +11,6 @@ use Rattle.rect.proofs.Laws.{Wide, not_empty}
 use Rattle.path.specs.Stored.{edges_of}
 use Rattle.engine.proofs.Steps.{edges_on}
 use Rattle.engine.proofs.Hiding.{empty_covered}
-use borrow.Author.Rules.{rules}
 use Rattle.engine.proofs.background.covered_rect.Goals as goal
 
 -- the box lies on the surface

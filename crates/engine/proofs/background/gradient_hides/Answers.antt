@@ -2,7 +2,6 @@
 use mathlib.Core.Path.{sym, subst, ◌∙◌}
 use lib.Dec.{T}
 use Rattle.engine.proofs.Hiding.{plain_hides}
-use borrow.Author.Rules.{rules}
 use Rattle.engine.proofs.background.gradient_hides.Goals as goal
 
 pub returns-then-hides : goal.returns-then-hides

@@ -4,7 +4,6 @@ use Rattle.rect.specs.Rects.{empty_of}
 use Rattle.path.specs.Stored.{edges_of}
 use Rattle.engine.specs.Unclamped.{unclamped_step}
 use Rattle.engine.proofs.Hiding.{covering_hides, empty_hides}
-use borrow.Author.Rules.{rules}
 use Rattle.engine.proofs.background.hidden_by.Goals as goal
 
 pub covered_rect-r-requires : goal.covered_rect-r-requires

@@ -8,7 +8,6 @@ use Rattle.scene.specs.Accepted.{AcceptedDraw}
 use Rattle.engine.specs.Picture.{first_draws}
 use Rattle.engine.specs.Unclamped.{unclamped_all}
 use Rattle.engine.proofs.Hiding.{empty_hides, draws_hide}
-use borrow.Author.Rules.{rules}
 use Rattle.engine.proofs.background.hidden_rect.Goals as goal
 
 pub returns-then-count-eq0 : goal.returns-then-count-eq0

@@ -2,7 +2,6 @@
 use mathlib.Core.Path.{sym, subst, ◌∙◌}
 use lib.Dec.{T}
 use Rattle.engine.proofs.Hiding.{draw_hides}
-use borrow.Author.Rules.{rules}
 use Rattle.engine.proofs.background.hides_covered.Goals as goal
 
 pub returns-then-segment_count-gt-FEW_SEGMENTS : goal.returns-then-segment_count-gt-FEW_SEGMENTS

@@ -3,7 +3,6 @@ use mathlib.Core.Path.{sym, subst, ◌∙◌}
 use native.Mathlib.Omega.{arith}
 use lib.Dec.{T}
 use Rattle.rect.proofs.Laws.{not_empty}
-use borrow.Author.Rules.{rules}
 use Rattle.engine.proofs.background.is_covered.Goals as goal
 
 pub returns-then-is_empty : goal.returns-then-is_empty

@@ -3,7 +3,6 @@ use Rattle.engine.specs.Picture.{draw_paint}
 use Rattle.engine.specs.Rows.{shade_at}
 use Rattle.scene.specs.Fields.{blend_of}
 use Rattle.engine.proofs.Hiding.{same_hides}
-use borrow.Author.Rules.{rules}
 use Rattle.engine.proofs.background.paint_hides.Goals as goal
 
 pub returns : goal.returns

@@ -4,7 +4,6 @@ use native.Mathlib.Omega.{arith}
 use Rattle.engine.specs.declared.Shade.{Shade}
 use Rattle.engine.specs.Rows.{Shaded, shade_at}
 use Rattle.engine.proofs.Hiding.{solid_hides}
-use borrow.Author.Rules.{rules}
 use Rattle.engine.proofs.background.shade_hides.Goals as goal
 
 pub gradient_hides-requires : goal.gradient_hides-requires

@@ -1,6 +1,5 @@
 -- `decode::linear` meets its contract.
 use Rattle.engine.proofs.Paints.{points_limited}
-use borrow.Author.Rules.{rules}
 use Rattle.engine.proofs.decode.linear.Goals as goal
 
 pub make_ramp-count-requires : goal.make_ramp-count-requires

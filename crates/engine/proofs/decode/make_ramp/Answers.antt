@@ -7,7 +7,6 @@ use lib.ListN.{length}
 use Rattle.paint.proofs.Built.{so_written}
 use Rattle.scene.proofs.Accepted.{few_stops}
 use Rattle.engine.proofs.Paints.{stops_hold}
-use borrow.Author.Rules.{rules}
 use Rattle.engine.proofs.decode.make_ramp.Goals as goal
 
 pub build_ramp-requires : goal.build_ramp-requires

@@ -2,7 +2,6 @@
 use mathlib.Core.Path.{ap, ◌∙◌}
 use Rattle.paint.specs.Radial.{focal_allowed}
 use Rattle.engine.proofs.Paints.{circle_limited, focal_kept}
-use borrow.Author.Rules.{rules}
 use Rattle.engine.proofs.decode.radial.Goals as goal
 
 pub make_ramp-count-requires : goal.make_ramp-count-requires

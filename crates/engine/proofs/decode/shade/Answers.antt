@@ -1,7 +1,6 @@
 -- `decode::shade` meets its contract, paint by paint.
 use mathlib.Core.Path.{sym, ◌∙◌}
 use Rattle.engine.proofs.Paints.{solid_shades, linear_shades, radial_shades}
-use borrow.Author.Rules.{rules}
 use Rattle.engine.proofs.decode.shade.Goals as goal
 
 pub linear-requires : goal.linear-requires

@@ -1,5 +1,4 @@
 -- `decode::style` meets its contract, field by field.
-use borrow.Author.Rules.{rules}
 use Rattle.engine.proofs.decode.style.Goals as goal
 
 pub returns : goal.returns

@@ -2,7 +2,6 @@
 use mathlib.Core.Path.{sym, ap, ◌∙◌}
 use Rattle.transform.specs.Transforms.{fixed_transform}
 use Rattle.engine.proofs.Paints.{tint_on, tint_off}
-use borrow.Author.Rules.{rules}
 use Rattle.engine.proofs.decode.tint.Goals as goal
 
 pub returns-then-transforms : goal.returns-then-transforms

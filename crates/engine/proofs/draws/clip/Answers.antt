@@ -1,14 +1,10 @@
 -- `draws::clip` meets its contract.
-use mathlib.Core.Path.{◌≡◌, sym, ap₂, subst, ◌∙◌}
-use mathlib.Core.List.{List}
-use Prim.Native.Nat.{ℕ, ◌*◌, ◌≤◌}
+use mathlib.Core.Path.{◌≡◌, sym, ap₂, ◌∙◌}
+use Prim.Native.Nat.{◌≤◌}
 use native.Mathlib.Omega.{arith}
 use lib.ListN.{length}
-use borrow.Author.Tests.{not-true, not-false}
 use Rattle.coverage.specs.Clips.{scissor_box}
-use Rattle.scene.specs.Fields.{scissors_of, scissor_count}
 use Rattle.engine.proofs.Paints.{scissors_length}
-use borrow.Author.Rules.{rules}
 use Rattle.engine.proofs.draws.clip.Goals as goal
 
 pub scissor_box-requires : goal.scissor_box-requires

@@ -5,7 +5,6 @@ use Rattle.rect.specs.Rects.{empty_of}
 use Rattle.path.specs.Boxes.{box_of}
 use Rattle.engine.specs.Picture.{draw_edges}
 use Rattle.engine.proofs.Steps.{hull_none}
-use borrow.Author.Rules.{rules}
 use Rattle.engine.proofs.draws.misses.Goals as goal
 
 pub returns-then-a-height : goal.returns-then-a-height

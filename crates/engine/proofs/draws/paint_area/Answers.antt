@@ -10,7 +10,6 @@ use Rattle.engine.specs.Picture.{mask_at}
 use Rattle.engine.specs.Rows.{Blank}
 use Rattle.engine.proofs.Unclamped.{background_under}
 use Rattle.engine.proofs.Hiding.{around_then}
-use borrow.Author.Rules.{rules}
 use Rattle.engine.proofs.draws.paint_area.Goals as goal
 use Rattle.engine.proofs.draws.paint_area.Tie as tie
 use Rattle.engine.proofs.draws.paint_area.Lts as lts

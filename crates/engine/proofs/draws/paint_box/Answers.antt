@@ -7,7 +7,6 @@ use Rattle.path.specs.Stored.{edges_of}
 use Rattle.engine.specs.Picture.{mask_at}
 use Rattle.engine.specs.Rows.{clip_of}
 use Rattle.engine.proofs.Steps.{box_enough, box_none, box_part}
-use borrow.Author.Rules.{rules}
 use Rattle.engine.proofs.draws.paint_box.Goals as goal
 use Rattle.engine.proofs.draws.paint_box.Tie as tie
 use Rattle.engine.proofs.draws.paint_box.Lts as lts

@@ -15,7 +15,6 @@ use Rattle.engine.specs.Picture.{draw_edges, mask_at}
 use Rattle.engine.specs.Unclamped.{unclamped_of}
 use Rattle.engine.specs.Rows.{clip_of}
 use Rattle.engine.proofs.Steps.{draw_closed, hull_none, box_none}
-use borrow.Author.Rules.{rules}
 use Rattle.engine.proofs.draws.paint_draw.Goals as goal
 
 pub misses-requires : goal.misses-requires

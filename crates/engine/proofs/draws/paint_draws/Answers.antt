@@ -1,10 +1,9 @@
 -- `draws::paint_draws` meets its contract: the draws before i are painted.
 use mathlib.Core.Path.{◌≡◌, refl, sym, ap₂, subst, ◌∙◌}
 use mathlib.Core.List.{List}
-use Prim.Native.Nat.{ℕ, ◌-◌, ◌*◌, ◌≤◌, ◌<◌}
+use Prim.Native.Nat.{ℕ, ◌*◌, ◌<◌}
 use native.Mathlib.Omega.{arith}
 use lib.IntN.{ℤ}
-use lib.ListN.{length}
 use Rattle.raster.specs.Rows.{stepped}
 use Rattle.raster.proofs.Overlay.{overlay_keep}
 use Rattle.scene.specs.Header.{count_of, edition_of}
@@ -14,7 +13,6 @@ use Rattle.engine.specs.Picture.{first_draws, mask_at}
 use Rattle.engine.specs.Unclamped.{unclamped_all}
 use Rattle.engine.specs.Rows.{Blank, MaskFor}
 use Rattle.engine.proofs.Steps.{draws_turn}
-use borrow.Author.Rules.{rules}
 use Rattle.engine.proofs.draws.paint_draws.Goals as goal
 
 pub edition-edition-requires : goal.edition-edition-requires

@@ -1,20 +1,10 @@
 -- `draws::paint_draws` meets its contract: the draws before i are painted.
-use mathlib.Core.Path.{◌≡◌, refl, sym, ap₂, subst, ◌∙◌}
-use mathlib.Core.List.{List}
-use Prim.Native.Nat.{ℕ, ◌-◌, ◌*◌, ◌≤◌, ◌<◌}
-use native.Mathlib.Omega.{arith}
-use lib.IntN.{ℤ}
+use mathlib.Core.Path.{◌≡◌}
+use Prim.Native.Nat.{◌-◌, ◌≤◌}
 use lib.ListN.{length}
 use Rattle.raster.specs.Rows.{stepped}
-use Rattle.raster.proofs.Overlay.{overlay_keep}
-use Rattle.scene.specs.Header.{count_of, edition_of}
-use Rattle.scene.specs.Fields.{uses_mask}
-use Rattle.scene.specs.Accepted.{AcceptedDraw}
 use Rattle.engine.specs.Picture.{first_draws, mask_at}
 use Rattle.engine.specs.Unclamped.{unclamped_all}
-use Rattle.engine.specs.Rows.{Blank, MaskFor}
-use Rattle.engine.proofs.Steps.{draws_turn}
-use borrow.Author.Rules.{rules}
 use Rattle.engine.proofs.draws.paint_draws.Given as goal
 
 -- `draws::paint_draws` meets its contract: the draws before i are painted.

@@ -1,7 +1,6 @@
 use mathlib.Core.Path.{sym, ◌∙◌}
 use lib.ListN.{length}
 use Rattle.engine.proofs.Scratch.{zeros_table}
-use borrow.Author.Rules.{rules}
 use Rattle.engine.proofs.edges.clear.Goals as goal
 
 pub returns : goal.returns

@@ -5,7 +5,6 @@ use native.Mathlib.Omega.{arith}
 use lib.IntN.{ℤ, pos}
 use lib.ListN.{length, take, drop, replicate}
 use Rattle.lists.proofs.Laws.{part_length}
-use borrow.Author.Rules.{rules}
 use Rattle.engine.proofs.edges.clear_edges.Goals as goal
 
 pub returns : goal.returns

@@ -1,7 +1,6 @@
 use mathlib.Core.Path.{ap, ◌∙◌}
 use native.Mathlib.Omega.{arith}
 use Rattle.path.specs.Boxes.{box_of}
-use borrow.Author.Rules.{rules}
 use Rattle.engine.proofs.edges.draw_bounds.Goals as goal
 
 pub bounds-b-requires : goal.bounds-b-requires

@@ -1,6 +1,5 @@
 use native.Mathlib.Omega.{arith}
 use Rattle.engine.proofs.Scratch.{flatten_asked, edges_laid, edges_cleared}
-use borrow.Author.Rules.{rules}
 use Rattle.engine.proofs.edges.lay_edges.Goals as goal
 
 pub fixed_matrix-requires : goal.fixed_matrix-requires

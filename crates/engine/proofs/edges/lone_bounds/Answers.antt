@@ -1,7 +1,6 @@
 use mathlib.Core.Path.{◌∙◌}
 use Rattle.engine.specs.Picture.{draw_edges}
 use Rattle.engine.proofs.Scratch.{flatten_asked}
-use borrow.Author.Rules.{rules}
 use Rattle.engine.proofs.edges.lone_bounds.Goals as goal
 
 pub fixed_matrix-requires : goal.fixed_matrix-requires

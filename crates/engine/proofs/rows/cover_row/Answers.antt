@@ -6,7 +6,6 @@ use borrow.Author.Tests.{not-true, not-false}
 use Rattle.runs.specs.Runs.{Runs}
 use Rattle.path.specs.Stored.{edges_of}
 use Rattle.engine.proofs.RowLaws.{coverage_fits, cover_plain, cover_scissored}
-use borrow.Author.Rules.{rules}
 use Rattle.engine.proofs.rows.cover_row.Goals as goal
 
 pub returns-then-not-style : goal.returns-then-not-style

@@ -6,18 +6,15 @@ use native.Mathlib.Omega.{arith}
 use lib.IntN.{ℤ}
 use lib.ListN.{length, take, drop}
 use Rattle.lists.proofs.Laws.{part_length}
-use Rattle.raster.specs.Rows.{Rows, Part}
+use Rattle.raster.specs.Rows.{Part}
 use Rattle.raster.specs.declared.Target.{Target}
 use Rattle.raster.proofs.Rows.{rows_none, rows_all}
-use Rattle.path.specs.Stored.{edges_of}
 use Rattle.coverage.specs.Scanline.{Outlined}
 use Rattle.coverage.specs.Band.{Band}
 use Rattle.paint.specs.Buffers.{ramp_numbers}
-use Rattle.engine.specs.Picture.{mask_at}
-use Rattle.engine.specs.Rows.{step_with, Shaded, RowRoom, MaskFor, ListedIn}
+use Rattle.engine.specs.Rows.{Shaded, RowRoom, MaskFor, ListedIn}
 use Rattle.engine.proofs.RowLaws.{back_length, ramp_kept, list_given, same_steps}
 use Rattle.engine.proofs.Bands.{band_part, rows_band}
-use borrow.Author.Rules.{rules}
 use Rattle.engine.proofs.rows.draw_bands.Goals as goal
 use Rattle.engine.proofs.rows.draw_bands.Tie as tie
 use Rattle.engine.proofs.rows.draw_bands.Lts as lts

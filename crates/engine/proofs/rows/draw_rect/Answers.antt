@@ -1,11 +1,10 @@
 -- `rows::draw_rect` meets its contract: the rows below y are drawn.
 use mathlib.Core.List.{List}
-use mathlib.Core.Path.{◌≡◌, refl, sym, ap, subst, ◌∙◌}
+use mathlib.Core.Path.{refl, sym, ap, subst, ◌∙◌}
 use Prim.Native.Nat.{◌-◌}
 use native.Mathlib.Omega.{arith}
 use lib.IntN.{ℤ}
 use lib.ListN.{length, take}
-use Rattle.raster.specs.Rows.{Rows}
 use Rattle.raster.proofs.Rows.{Lent, rows_none, row_lent, rows_all}
 use Rattle.path.specs.Stored.{edges_of}
 use Rattle.coverage.specs.Scanline.{Outlined}

@@ -1,18 +1,12 @@
 -- `rows::draw_rect` meets its contract: the rows below y are drawn.
-use mathlib.Core.List.{List}
-use mathlib.Core.Path.{◌≡◌, refl, sym, ap, subst, ◌∙◌}
+use mathlib.Core.Path.{◌≡◌}
 use Prim.Native.Nat.{◌-◌}
-use native.Mathlib.Omega.{arith}
-use lib.IntN.{ℤ}
 use lib.ListN.{length, take}
 use Rattle.raster.specs.Rows.{Rows}
-use Rattle.raster.proofs.Rows.{Lent, rows_none, row_lent, rows_all}
 use Rattle.path.specs.Stored.{edges_of}
-use Rattle.coverage.specs.Scanline.{Outlined}
 use Rattle.paint.specs.Buffers.{ramp_numbers}
 use Rattle.engine.specs.Picture.{mask_at}
-use Rattle.engine.specs.Rows.{step_with, OnSurface, ListedFor}
-use Rattle.engine.proofs.Masks.{MaskRow, mask_row, mask_turn}
+use Rattle.engine.specs.Rows.{step_with}
 use Rattle.engine.proofs.rows.draw_rect.Given as goal
 
 -- `rows::draw_rect` meets its contract: the rows below y are drawn.

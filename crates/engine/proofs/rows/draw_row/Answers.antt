@@ -8,7 +8,6 @@ use Rattle.path.specs.Stored.{edges_of}
 use Rattle.coverage.specs.Band.{Needed}
 use Rattle.paint.specs.Buffers.{ramp_numbers}
 use Rattle.engine.proofs.RowLaws.{cover_fits, row_steps, first_given, behind_ramp}
-use borrow.Author.Rules.{rules}
 use Rattle.engine.proofs.rows.draw_row.Goals as goal
 use Rattle.engine.proofs.rows.draw_row.Tie as tie
 use Rattle.engine.proofs.rows.draw_row.Lts as lts

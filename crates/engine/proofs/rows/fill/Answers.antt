@@ -1,6 +1,5 @@
 -- `rows::fill` meets its contract.
 use native.Mathlib.Omega.{arith}
-use borrow.Author.Rules.{rules}
 use Rattle.engine.proofs.rows.fill.Goals as goal
 
 pub fill_draw-requires : goal.fill_draw-requires

@@ -13,7 +13,6 @@ use Rattle.engine.specs.Picture.{mask_at, draw_paint}
 use Rattle.engine.specs.Rows.{shade_at, Shaded, MaskFor, style_of, in_mode, SameBlend}
 use Rattle.engine.proofs.RowLaws.{first_part, first_given}
 use Rattle.engine.proofs.Paints.{own_steps, scissors_length}
-use borrow.Author.Rules.{rules}
 use Rattle.engine.proofs.rows.fill_draw.Goals as goal
 use Rattle.engine.proofs.rows.fill_draw.Tie as tie
 use Rattle.engine.proofs.rows.fill_draw.Lts as lts

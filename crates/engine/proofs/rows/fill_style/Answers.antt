@@ -1,6 +1,5 @@
 -- `rows::fill_style` meets its contract.
 use native.Mathlib.Omega.{arith}
-use borrow.Author.Rules.{rules}
 use Rattle.engine.proofs.rows.fill_style.Goals as goal
 
 pub fill_with-requires : goal.fill_with-requires

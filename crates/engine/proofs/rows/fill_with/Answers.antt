@@ -4,7 +4,6 @@ use Prim.Native.Nat.{◌-◌, ◌*◌, ◌≤◌}
 use native.Mathlib.Omega.{arith}
 use lib.ListN.{length}
 use Rattle.lists.proofs.Laws.{part_length}
-use borrow.Author.Rules.{rules}
 use Rattle.engine.proofs.rows.fill_with.Goals as goal
 use Rattle.engine.proofs.rows.fill_with.Tie as tie
 use Rattle.engine.proofs.rows.fill_with.Lts as lts

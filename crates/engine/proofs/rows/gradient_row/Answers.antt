@@ -4,7 +4,6 @@ use Prim.Native.Nat.{◌+◌}
 use mathlib.Core.Path.{◌∙◌}
 use Rattle.paint.specs.Circles.{gradient_at}
 use Rattle.engine.proofs.RowLaws.{tinted_pixels}
-use borrow.Author.Rules.{rules}
 use Rattle.engine.proofs.rows.gradient_row.Goals as goal
 
 pub gradient_row-requires : goal.gradient_row-requires

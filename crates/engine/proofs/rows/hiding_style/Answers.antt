@@ -2,7 +2,6 @@
 use mathlib.Core.Path.{refl}
 use Rattle.engine.specs.Rows.{shade_at}
 use Rattle.engine.proofs.Paints.{hiding_as_src}
-use borrow.Author.Rules.{rules}
 use Rattle.engine.proofs.rows.hiding_style.Goals as goal
 
 pub returns-then-shade_hides : goal.returns-then-shade_hides

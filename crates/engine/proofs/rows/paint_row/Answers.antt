@@ -3,7 +3,6 @@ use mathlib.Core.Path.{subst}
 use Rattle.engine.specs.declared.Shade.{Shade}
 use Rattle.engine.specs.Rows.{Shaded}
 use Rattle.engine.proofs.RowLaws.{solid_pixels, gradient_pixels}
-use borrow.Author.Rules.{rules}
 use Rattle.engine.proofs.rows.paint_row.Goals as goal
 
 pub gradient_row-requires : goal.gradient_row-requires

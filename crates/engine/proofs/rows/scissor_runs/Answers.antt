@@ -6,7 +6,6 @@ use Rattle.runs.specs.Runs.{Runs}
 use Rattle.runs.proofs.Expand.{runs_few}
 use Rattle.blend.specs.Rows.{Coverage}
 use Rattle.engine.proofs.RowLaws.{cut_small, cut_row}
-use borrow.Author.Rules.{rules}
 use Rattle.engine.proofs.rows.scissor_runs.Goals as goal
 use Rattle.engine.proofs.rows.scissor_runs.Tie as tie
 use Rattle.engine.proofs.rows.scissor_runs.Lts as lts

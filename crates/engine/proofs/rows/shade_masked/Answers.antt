@@ -8,7 +8,6 @@ use Rattle.lists.proofs.Laws.{part_length}
 use Rattle.runs.specs.Runs.{start_of, expand}
 use Rattle.runs.proofs.Expand.{runs_few, runs_length}
 use Rattle.engine.proofs.RowLaws.{first_of, first_part, first_given, painted_row}
-use borrow.Author.Rules.{rules}
 use Rattle.engine.proofs.rows.shade_masked.Goals as goal
 use Rattle.engine.proofs.rows.shade_masked.Tie as tie
 use Rattle.engine.proofs.rows.shade_masked.Lts as lts

@@ -6,7 +6,6 @@ use Rattle.runs.proofs.Expand.{runs_few}
 use Rattle.engine.specs.declared.Shade.{Shade}
 use Rattle.engine.specs.Rows.{Shaded}
 use Rattle.engine.proofs.RowLaws.{solid_row, gradient_blended}
-use borrow.Author.Rules.{rules}
 use Rattle.engine.proofs.rows.shade_plain.Goals as goal
 
 pub composite_runs-requires : goal.composite_runs-requires

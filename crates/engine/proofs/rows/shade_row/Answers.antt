@@ -5,7 +5,6 @@ use lib.ListN.{get_or}
 use Rattle.runs.specs.Runs.{expand}
 use Rattle.engine.specs.Rows.{shade_at}
 use Rattle.engine.proofs.Masks.{mask_chosen}
-use borrow.Author.Rules.{rules}
 use Rattle.engine.proofs.rows.shade_row.Goals as goal
 
 pub shade_masked-requires : goal.shade_masked-requires

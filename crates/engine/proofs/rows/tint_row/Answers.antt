@@ -1,6 +1,5 @@
 -- `rows::tint_row` meets its contract: pixels as they are, or transformed.
 use Rattle.engine.proofs.RowLaws.{plain_row, transformed_row}
-use borrow.Author.Rules.{rules}
 use Rattle.engine.proofs.rows.tint_row.Goals as goal
 
 pub returns-in-Plain : goal.returns-in-Plain

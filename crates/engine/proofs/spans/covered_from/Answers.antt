@@ -1,9 +1,6 @@
 -- `spans::covered_from` meets its contract: no run before r has a sample that is covered.
-use Prim.Native.Nat.{◌-◌, ◌≤◌}
 use native.Mathlib.Omega.{arith}
-use Rattle.engine.specs.Spans.{Uncovered}
 use Rattle.engine.proofs.Parts.{uncovered_more}
-use borrow.Author.Rules.{rules}
 use Rattle.engine.proofs.spans.covered_from.Goals as goal
 
 pub loop-r-init : goal.loop-r-init

@@ -1,6 +1,5 @@
 -- `spans::covered_to` meets its contract.
 use Prim.Native.Nat.{◌-◌, ◌≤◌, ◌<◌}
-use borrow.Author.Rules.{rules}
 use Rattle.engine.proofs.spans.covered_to.Given as goal
 
 -- `spans::covered_to` meets its contract.

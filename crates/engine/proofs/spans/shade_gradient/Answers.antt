@@ -3,7 +3,6 @@ use mathlib.Core.Path.{subst}
 use Rattle.paint.specs.declared.AnyGradient.{AnyGradient}
 use Rattle.paint.specs.Circles.{HeldGradient}
 use Rattle.paint.proofs.Sizes.{same_bits}
-use borrow.Author.Rules.{rules}
 use Rattle.engine.proofs.spans.shade_gradient.Goals as goal
 
 pub shade_level-requires : goal.shade_level-requires

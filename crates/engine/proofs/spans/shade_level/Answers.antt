@@ -3,7 +3,6 @@ use native.Mathlib.Omega.{arith}
 use Rattle.runs.specs.Runs.{expand}
 use Rattle.runs.proofs.Expand.{runs_few}
 use Rattle.engine.proofs.Levels.{level_row}
-use borrow.Author.Rules.{rules}
 use Rattle.engine.proofs.spans.shade_level.Goals as goal
 
 pub composite_runs-requires : goal.composite_runs-requires

@@ -10,7 +10,6 @@ use Rattle.runs.proofs.Expand.{starts_rise}
 use Rattle.engine.specs.Rows.{gradient_tinted, PartOfRow}
 use Rattle.engine.proofs.RowLaws.{first_of, first_part}
 use Rattle.engine.proofs.Parts.{part_row}
-use borrow.Author.Rules.{rules}
 use Rattle.engine.proofs.spans.shade_part.Goals as goal
 use Rattle.engine.proofs.spans.shade_part.Tie as tie
 use Rattle.engine.proofs.spans.shade_part.Lts as lts

@@ -5,14 +5,12 @@ use Prim.Native.Nat.{ℕ, ◌+◌, ◌-◌, ◌*◌, ◌≤◌}
 use native.Mathlib.Omega.{arith}
 use lib.ListN.{length}
 use Rattle.lists.proofs.Laws.{part_length}
-use Rattle.runs.specs.Runs.{start_of, expand, Runs}
+use Rattle.runs.specs.Runs.{start_of, Runs}
 use Rattle.runs.proofs.Expand.{starts_rise, runs_few, first_runs, first_within}
 use Rattle.color.specs.declared.Pixel.{Pixel}
-use Rattle.raster.specs.Rows.{Stored}
 use Rattle.raster.proofs.Runs.{stored_none}
 use Rattle.engine.specs.Rows.{gradient_tinted}
-use Rattle.engine.proofs.Parts.{stepped, first_covered, stored_past, stored_through, stored_whole}
-use borrow.Author.Rules.{rules}
+use Rattle.engine.proofs.Parts.{first_covered, stored_past, stored_through, stored_whole}
 use Rattle.engine.proofs.spans.shade_parts.Goals as goal
 use Rattle.engine.proofs.spans.shade_parts.Tie as tie
 use Rattle.engine.proofs.spans.shade_parts.Lts as lts

@@ -8,7 +8,6 @@ use Rattle.fixed.specs.Little.{u16_at}
 use Rattle.scene.specs.declared.Checksum.{Checksum}
 use Rattle.scene.specs.Layout.{block_bytes, payload_bytes}
 use Rattle.scene.specs.Blocks.{checksum_of, block_right_from, block_right}
-use borrow.Author.Rules.{rules}
 use Rattle.scene.proofs.blocks.block_right.Goals as goal
 
 -- the first number as it should be: the second decides

@@ -1,14 +1,8 @@
 -- `scene::blocks::checksum` meets its contract.
-use mathlib.Core.Path.{◌≡◌, ap, ◌∙◌}
-use Prim.Native.Nat.{ℕ, suc, ◌+◌, ◌-◌, ◌*◌, ◌≤◌}
-use native.Mathlib.Nat.{mul-le-mul}
-use native.Mathlib.Numerals.{add-one}
-use native.Mathlib.Omega.{arith}
+use mathlib.Core.Path.{◌≡◌}
+use Prim.Native.Nat.{suc, ◌+◌, ◌-◌, ◌*◌, ◌≤◌}
 use Rattle.lists.specs.Lists.{total}
-use Rattle.scene.specs.declared.Column.{Column}
-use Rattle.scene.specs.Strips.{column_of}
-use Rattle.scene.proofs.Sums.{sum_turn, alls, lates, check_summed}
-use borrow.Author.Rules.{rules}
+use Rattle.scene.proofs.Sums.{alls, lates}
 use Rattle.scene.proofs.blocks.checksum.Given as goal
 
 -- `scene::blocks::checksum` meets its contract.

@@ -1,7 +1,6 @@
 -- `scene::blocks::column` meets its contract.
 use native.Mathlib.Omega.{arith}
 use Rattle.scene.proofs.Sums.{column_is}
-use borrow.Author.Rules.{rules}
 use Rattle.scene.proofs.blocks.column.Goals as goal
 
 pub overflow_add-from5 : goal.overflow_add-from5

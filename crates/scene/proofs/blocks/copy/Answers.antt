@@ -1,9 +1,6 @@
 -- `scene::blocks::copy` meets its contract.
-use mathlib.Core.Path.{◌≡◌}
-use Prim.Native.Nat.{◌-◌, ◌≤◌}
 use native.Mathlib.Omega.{arith}
-use lib.ListN.{length, take, drop, length-set}
-use Rattle.lists.specs.Lists.{over}
+use lib.ListN.{length-set}
 use Rattle.scene.proofs.Copies.{copy_turn, copy_end}
 use borrow.Author.Rules.{rules}
 use Rattle.scene.proofs.blocks.copy.Goals as goal

@@ -1,11 +1,8 @@
 -- `scene::blocks::copy` meets its contract.
 use mathlib.Core.Path.{◌≡◌}
 use Prim.Native.Nat.{◌-◌, ◌≤◌}
-use native.Mathlib.Omega.{arith}
-use lib.ListN.{length, take, drop, length-set}
+use lib.ListN.{length, take, drop}
 use Rattle.lists.specs.Lists.{over}
-use Rattle.scene.proofs.Copies.{copy_turn, copy_end}
-use borrow.Author.Rules.{rules}
 use Rattle.scene.proofs.blocks.copy.Given as goal
 
 -- `scene::blocks::copy` meets its contract.

@@ -4,7 +4,6 @@ use Prim.Native.Nat.{ℕ, ◌+◌, ◌-◌, ◌*◌, ◌≤◌}
 use native.Mathlib.Omega.{arith}
 use lib.ListN.{length, take, drop}
 use mathlib.Core.List.{List}
-use Rattle.lists.specs.Lists.{upto}
 use Rattle.lists.proofs.Laws.{part_length, take_end}
 use Rattle.scene.specs.Layout.{block_bytes, payload_bytes, draw_blocks}
 use Rattle.scene.specs.Blocks.{draw_of, block_of}

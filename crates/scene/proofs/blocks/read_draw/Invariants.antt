@@ -1,15 +1,11 @@
 -- `scene::blocks::read_draw` meets its contract.
-use mathlib.Core.Path.{◌≡◌, ap, ◌∙◌}
+use mathlib.Core.Path.{◌≡◌}
 use Prim.Native.Nat.{ℕ, ◌+◌, ◌-◌, ◌*◌, ◌≤◌}
-use native.Mathlib.Omega.{arith}
 use lib.ListN.{length, take, drop}
 use mathlib.Core.List.{List}
 use Rattle.lists.specs.Lists.{upto}
-use Rattle.lists.proofs.Laws.{part_length, take_end}
 use Rattle.scene.specs.Layout.{block_bytes, payload_bytes, draw_blocks}
-use Rattle.scene.specs.Blocks.{draw_of, block_of}
-use Rattle.scene.proofs.Copies.{part_kept, part_turn}
-use borrow.Author.Rules.{rules}
+use Rattle.scene.specs.Blocks.{block_of}
 use Rattle.scene.proofs.blocks.read_draw.Given as goal
 
 -- the payload of block k of draw i

@@ -1,14 +1,8 @@
 -- `scene::blocks::same_block` meets its contract.
-use mathlib.Core.Path.{◌≡◌, ap, ◌∙◌}
-use mathlib.Core.Bool.{Bool, ◌&&◌}
+use mathlib.Core.Path.{◌≡◌}
 use Prim.Native.Nat.{◌+◌, ◌-◌, ◌*◌, ◌≤◌}
-use native.Mathlib.Omega.{arith}
-use lib.Dec.{eqb}
-use lib.ListN.{get_or}
-use Rattle.scene.specs.Layout.{block_bytes, payload_bytes}
-use Rattle.scene.specs.Blocks.{block_of, draw_of, same_to}
-use Rattle.scene.proofs.Same.{draw_more}
-use borrow.Author.Rules.{rules}
+use Rattle.scene.specs.Layout.{payload_bytes}
+use Rattle.scene.specs.Blocks.{draw_of, same_to}
 use Rattle.scene.proofs.blocks.same_block.Given as goal
 
 -- `scene::blocks::same_block` meets its contract.

@@ -1,9 +1,9 @@
 -- `scene::blocks::same_draw` meets its contract.
 use mathlib.Core.Path.{◌≡◌, refl}
-use Prim.Native.Nat.{◌-◌, ◌*◌, ◌≤◌}
+use Prim.Native.Nat.{◌*◌}
 use native.Mathlib.Omega.{arith}
-use Rattle.scene.specs.Layout.{payload_bytes, draw_blocks, draw_bytes}
-use Rattle.scene.specs.Blocks.{draw_of, same_to, same_draw}
+use Rattle.scene.specs.Layout.{payload_bytes, draw_bytes}
+use Rattle.scene.specs.Blocks.{same_draw}
 use borrow.Author.Rules.{rules}
 use Rattle.scene.proofs.blocks.same_draw.Goals as goal
 

@@ -1,10 +1,8 @@
 -- `scene::blocks::same_draw` meets its contract.
-use mathlib.Core.Path.{◌≡◌, refl}
+use mathlib.Core.Path.{◌≡◌}
 use Prim.Native.Nat.{◌-◌, ◌*◌, ◌≤◌}
-use native.Mathlib.Omega.{arith}
-use Rattle.scene.specs.Layout.{payload_bytes, draw_blocks, draw_bytes}
-use Rattle.scene.specs.Blocks.{draw_of, same_to, same_draw}
-use borrow.Author.Rules.{rules}
+use Rattle.scene.specs.Layout.{payload_bytes, draw_blocks}
+use Rattle.scene.specs.Blocks.{draw_of, same_to}
 use Rattle.scene.proofs.blocks.same_draw.Given as goal
 
 -- `scene::blocks::same_draw` meets its contract.

@@ -1,6 +1,5 @@
 -- `scene::blocks::still_same` meets its contract.
-use mathlib.Core.Path.{◌≡◌, sym}
-use mathlib.Core.Bool.{Bool, true, false, ◌&&◌}
+use mathlib.Core.Path.{sym}
 use borrow.Author.Tests.{eq-eqb, ne_eqb}
 use Rattle.scene.proofs.Same.{not_second, and-true}
 use Rattle.scene.proofs.blocks.still_same.Goals as goal

@@ -1,8 +1,6 @@
 -- `scene::faults::first_used` meets its contract.
-use mathlib.Core.Path.{◌≡◌, sym, ◌∙◌}
-use Prim.Native.Nat.{◌-◌, ◌≤◌}
+use mathlib.Core.Path.{sym, ◌∙◌}
 use native.Mathlib.Omega.{arith}
-use Rattle.scene.specs.Faults.{fine, unused}
 use Rattle.scene.proofs.First.{unused_turn, unused_hit, unused_none, unused_end}
 use borrow.Author.Rules.{rules}
 use Rattle.scene.proofs.faults.first_used.Goals as goal

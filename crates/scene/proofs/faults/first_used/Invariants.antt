@@ -1,10 +1,7 @@
 -- `scene::faults::first_used` meets its contract.
-use mathlib.Core.Path.{◌≡◌, sym, ◌∙◌}
+use mathlib.Core.Path.{◌≡◌}
 use Prim.Native.Nat.{◌-◌, ◌≤◌}
-use native.Mathlib.Omega.{arith}
 use Rattle.scene.specs.Faults.{fine, unused}
-use Rattle.scene.proofs.First.{unused_turn, unused_hit, unused_none, unused_end}
-use borrow.Author.Rules.{rules}
 use Rattle.scene.proofs.faults.first_used.Given as goal
 
 -- `scene::faults::first_used` meets its contract.

@@ -1,11 +1,9 @@
 -- `scene::faults::is_zero` meets its contract.
-use mathlib.Core.Path.{◌≡◌, sym, ap, ◌∙◌}
+use mathlib.Core.Path.{sym, ap, ◌∙◌}
 use mathlib.Core.Bool.{Bool, ◌&&◌}
-use Prim.Native.Nat.{◌-◌, ◌≤◌}
 use native.Mathlib.Omega.{arith}
 use lib.Dec.{eqb}
 use lib.ListN.{get_or}
-use Rattle.scene.specs.Faults.{unused}
 use Rattle.scene.proofs.First.{unused_none, zero_turn, zero_end}
 use borrow.Author.Rules.{rules}
 use Rattle.scene.proofs.faults.is_zero.Goals as goal

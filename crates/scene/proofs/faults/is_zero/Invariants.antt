@@ -1,13 +1,8 @@
 -- `scene::faults::is_zero` meets its contract.
-use mathlib.Core.Path.{◌≡◌, sym, ap, ◌∙◌}
-use mathlib.Core.Bool.{Bool, ◌&&◌}
+use mathlib.Core.Path.{◌≡◌}
 use Prim.Native.Nat.{◌-◌, ◌≤◌}
-use native.Mathlib.Omega.{arith}
 use lib.Dec.{eqb}
-use lib.ListN.{get_or}
 use Rattle.scene.specs.Faults.{unused}
-use Rattle.scene.proofs.First.{unused_none, zero_turn, zero_end}
-use borrow.Author.Rules.{rules}
 use Rattle.scene.proofs.faults.is_zero.Given as goal
 
 -- `scene::faults::is_zero` meets its contract.

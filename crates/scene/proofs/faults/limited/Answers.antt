@@ -1,7 +1,6 @@
 -- `scene::faults::limited` meets its contract.
 use mathlib.Core.Path.{◌∙◌}
 use Rattle.scene.proofs.Sizes.{limited_patterns}
-use borrow.Author.Rules.{rules}
 use Rattle.scene.proofs.faults.limited.Goals as goal
 
 pub returns : goal.returns

@@ -1,5 +1,4 @@
 -- `scene::faults::must` meets its contract.
-use borrow.Author.Rules.{rules}
 use Rattle.scene.proofs.faults.must.Goals as goal
 
 pub returns-then-ok : goal.returns-then-ok

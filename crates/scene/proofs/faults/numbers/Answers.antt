@@ -1,7 +1,6 @@
 -- `scene::faults::numbers` meets its contract.
 use mathlib.Core.Path.{◌∙◌}
 use Rattle.scene.proofs.Sizes.{numbers_patterns}
-use borrow.Author.Rules.{rules}
 use Rattle.scene.proofs.faults.numbers.Goals as goal
 
 pub returns : goal.returns

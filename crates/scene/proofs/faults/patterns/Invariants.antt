@@ -1,14 +1,10 @@
 -- `scene::faults::patterns` meets its contract.
-use mathlib.Core.Path.{◌≡◌, sym, ◌∙◌}
+use mathlib.Core.Path.{◌≡◌}
 use Prim.Native.Nat.{◌+◌, ◌-◌, ◌*◌, ◌≤◌}
 use lib.Dec.{leb}
-use borrow.Author.Tests.{le-leb, lt-leb}
-use native.Mathlib.Omega.{arith}
 use Rattle.scene.specs.Faults.{fine, first_of, must}
-use Rattle.scene.proofs.First.{rules_turn, rules_hit}
 use Rattle.fixed.specs.Little.{u32_at}
 use Rattle.fixed.specs.Patterns.{size_bits}
-use borrow.Author.Rules.{rules}
 use Rattle.scene.proofs.faults.patterns.Given as goal
 
 -- `scene::faults::patterns` meets its contract.

@@ -1,12 +1,11 @@
 -- `scene::faults::unused` meets its contract.
-use mathlib.Core.Path.{◌≡◌, sym, ◌∙◌}
+use mathlib.Core.Path.{sym, ◌∙◌}
 use Prim.Native.Nat.{◌+◌, ◌-◌}
 use borrow.Author.Tests.{eqb-true}
 use lib.Dec.{eqb}
 use lib.ListN.{get_or}
 use Rattle.scene.specs.Faults.{unused}
 use Rattle.scene.proofs.First.{rules_kept}
-use borrow.Author.Rules.{rules}
 use Rattle.scene.proofs.faults.unused.Goals as goal
 
 pub returns-then-is_zero : goal.returns-then-is_zero

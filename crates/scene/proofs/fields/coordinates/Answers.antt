@@ -1,5 +1,4 @@
 -- `scene::fields::coordinates` meets its contract.
-use borrow.Author.Rules.{rules}
 use Rattle.scene.proofs.fields.coordinates.Goals as goal
 
 pub returns : goal.returns

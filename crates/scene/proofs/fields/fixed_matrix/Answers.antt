@@ -7,7 +7,6 @@ use Rattle.path.specs.declared.Converted.TheVariants.{Within, OutOfLimits}
 use Rattle.path.specs.Matrices.{matrix_in_limits, fixed_matrix}
 use Rattle.path.specs.Answers.{converted}
 use Rattle.scene.specs.Fields.{matrix_of}
-use borrow.Author.Rules.{rules}
 use Rattle.scene.proofs.fields.fixed_matrix.Goals as goal
 
 -- a matrix in its limits is converted

@@ -1,7 +1,6 @@
 -- `scene::fields::flag` meets its contract.
 use Prim.Native.Nat.{◌/◌, ◌^◌}
 use lib.Bits.{and_mask}
-use borrow.Author.Rules.{rules}
 use Rattle.scene.proofs.fields.flag.Goals as goal
 
 pub returns : goal.returns

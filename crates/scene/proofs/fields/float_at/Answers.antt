@@ -4,7 +4,6 @@ use lib.Ieee.{binary32, nan_bits, of_bits}
 use Rattle.fixed.specs.Little.{u32_at}
 use Rattle.fixed.proofs.Answers.{is_number, number_told, no_number_lem}
 use Rattle.fixed.proofs.Patterns.{nan_read}
-use borrow.Author.Rules.{rules}
 use Rattle.scene.proofs.fields.float_at.Goals as goal
 
 pub returns-in-Number : goal.returns-in-Number

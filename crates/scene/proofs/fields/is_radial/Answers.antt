@@ -1,5 +1,4 @@
 -- `scene::fields::is_radial` meets its contract.
-use borrow.Author.Rules.{rules}
 use Rattle.scene.proofs.fields.is_radial.Goals as goal
 
 pub returns : goal.returns

@@ -1,5 +1,4 @@
 -- `scene::fields::matrix` meets its contract.
-use borrow.Author.Rules.{rules}
 use Rattle.scene.proofs.fields.matrix.Goals as goal
 
 pub returns : goal.returns

@@ -8,7 +8,6 @@ use Rattle.rect.proofs.Laws.{either}
 use Rattle.paint.specs.Paints.{paint_color, paint_linear, paint_radial}
 use Rattle.scene.specs.Fields.{paint_type_of, paint_of}
 use Rattle.scene.specs.Rules.{is_paint}
-use borrow.Author.Rules.{rules}
 use Rattle.scene.proofs.fields.paint.Goals as goal
 
 -- of the types, the one that is no gradient

@@ -1,5 +1,4 @@
 -- `scene::fields::stops` meets its contract.
-use borrow.Author.Rules.{rules}
 use Rattle.scene.proofs.fields.stops.Goals as goal
 
 pub returns : goal.returns

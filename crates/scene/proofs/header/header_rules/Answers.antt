@@ -1,6 +1,5 @@
 -- `scene::header::header_rules` meets its contract.
 use Rattle.scene.specs.Rules.{header_rules}
-use borrow.Author.Rules.{rules}
 use Rattle.scene.proofs.header.header_rules.Goals as goal
 
 pub returns : goal.returns

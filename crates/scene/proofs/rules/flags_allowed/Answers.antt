@@ -1,7 +1,6 @@
 -- `scene::rules::flags_allowed` meets its contract.
 use borrow.Author.Tests.{le-ltb, lt-ltb}
 use Rattle.scene.specs.Rules.{flags_allowed}
-use borrow.Author.Rules.{rules}
 use Rattle.scene.proofs.rules.flags_allowed.Goals as goal
 
 pub returns-then-u16_at-flags_limit : goal.returns-then-u16_at-flags_limit

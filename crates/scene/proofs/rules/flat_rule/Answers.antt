@@ -8,7 +8,6 @@ use Rattle.scene.specs.Layout.{matrix_at}
 use Rattle.scene.specs.Fields.{matrix_of, segment_count}
 use Rattle.scene.specs.Faults.{must}
 use Rattle.scene.specs.Rules.{flat_rule}
-use borrow.Author.Rules.{rules}
 use Rattle.scene.proofs.rules.flat_rule.Goals as goal
 
 pub returns-then-segment_count-eq0 : goal.returns-then-segment_count-eq0

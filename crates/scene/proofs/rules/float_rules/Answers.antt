@@ -1,6 +1,5 @@
 -- `scene::rules::float_rules` meets its contract.
 use Rattle.scene.specs.Rules.{float_rules}
-use borrow.Author.Rules.{rules}
 use Rattle.scene.proofs.rules.float_rules.Goals as goal
 
 pub returns : goal.returns

@@ -3,7 +3,6 @@ use native.Mathlib.Omega.{arith}
 use Rattle.scene.specs.Layout.{radial_at, radial_floats}
 use Rattle.scene.specs.Rules.{radial_limit, focal_rule}
 use Rattle.scene.proofs.Accepted.{limits}
-use borrow.Author.Rules.{rules}
 use Rattle.scene.proofs.rules.focal_rule.Goals as goal
 
 pub fixed_circle-requires : goal.fixed_circle-requires

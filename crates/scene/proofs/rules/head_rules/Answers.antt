@@ -1,6 +1,5 @@
 -- `scene::rules::head_rules` meets its contract.
 use Rattle.scene.specs.Rules.{head_rules}
-use borrow.Author.Rules.{rules}
 use Rattle.scene.proofs.rules.head_rules.Goals as goal
 
 pub returns : goal.returns

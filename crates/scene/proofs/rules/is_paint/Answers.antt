@@ -1,6 +1,5 @@
 -- `scene::rules::is_paint` meets its contract.
 use borrow.Author.Tests.{eq-eqb, ne_eqb}
-use borrow.Author.Rules.{rules}
 use Rattle.scene.proofs.rules.is_paint.Goals as goal
 
 pub returns-then-n-eq-PAINT_COLOR : goal.returns-then-n-eq-PAINT_COLOR

@@ -1,6 +1,5 @@
 -- `scene::rules::list_rules` meets its contract.
 use Rattle.scene.specs.Rules.{list_rules}
-use borrow.Author.Rules.{rules}
 use Rattle.scene.proofs.rules.list_rules.Goals as goal
 
 pub returns : goal.returns

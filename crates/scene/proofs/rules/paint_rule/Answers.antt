@@ -1,5 +1,4 @@
 -- `scene::rules::paint_rule` meets its contract.
-use borrow.Author.Rules.{rules}
 use Rattle.scene.proofs.rules.paint_rule.Goals as goal
 
 pub returns : goal.returns

@@ -10,7 +10,6 @@ use Rattle.path.proofs.Entries.{matrix_limited}
 use Rattle.scene.specs.Layout.{segment_limit, segments_at, segments_end, draw_bytes}
 use Rattle.scene.specs.Fields.{matrix_of, segments_of, coordinates_of, segment_count}
 use Rattle.scene.proofs.Paths.{checked_of, path_segment, path_refused, path_used, path_accepted}
-use borrow.Author.Rules.{rules}
 use Rattle.scene.proofs.rules.path_rules.Goals as goal
 use Rattle.scene.proofs.rules.path_rules.Tie as tie
 use Rattle.scene.proofs.rules.path_rules.Lts as lts

@@ -1,5 +1,4 @@
 -- `scene::rules::spread_rule` meets its contract.
-use borrow.Author.Rules.{rules}
 use Rattle.scene.proofs.rules.spread_rule.Goals as goal
 
 pub returns : goal.returns

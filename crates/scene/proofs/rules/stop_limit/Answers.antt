@@ -1,6 +1,5 @@
 -- `scene::rules::stop_limit` meets its contract.
 use Rattle.scene.specs.Rules.{stop_limit_of}
-use borrow.Author.Rules.{rules}
 use Rattle.scene.proofs.rules.stop_limit.Goals as goal
 
 pub returns-then-is_radial : goal.returns-then-is_radial

@@ -2,7 +2,6 @@
 use native.Mathlib.Omega.{arith}
 use Rattle.scene.specs.Rules.{stop_rules}
 use Rattle.scene.proofs.Accepted.{stops_fit}
-use borrow.Author.Rules.{rules}
 use Rattle.scene.proofs.rules.stop_rules.Goals as goal
 
 pub numbers-requires : goal.numbers-requires

@@ -3,7 +3,6 @@ use mathlib.Core.Path.{◌∙◌}
 use borrow.Author.Tests.{eq-eqb, ne_eqb}
 use Rattle.scene.specs.Layout.{new_edition}
 use Rattle.scene.specs.Rules.{transform_rules}
-use borrow.Author.Rules.{rules}
 use Rattle.scene.proofs.rules.transform_rules.Goals as goal
 
 pub returns-then-edition-ne-NEW_EDITION : goal.returns-then-edition-ne-NEW_EDITION

@@ -1,16 +1,10 @@
 -- `scene::verdict::check_faults` meets its contract.
 use borrow.Author.Tests.{not-true, not-false}
 use mathlib.Core.Path.{◌≡◌, refl, sym, ◌∙◌}
-use mathlib.Core.Bool.{Bool}
-use mathlib.Core.List.{List}
-use Prim.Native.Nat.{ℕ, ◌+◌, ◌-◌, ◌*◌, ◌≤◌}
 use native.Mathlib.Omega.{arith}
 use Rattle.codes.specs.Codes.{bad_checksum}
 use Rattle.codes.proofs.Refusals.{refuses}
-use Rattle.scene.specs.declared.Fault.{Fault}
-use Rattle.scene.specs.Layout.{block_bytes, payload_bytes, draw_blocks}
-use Rattle.scene.specs.Blocks.{block_right, block_of}
-use Rattle.scene.specs.Faults.{accepted, fault, first_fault, demand}
+use Rattle.scene.specs.Layout.{draw_blocks}
 use Rattle.scene.specs.Rules.{check_faults_from}
 use Rattle.scene.proofs.First.{demands_turn, demands_hit}
 use borrow.Author.Rules.{rules}

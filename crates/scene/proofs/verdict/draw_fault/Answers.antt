@@ -2,7 +2,6 @@
 use mathlib.Core.Path.{ap, ap₂, ◌∙◌}
 use Rattle.codes.proofs.First.{sooner_first, sooner_second}
 use Rattle.scene.specs.Rules.{in_draw, draw_rules, draw_fault_from}
-use borrow.Author.Rules.{rules}
 use Rattle.scene.proofs.verdict.draw_fault.Goals as goal
 
 pub returns-then-checks-ne-ACCEPTED : goal.returns-then-checks-ne-ACCEPTED

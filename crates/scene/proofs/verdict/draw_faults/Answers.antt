@@ -1,8 +1,7 @@
 -- `scene::verdict::draw_faults` meets its contract.
 use mathlib.Core.Path.{◌≡◌, refl, sym, ap, ◌∙◌}
-use Prim.Native.Nat.{◌-◌, ◌≤◌}
 use native.Mathlib.Omega.{arith}
-use Rattle.scene.specs.Faults.{accepted, first_fault}
+use Rattle.scene.specs.Faults.{accepted}
 use Rattle.scene.specs.Rules.{draw_fault}
 use Rattle.codes.proofs.First.{first_turn, first_hit}
 use Rattle.scene.proofs.Accepted.{draw_none}

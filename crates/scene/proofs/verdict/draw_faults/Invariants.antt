@@ -1,12 +1,8 @@
 -- `scene::verdict::draw_faults` meets its contract.
-use mathlib.Core.Path.{◌≡◌, refl, sym, ap, ◌∙◌}
+use mathlib.Core.Path.{◌≡◌}
 use Prim.Native.Nat.{◌-◌, ◌≤◌}
-use native.Mathlib.Omega.{arith}
 use Rattle.scene.specs.Faults.{accepted, first_fault}
 use Rattle.scene.specs.Rules.{draw_fault}
-use Rattle.codes.proofs.First.{first_turn, first_hit}
-use Rattle.scene.proofs.Accepted.{draw_none}
-use borrow.Author.Rules.{rules}
 use Rattle.scene.proofs.verdict.draw_faults.Given as goal
 
 -- `scene::verdict::draw_faults` meets its contract.

@@ -1,6 +1,5 @@
 -- `scene::verdict::located` meets its contract.
 use borrow.Author.Tests.{eq-eqb, ne_eqb}
-use borrow.Author.Rules.{rules}
 use Rattle.scene.proofs.verdict.located.Goals as goal
 
 pub returns-then-f-eq-ACCEPTED : goal.returns-then-f-eq-ACCEPTED

@@ -12,7 +12,6 @@ use Rattle.scene.specs.Faults.{first_fault}
 use Rattle.scene.specs.Rules.{header_rules, in_header, draw_fault}
 use Rattle.scene.proofs.Accepted.{header_count}
 use Rattle.scene.proofs.Verdicts.{whole, whole_length, bad_length_lem, bad_check, bad_header, bad_count, by_draws}
-use borrow.Author.Rules.{rules}
 use Rattle.scene.proofs.verdict.verdict.Goals as goal
 use Rattle.scene.proofs.verdict.verdict.Tie as tie
 use Rattle.scene.proofs.verdict.verdict.Lts as lts
