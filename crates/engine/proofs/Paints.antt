@@ -32,7 +32,20 @@ use Rattle.paint.specs.Radial.{fixed_circle, focal_allowed}
 use Rattle.transform.specs.declared.FixedTransform.{FixedTransform}
 use Rattle.transform.specs.Transforms.{fixed_transform, transformed}
 use Rattle.scene.specs.Fields.{transforms, transform_of}
-use Rattle.scene.specs.Fields.{paint_of, paint_type_of, pick_paint, color_of, linear_of, is_radial, radial_of, first_stop_at, stops_of, stop_count, scissors_of, blend_of}
+use Rattle.scene.specs.Fields.{
+  paint_of,
+  paint_type_of,
+  pick_paint,
+  color_of,
+  linear_of,
+  is_radial,
+  radial_of,
+  first_stop_at,
+  stops_of,
+  stop_count,
+  scissors_of,
+  blend_of,
+}
 use Rattle.scene.specs.Rules.{stop_limit_of}
 use Rattle.scene.specs.Accepted.{AcceptedFields}
 use Rattle.scene.proofs.Accepted.{stops_fit}

@@ -87,7 +87,8 @@ unclamped_out es d mask w h x y p c u v k l o =
     ap (λ (n : ℕ). composite_on (blend_of d) n m (draw_paint d x y) p) none ∙ uncovered_masked (blend_of d) m (draw_paint d x y) p
 
 draws_more : (edition : ℕ) (s : List ℕ) (mask : ℕ → ℕ → ℕ) (n x y : ℕ) (p : Pixel)
-    → unclamped_all edition (first_draws s (n + 1)) mask x y p ≡ unclamped_step edition (draw_of s n) mask x y (unclamped_all edition (first_draws s n) mask x y p)
+    → unclamped_all edition (first_draws s (n + 1)) mask x y p ≡ unclamped_step edition (draw_of s n) mask x y
+    (unclamped_all edition (first_draws s n) mask x y p)
 draws_more edition s mask n x y p = rw (add-one, foldl-append)
 
 -- ---- the pixels of the box are enough

@@ -38,7 +38,11 @@ returns-then-is_empty c =
 
 pub is_covered-requires : goal.is_covered-requires
 is_covered-requires c =
-    record { outlined = c.requires.outlined; x1_bound = on c.args.n c.args.width c.args.height c.args.scratch.now c.bounds-b.result c.bounds-b.ensures c.requires.width_bound }
+    record {
+      outlined = c.requires.outlined;
+      x1_bound = on c.args.n c.args.width c.args.height c.args.scratch.now c.bounds-b.result c.bounds-b.ensures
+          c.requires.width_bound;
+    }
 
 pub returns-then-is_covered : goal.returns-then-is_covered
 returns-then-is_covered c =
@@ -46,11 +50,21 @@ returns-then-is_covered c =
 
 pub overflow_add-inner : goal.overflow_add-inner
 overflow_add-inner c =
-    omega (arith, (some c.before.before.before).wide, (on c.args.n c.args.width c.args.height c.args.scratch.now c.bounds-b.result c.bounds-b.ensures c.requires.width_bound).0)
+    omega (
+      arith,
+      (some c.before.before.before).wide,
+      (on c.args.n c.args.width c.args.height c.args.scratch.now c.bounds-b.result c.bounds-b.ensures
+          c.requires.width_bound).0,
+    )
 
 pub overflow_add-inner-2 : goal.overflow_add-inner-2
 overflow_add-inner-2 c =
-    omega (arith, (some c.before.before.before.before).high, (on c.args.n c.args.width c.args.height c.args.scratch.now c.bounds-b.result c.bounds-b.ensures c.requires.width_bound).1)
+    omega (
+      arith,
+      (some c.before.before.before.before).high,
+      (on c.args.n c.args.width c.args.height c.args.scratch.now c.bounds-b.result c.bounds-b.ensures
+          c.requires.width_bound).1,
+    )
 
 pub overflow_sub-inner : goal.overflow_sub-inner
 overflow_sub-inner c =

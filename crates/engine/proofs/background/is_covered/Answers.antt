@@ -12,7 +12,15 @@ returns-then-is_empty c =
 pub covers-requires : goal.covers-requires
 covers-requires c =
     let some = not_empty c.args.a (sym c.is_empty.ensures ∙ c.if-is_empty.false) in
-    record { outlined = c.requires.outlined; x0_bound = (omega (arith, some.wide, c.requires.x1_bound.0), c.requires.x1_bound.0, some.high, c.requires.x1_bound.1) }
+    record {
+      outlined = c.requires.outlined;
+      x0_bound = (
+        omega (arith, some.wide, c.requires.x1_bound.0),
+        c.requires.x1_bound.0,
+        some.high,
+        c.requires.x1_bound.1,
+      );
+    }
 
 pub returns : goal.returns
 returns c =

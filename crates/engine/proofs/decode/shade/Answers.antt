@@ -5,11 +5,19 @@ use Rattle.engine.proofs.decode.shade.Goals as goal
 
 pub linear-requires : goal.linear-requires
 linear-requires c =
-    record { d_len = (c.requires.d_len.0, c.requires.d_len.1, sym c.paint-paint.ensures.0 ∙ c.in-Linear.is); ramp_numbers_in_bounds = c.requires.ramp_numbers_in_bounds }
+    record {
+      d_len = (c.requires.d_len.0, c.requires.d_len.1, sym c.paint-paint.ensures.0 ∙ c.in-Linear.is);
+      ramp_numbers_in_bounds =
+          c.requires.ramp_numbers_in_bounds;
+    }
 
 pub radial-requires : goal.radial-requires
 radial-requires c =
-    record { d_len = (c.requires.d_len.0, c.requires.d_len.1, sym c.paint-paint.ensures.0 ∙ c.in-Radial.is); ramp_numbers_in_bounds = c.requires.ramp_numbers_in_bounds }
+    record {
+      d_len = (c.requires.d_len.0, c.requires.d_len.1, sym c.paint-paint.ensures.0 ∙ c.in-Radial.is);
+      ramp_numbers_in_bounds =
+          c.requires.ramp_numbers_in_bounds;
+    }
 
 pub returns-in-Solid : goal.returns-in-Solid
 returns-in-Solid c =

@@ -25,7 +25,11 @@ placed c =
 
 pub hidden_rect-hidden-requires : goal.hidden_rect-hidden-requires
 hidden_rect-hidden-requires c =
-    record { accepted_scene = (c.requires.accepted_scene.0, (c.requires.accepted_scene.1, refl)); blank = c.requires.blank; width_bound = c.requires.area.0.1.1 }
+    record {
+      accepted_scene = (c.requires.accepted_scene.0, (c.requires.accepted_scene.1, refl));
+      blank = c.requires.blank;
+      width_bound = c.requires.area.0.1.1;
+    }
 
 pub background-requires : goal.background-requires
 background-requires c =
@@ -38,10 +42,24 @@ fill_around-requires c =
 pub paint_draws-requires : goal.paint_draws-requires
 paint_draws-requires c =
     let hidden = c.hidden_rect-hidden in
-    record { accepted_scene = (c.requires.accepted_scene.0, (c.requires.accepted_scene.1, hidden.auto.d)); blank = subst (λ (z : List ℤ). Blank z) (sym hidden.ensures.scratch_unchanged) c.requires.blank; part = (record { placed = placed c.before.before.before.before.before.before.before.before.before.before.before.before.before.before.before.before.before.before; long = c.fill_around.auto.s ∙ c.requires.area.0.0 }, c.requires.area.1) }
+    record {
+      accepted_scene = (c.requires.accepted_scene.0, (c.requires.accepted_scene.1, hidden.auto.d));
+      blank = subst (λ (z : List ℤ). Blank z)
+          (sym hidden.ensures.scratch_unchanged) c.requires.blank;
+      part = (
+        record {
+          placed = placed
+              c.before.before.before.before.before.before.before.before.before.before.before.before.before.before.before.before.before.before;
+          long =
+              c.fill_around.auto.s ∙ c.requires.area.0.0;
+        },
+        c.requires.area.1,
+      );
+    }
 
 pub returns : goal.returns
 returns c =
+    let half = c.before.before.before.before.before.before.before.before.before.before.before in
     let a = c.args in
     let draws = c.paint_draws in
     let fill = c.fill_around in
@@ -49,7 +67,9 @@ returns c =
     let hidden = c.hidden_rect-hidden in
     record {
       scratch_unchanged = draws.ensures.scratch_unchanged ∙ hidden.ensures.scratch_unchanged;
-      surface_after = around_then a.scene.now (target c.before.before.before.before.before.before.before.before.before.before.before.before.before.before.before.before.before.before.before.before.before.before.before) a.count hidden.result (mask_at a.width a.mask.now) fill.new.s a.surface.now
+      surface_after = around_then a.scene.now
+          (target half.before.before.before.before.before.before.before.before.before.before.before.before)
+          a.count hidden.result (mask_at a.width a.mask.now) fill.new.s a.surface.now
           draws.new.surface color.result c.requires.accepted_scene.1 (color.ensures ∙ ap premultiplied c.background.ensures)
           (background_under a.scene.now (λ i. omega (arith, c.shared_slice_known-1.given i))) hidden.ensures.hides fill.ensures draws.ensures.surface_after;
     }

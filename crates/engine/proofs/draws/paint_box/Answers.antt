@@ -30,7 +30,8 @@ returns-then-is_empty c =
     let a = c.args in
     record {
       scratch_unchanged = refl;
-      surface_after = box_none a.target (edges_of a.scratch.now a.n) a.surface.now a.d.now c.requires.part.0 (mask_at a.target.width a.mask.now) c.requires.outlined.1
+      surface_after = box_none a.target (edges_of a.scratch.now a.n) a.surface.now a.d.now c.requires.part.0 (mask_at a.target.width a.mask.now)
+          c.requires.outlined.1
           c.meet-b.result (met c.before.before.before) (sym c.is_empty.ensures ∙ c.if-is_empty.true);
     }
 
@@ -49,6 +50,7 @@ returns c =
     let edges = edges_of a.scratch.now a.n in
     record {
       scratch_unchanged = r.ensures.scratch_unchanged;
-      surface_after = box_enough a.target edges a.surface.now a.d.now c.requires.part.0 mask c.requires.outlined.1 c.meet-b.result r.new.surface (met c.before.before.before.before.before.before.before.before.before)
+      surface_after = box_enough a.target edges a.surface.now a.d.now c.requires.part.0 mask c.requires.outlined.1 c.meet-b.result r.new.surface
+          (met c.before.before.before.before.before.before.before.before.before)
           r.ensures.surface_after;
     }

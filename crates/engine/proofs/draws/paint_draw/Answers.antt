@@ -41,7 +41,11 @@ pub paint_box-requires : goal.paint_box-requires
 paint_box-requires c =
     let a = c.args in
     let laid = c.lay_edges-n.ensures.laid in
-    record { d_len = (c.requires.d_len.0, c.requires.d_len.1.fields); outlined = (laid.ready, subst Closed (sym laid.edges) (draw_closed a.edition a.d.now)); part = c.requires.part }
+    record {
+      d_len = (c.requires.d_len.0, c.requires.d_len.1.fields);
+      outlined = (laid.ready, subst Closed (sym laid.edges) (draw_closed a.edition a.d.now));
+      part = c.requires.part;
+    }
 
 pub clear_edges-requires : goal.clear_edges-requires
 clear_edges-requires c =

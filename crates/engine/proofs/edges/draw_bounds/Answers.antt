@@ -17,4 +17,7 @@ pub returns : goal.returns
 returns c =
     let a = c.args in
     let l = c.lay_edges-n in
-    record { value = c.bounds-b.ensures ∙ ap (box_of a.width a.height) l.ensures.laid.edges; scratch_unchanged = c.clear_edges.ensures ∙ l.ensures.scratch_after }
+    record {
+      value = c.bounds-b.ensures ∙ ap (box_of a.width a.height) l.ensures.laid.edges;
+      scratch_unchanged = c.clear_edges.ensures ∙ l.ensures.scratch_after;
+    }

@@ -23,4 +23,7 @@ returns c =
     let cs = c.coordinates.ensures in
     let n = c.segment_count.ensures.0 in
     let f = c.flatten in
-    record { laid = edges_laid e d _ _ _ _ m ss cs n c.requires.d_len.1 l _ _ c.requires.blank.0 c.requires.blank.1 f.ensures.edges_after f.ensures.value; scratch_after = edges_cleared e d _ _ _ _ m ss cs n c.requires.d_len.1 l _ _ c.requires.blank.0 c.requires.blank.1 f.ensures.edges_after f.ensures.value }
+    record {
+      laid = edges_laid e d _ _ _ _ m ss cs n c.requires.d_len.1 l _ _ c.requires.blank.0 c.requires.blank.1 f.ensures.edges_after f.ensures.value;
+      scratch_after = edges_cleared e d _ _ _ _ m ss cs n c.requires.d_len.1 l _ _ c.requires.blank.0 c.requires.blank.1 f.ensures.edges_after f.ensures.value;
+    }

@@ -21,7 +21,8 @@ use Rattle.engine.proofs.rows.draw_bands.Lts as lts
 use Rattle.engine.proofs.rows.draw_bands.Reads as reads
 
 -- the rows of a band lie on the surface
-high : (c : lts.Start tie.the-claims reads.Pre reads.Post goal.the-invariant-loop-y goal.the-decreases-loop-y tie.handed_clauses) → c.args.fill.target.area.y1 ≤ 1024
+high : (c : lts.Start tie.the-claims reads.Pre reads.Post goal.the-invariant-loop-y goal.the-decreases-loop-y tie.handed_clauses) → c.args.fill.target.area.y1 ≤
+    1024
 high c = let placed = c.requires.part.0.placed in omega (arith, placed.high, placed.on.high)
 
 -- the band of a turn
@@ -40,19 +41,24 @@ list c = c.filter_edges-listed.new.list
 abbrev edges : (c : lts.After-filter_edges tie.the-claims reads.Pre reads.Post goal.the-invariant-loop-y goal.the-decreases-loop-y tie.handed_clauses) → ℕ
 edges c = c.args.fill.style.edges
 
-room : (c : lts.After-filter_edges tie.the-claims reads.Pre reads.Post goal.the-invariant-loop-y goal.the-decreases-loop-y tie.handed_clauses) → ramp_numbers + (edges c) ≤ length (before c)
+room : (c : lts.After-filter_edges tie.the-claims reads.Pre reads.Post goal.the-invariant-loop-y goal.the-decreases-loop-y tie.handed_clauses) → ramp_numbers +
+    (edges c) ≤ length (before c)
 room c = omega (arith, c.loop-y.invariant.3, c.requires.outlined.1)
 
-long : (c : lts.After-filter_edges tie.the-claims reads.Pre reads.Post goal.the-invariant-loop-y goal.the-decreases-loop-y tie.handed_clauses) → length (list c) ≡ (edges c)
+long : (c : lts.After-filter_edges tie.the-claims reads.Pre reads.Post goal.the-invariant-loop-y goal.the-decreases-loop-y tie.handed_clauses) → length (list c)
+    ≡ (edges c)
 long c = c.filter_edges-listed.auto.list ∙ part_length (before c) ramp_numbers (ramp_numbers + (edges c)) (omega arith) (room c) ∙ omega arith
 
-abbrev numbers : (c : lts.After-filter_edges tie.the-claims reads.Pre reads.Post goal.the-invariant-loop-y goal.the-decreases-loop-y tie.handed_clauses) → List ℕ
+abbrev numbers : (c : lts.After-filter_edges tie.the-claims reads.Pre reads.Post goal.the-invariant-loop-y goal.the-decreases-loop-y tie.handed_clauses) → List
+    ℕ
 numbers c = take ramp_numbers (before c) ++ ((list c) ++ drop (ramp_numbers + (edges c) - ramp_numbers) (drop ramp_numbers (before c)))
 
-kept : (c : lts.After-filter_edges tie.the-claims reads.Pre reads.Post goal.the-invariant-loop-y goal.the-decreases-loop-y tie.handed_clauses) → take ramp_numbers (numbers c) ≡ take ramp_numbers c.args.numbers.now
+kept : (c : lts.After-filter_edges tie.the-claims reads.Pre reads.Post goal.the-invariant-loop-y goal.the-decreases-loop-y tie.handed_clauses) → take
+    ramp_numbers (numbers c) ≡ take ramp_numbers c.args.numbers.now
 kept c = ramp_kept (before c) (list c) (edges c) (room c) (long c) ∙ c.loop-y.invariant.2
 
-listed : (c : lts.After-filter_edges tie.the-claims reads.Pre reads.Post goal.the-invariant-loop-y goal.the-decreases-loop-y tie.handed_clauses) → (ramp_numbers + c.filter_edges-listed.result ≤ length (numbers c))
+listed : (c : lts.After-filter_edges tie.the-claims reads.Pre reads.Post goal.the-invariant-loop-y goal.the-decreases-loop-y tie.handed_clauses) →
+    (ramp_numbers + c.filter_edges-listed.result ≤ length (numbers c))
     × Band c.loop-y.scratch (edges c) c.loop-y.y c.least-end.result
     (take c.filter_edges-listed.result (drop ramp_numbers (numbers c)))
 listed c =
@@ -92,7 +98,15 @@ filter_edges-listed-requires c =
     let a = c.args in
     let n = a.fill.style.edges in
     let list = part_length l.numbers ramp_numbers (ramp_numbers + n) (omega arith) (omega (arith, l.invariant.3, c.requires.outlined.1)) in
-    record { outlined = subst (λ (z : List ℤ). Outlined z n) (sym l.invariant.1) c.requires.outlined.0; from_lt_end = (omega (arith, least.ensures, c.loop-y-test.true), omega (arith, least.ensures, high c.before.before.before.before.before.before.before.before.before.before.before.before.before.before), omega (arith, list)) }
+    record {
+      outlined = subst (λ (z : List ℤ). Outlined z n) (sym l.invariant.1) c.requires.outlined.0;
+      from_lt_end = (
+        omega (arith, least.ensures, c.loop-y-test.true),
+        omega
+            (arith, least.ensures, high c.before.before.before.before.before.before.before.before.before.before.before.before.before.before),
+        omega (arith, list),
+      );
+    }
 
 pub rows_of-requires : goal.rows_of-requires
 rows_of-requires c =
@@ -110,9 +124,14 @@ draw_rect-requires c =
     record {
       outlined = (
         subst (λ (z : List ℤ). Outlined z n) (sym l.invariant.1) c.requires.outlined.0,
-        subst (λ (z : Target). ListedIn l.scratch n (numbers c.before.before.before.before.before.before.before.before) found z.area.y0 z.area.y1) rows (listed c.before.before.before.before.before.before.before.before),
+        subst (λ (z : Target). ListedIn l.scratch n (numbers c.before.before.before.before.before.before.before.before) found z.area.y0 z.area.y1) rows
+            (listed c.before.before.before.before.before.before.before.before),
       );
-      scissors = (c.requires.scissors.0, subst (Shaded a.fill.style.shade) (sym (kept c.before.before.before.before.before.before.before.before)) c.requires.scissors.1);
+      scissors = (
+        c.requires.scissors.0,
+        subst (Shaded a.fill.style.shade) (sym (kept c.before.before.before.before.before.before.before.before))
+            c.requires.scissors.1,
+      );
       part = (
         subst (λ (z : Target). Part z l.surface) rows
             (band_part t _ a.surface.now c.requires.part.0 l.invariant.0 c.least-end.result band.0 band.1),
@@ -132,11 +151,14 @@ loop-y-preserved c =
     let a = c.args in
     let band = below c.before.before.before.before.before.before.before.before.before.before.before.before.before.before.before.before.before.before in
     let drawn = same_steps a.fill.style a.fill.style.edges a.scissors.now a.mask.now l.surface call.new.surface
-    c.rows_of.ensures l.invariant.1 (kept c.before.before.before.before.before.before.before.before.before.before.before.before.before.before.before.before) call.ensures.surface_after in (
+    c.rows_of.ensures l.invariant.1 (kept c.before.before.before.before.before.before.before.before.before.before.before.before.before.before.before.before)
+    call.ensures.surface_after in (
       rows_band a.fill.target _ a.surface.now c.requires.part.0 l.invariant.0 c.least-end.result band.0 band.1 call.new.surface drawn,
       call.ensures.scratch_unchanged ∙ l.invariant.1,
       kept c.before.before.before.before.before.before.before.before.before.before.before.before.before.before.before.before,
-      back_length l.numbers (list c.before.before.before.before.before.before.before.before.before.before.before.before.before.before.before.before) ramp_numbers (ramp_numbers + a.fill.style.edges) (omega arith) (room c.before.before.before.before.before.before.before.before.before.before.before.before.before.before.before.before)
+      back_length l.numbers (list c.before.before.before.before.before.before.before.before.before.before.before.before.before.before.before.before)
+          ramp_numbers (ramp_numbers + a.fill.style.edges) (omega arith)
+          (room c.before.before.before.before.before.before.before.before.before.before.before.before.before.before.before.before)
           (long c.before.before.before.before.before.before.before.before.before.before.before.before.before.before.before.before ∙ omega arith)
           ∙ l.invariant.3,
       call.auto.buffer ∙ l.invariant.4,
@@ -167,4 +189,8 @@ pub returns : goal.returns
 returns c =
     let a = c.args in
     let l = c.loop-y in
-    record { scratch_unchanged = l.invariant.1; surface_after = rows_all a.fill.target _ a.surface.now c.requires.part.0 l.invariant.0 (omega (arith, c.loop-y-test.false)) }
+    record {
+      scratch_unchanged = l.invariant.1;
+      surface_after = rows_all a.fill.target _ a.surface.now c.requires.part.0 l.invariant.0
+          (omega (arith, c.loop-y-test.false));
+    }

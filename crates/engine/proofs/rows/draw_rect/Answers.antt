@@ -96,7 +96,11 @@ draw_row-requires c =
           (sym l.invariant.1)
           (c.requires.outlined.0, (c.requires.outlined.1.0, c.requires.outlined.1.1.row l.y l.invariant.0.low c.loop-y-test.true));
       scissors = c.requires.scissors;
-      on_surface = (on, (lent c.before.before.before.before.before.before.before).long, (l.invariant.2 ∙ c.requires.part.1.0, l.invariant.3 ∙ c.requires.part.1.1));
+      on_surface = (
+        on,
+        (lent c.before.before.before.before.before.before.before).long,
+        (l.invariant.2 ∙ c.requires.part.1.0, l.invariant.3 ∙ c.requires.part.1.1),
+      );
       mask_for = (through c.before.before.before.before.before.before).long;
     }
 
@@ -115,7 +119,9 @@ loop-y-preserved c =
     let a = c.args in
     let l = c.loop-y in
     let drawn = mask_turn a.fill.target a.fill.style (edges_of a.scratch.now a.fill.style.edges) a.scissors.now
-    (take ramp_numbers a.numbers.now) a.mask.now call.new.row _ l.y _ _ (through c.before.before.before.before.before.before.before.before.before.before.before.before.before.before) (rw l.invariant.1 at call.ensures.row_after) in (
+    (take ramp_numbers a.numbers.now) a.mask.now call.new.row _ l.y _ _
+    (through c.before.before.before.before.before.before.before.before.before.before.before.before.before.before)
+    (rw l.invariant.1 at call.ensures.row_after) in (
       (lent c.before.before.before.before.before.before.before.before.before.before.before.before.before.before.before).turn call.new.row drawn,
       call.ensures.scratch_unchanged ∙ l.invariant.1,
       call.auto.buffer ∙ l.invariant.2,
@@ -142,4 +148,8 @@ pub returns : goal.returns
 returns c =
     let a = c.args in
     let l = c.loop-y in
-    record { scratch_unchanged = l.invariant.1; surface_after = rows_all a.fill.target _ a.surface.now c.requires.part.0 l.invariant.0 (omega (arith, c.loop-y-test.false)) }
+    record {
+      scratch_unchanged = l.invariant.1;
+      surface_after = rows_all a.fill.target _ a.surface.now c.requires.part.0 l.invariant.0
+          (omega (arith, c.loop-y-test.false));
+    }

@@ -12,7 +12,8 @@ use Rattle.engine.proofs.rows.draw_rect.Given as goal
 -- `rows::draw_rect` meets its contract: the rows below y are drawn.
 abbrev pub invariant-loop-y : goal.invariant-loop-y
 invariant-loop-y l =
-    Rows l.target (λ u v. step_with l.style (edges_of l.initial.scratch l.style.edges) l.scissors (take ramp_numbers l.numbers) (mask_at l.target.width l.mask u v) u v) l.initial.surface l.y
+    Rows l.target (λ u v. step_with l.style (edges_of l.initial.scratch l.style.edges) l.scissors (take ramp_numbers l.numbers)
+    (mask_at l.target.width l.mask u v) u v) l.initial.surface l.y
     l.surface
     × (l.scratch ≡ l.initial.scratch) × (length l.buffer ≡ length l.initial.buffer) × (length l.runs ≡ length l.initial.runs)
 

@@ -14,7 +14,8 @@ use Rattle.engine.proofs.rows.draw_row.Lts as lts
 use Rattle.engine.proofs.rows.draw_row.Reads as reads
 
 -- what is lent for the row's marks has a byte to a pixel
-marked : (c : lts.Start tie.the-claims reads.Pre reads.Post tie.handed_clauses) → length (take (c.args.fill.strip.length - 0) c.args.buffer.now) ≡ c.args.fill.strip.length
+marked : (c : lts.Start tie.the-claims reads.Pre reads.Post tie.handed_clauses) → length (take (c.args.fill.strip.length - 0) c.args.buffer.now) ≡
+    c.args.fill.strip.length
 marked c =
     let n = c.args.fill.strip.length in
     part_length c.args.buffer.now 0 n (omega arith) (omega (arith, c.requires.on_surface.2.0)) ∙ omega arith
@@ -34,22 +35,32 @@ cover_row-count-requires c =
 
 pub shade_row-requires : goal.shade_row-requires
 shade_row-requires c =
+    let half = c.before.before.before.before.before.before.before.before.before.before.before in
     let a = c.args in
     let s = a.fill.strip in
     let o = c.requires.on_surface in
     let r = c.cover_row-count in
-    let marks = r.auto.marks ∙ marked c.before.before.before.before.before.before.before.before.before.before.before.before.before.before.before.before.before.before.before.before.before.before.before in
+    let marks = r.auto.marks ∙ marked
+    half.before.before.before.before.before.before.before.before.before.before.before.before in
     let fits = cover_fits a.fill.style (edges_of a.scratch.now a.fill.style.edges) a.scissors.now s.x s.y s.length _
     r.ensures.result_after in
     let long = first_given a.buffer.now r.new.marks s.length marks (omega (arith, o.2.0)) in
-    record { shaded = c.requires.scissors.1; on_surface = (o.0, o.1, (long ∙ o.2.0, r.auto.runs ∙ o.2.1)); row_coverage = ((r.ensures.runs, fits), c.requires.mask_for) }
+    record {
+      shaded = c.requires.scissors.1;
+      on_surface = (o.0, o.1, (long ∙ o.2.0, r.auto.runs ∙ o.2.1));
+      row_coverage =
+          ((r.ensures.runs, fits), c.requires.mask_for);
+    }
 
 pub shape_of-buffer : goal.shape_of-buffer
 shape_of-buffer c =
+    let half = c.before.before.before.before.before.before.before.before.before.before.before.before.before.before in
     let r = c.cover_row-count in
     let a = c.args in
     c.shade_row.auto.buffer
-    ∙ first_given a.buffer.now r.new.marks a.fill.strip.length (r.auto.marks ∙ marked c.before.before.before.before.before.before.before.before.before.before.before.before.before.before.before.before.before.before.before.before.before.before.before.before.before.before.before.before)
+    ∙ first_given a.buffer.now r.new.marks a.fill.strip.length
+    (r.auto.marks ∙ marked
+    half.before.before.before.before.before.before.before.before.before.before.before.before.before.before)
     (omega (arith, c.requires.on_surface.2.0))
 
 pub returns : goal.returns

@@ -46,7 +46,11 @@ shaded c = subst (Shaded c.shade-shade.result) (sym (ramp c)) c.shade-shade.ensu
 
 pub shade-shade-requires : goal.shade-shade-requires
 shade-shade-requires c =
-    record { d_len = c.requires.d_len; ramp_numbers_in_bounds = omega (arith, part_length c.args.numbers.now 0 ramp_numbers (omega arith) (omega (arith, c.requires.in_bounds))) }
+    record {
+      d_len = c.requires.d_len;
+      ramp_numbers_in_bounds = omega
+          (arith, part_length c.args.numbers.now 0 ramp_numbers (omega arith) (omega (arith, c.requires.in_bounds)));
+    }
 
 pub style-requires : goal.style-requires
 style-requires c =
@@ -58,7 +62,8 @@ slice_bounds-hiding_style-end c =
 
 pub hiding_style-style-requires : goal.hiding_style-style-requires
 hiding_style-style-requires c =
-    subst (λ (z : Style). Shaded z.shade (take ramp_numbers (numbers c.before.before.before.before.before))) (sym c.style.ensures) (shaded c.before.before.before.before.before)
+    subst (λ (z : Style). Shaded z.shade (take ramp_numbers (numbers c.before.before.before.before.before))) (sym c.style.ensures)
+    (shaded c.before.before.before.before.before)
 
 pub scissors-requires : goal.scissors-requires
 scissors-requires c =
@@ -72,11 +77,13 @@ fill_style-requires c =
     record {
       outlined = (
         subst (λ (z : Style). Outlined a.scratch.now z.edges) e c.requires.outlined,
-        subst (λ (z : Style). ramp_numbers + z.edges ≤ length (numbers c.before.before.before.before.before.before.before.before.before.before)) e (omega (arith, c.requires.outlined.few, long c.before.before.before.before.before.before.before.before.before.before)),
+        subst (λ (z : Style). ramp_numbers + z.edges ≤ length (numbers c.before.before.before.before.before.before.before.before.before.before)) e
+            (omega (arith, c.requires.outlined.few, long c.before.before.before.before.before.before.before.before.before.before)),
       );
       scissors = (
         (subst (λ (z : Style). z.scissors ≤ 4) e c.requires.d_len.1.scissors, scissors),
-        subst (λ (z : Style). Shaded z.shade (take ramp_numbers (numbers c.before.before.before.before.before.before.before.before.before.before))) e (shaded c.before.before.before.before.before.before.before.before.before.before),
+        subst (λ (z : Style). Shaded z.shade (take ramp_numbers (numbers c.before.before.before.before.before.before.before.before.before.before))) e
+            (shaded c.before.before.before.before.before.before.before.before.before.before),
       );
       part = c.requires.part.0;
       mask_for = subst (λ (z : Style). MaskFor z.masked (a.target.height * a.target.width) a.mask.now) e c.requires.part.1;
@@ -93,11 +100,13 @@ returns c =
     let ramps = take ramp_numbers (numbers c.before.before.before.before.before.before.before.before.before.before.before.before.before.before.before.before) in
     let edges = ap (λ (z : Style). edges_of a.scratch.now z.edges) (styled c.before.before.before.before.before.before.before.before.before.before.before) in
     let paint : (x y : ℕ) → shade_at shade.result ramps x y ≡ draw_paint a.d.now x y =
-    λ x y. ap (λ (z : List ℕ). shade_at shade.result z x y) (ramp c.before.before.before.before.before.before.before.before.before.before.before.before.before.before.before.before) ∙ shade.ensures.paint x y in
+    λ x y. ap (λ (z : List ℕ). shade_at shade.result z x y) (ramp
+    c.before.before.before.before.before.before.before.before.before.before.before.before.before.before.before.before) ∙ shade.ensures.paint x y in
     let same = subst (λ (z : Style). SameBlend hiding.result.mode z.mode (shade_at z.shade ramps)) style.ensures hiding.ensures.same_blend in
     record {
       scratch_unchanged = call.ensures.scratch_unchanged;
       surface_after = own_steps a.d.now a.n hiding.result.mode shade.result ramps paint same a.target (edges_of a.scratch.now a.n) _
-          (mask_at a.target.width a.mask.now) a.surface.now call.new.surface hiding.result _ (styled c.before.before.before.before.before.before.before.before.before.before.before) edges scissors.ensures
+          (mask_at a.target.width a.mask.now) a.surface.now call.new.surface hiding.result _
+          (styled c.before.before.before.before.before.before.before.before.before.before.before) edges scissors.ensures
           call.ensures.surface_after;
     }

@@ -41,9 +41,17 @@ draw_bands-requires c =
     let a = c.args in
     let o = c.requires.part in
     let n = a.fill.target.area.x1 - a.fill.target.area.x0 in
-    let buffer = part_length a.buffer.now 0 (n * 4) (omega arith) (wide_enough c.before.before.before.before.before.before.before.before.before.before.before.before.before).0 in
-    let runs = part_length a.runs.now 0 n (omega arith) (wide_enough c.before.before.before.before.before.before.before.before.before.before.before.before.before).1 in
-    record { outlined = c.requires.outlined; scissors = c.requires.scissors; part = (o.0, (buffer ∙ omega arith, runs ∙ omega arith)); mask_for = c.requires.mask_for }
+    let buffer = part_length a.buffer.now 0 (n * 4) (omega arith)
+    (wide_enough c.before.before.before.before.before.before.before.before.before.before.before.before.before).0 in
+    let runs = part_length a.runs.now 0 n (omega arith) (wide_enough
+    c.before.before.before.before.before.before.before.before.before.before.before.before.before).1 in
+    record {
+      outlined = c.requires.outlined;
+      scissors = c.requires.scissors;
+      part = (o.0, (buffer ∙ omega arith, runs ∙ omega arith));
+      mask_for =
+          c.requires.mask_for;
+    }
 
 pub returns : goal.returns
 returns c =

@@ -8,7 +8,10 @@ use Rattle.engine.proofs.rows.gradient_row.Goals as goal
 
 pub gradient_row-requires : goal.gradient_row-requires
 gradient_row-requires c =
-    record { held_gradient = c.requires.held_gradient; n_bound = (c.requires.on_surface.0.1, omega (arith, c.requires.on_surface.0.0), c.requires.on_surface.1) }
+    record {
+      held_gradient = c.requires.held_gradient;
+      n_bound = (c.requires.on_surface.0.1, omega (arith, c.requires.on_surface.0.0), c.requires.on_surface.1);
+    }
 
 pub tint_row-requires : goal.tint_row-requires
 tint_row-requires c =

@@ -16,8 +16,11 @@ cut-length c = c.scissor_row.auto.cover ∙ c.expand_row.auto.row ∙ c.requires
 
 pub expand_row-requires : goal.expand_row-requires
 expand_row-requires c =
-    let a = c.args in
-    (subst (Runs a.runs.now a.n) (sym c.requires.on_surface.1) c.requires.runs.0, omega (arith, runs_few a.runs.now a.n a.strip.length c.requires.runs.0, c.requires.on_surface.2))
+    let a = c.args in (
+      subst (Runs a.runs.now a.n) (sym c.requires.on_surface.1) c.requires.runs.0,
+      omega
+          (arith, runs_few a.runs.now a.n a.strip.length c.requires.runs.0, c.requires.on_surface.2),
+    )
 
 pub collect-requires : goal.collect-requires
 collect-requires c =

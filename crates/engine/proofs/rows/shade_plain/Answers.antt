@@ -12,12 +12,21 @@ pub composite_runs-requires : goal.composite_runs-requires
 composite_runs-requires c =
     let a = c.args in
     let runs = c.requires.row_coverage.0 in
-    record { runs = (runs, omega (arith, runs_few a.runs.now a.count a.strip.length runs, c.requires.on_surface.2.1), c.requires.on_surface.1); coverage = c.requires.row_coverage.1 }
+    record {
+      runs = (runs, omega (arith, runs_few a.runs.now a.count a.strip.length runs, c.requires.on_surface.2.1), c.requires.on_surface.1);
+      coverage =
+          c.requires.row_coverage.1;
+    }
 
 pub shade_gradient-requires : goal.shade_gradient-requires
 shade_gradient-requires c =
     let a = c.args in
-    record { held_gradient = subst (λ (z : Shade). Shaded z a.ramp.now) c.in-Gradient.is c.requires.shaded; on_surface = c.requires.on_surface; row_coverage = c.requires.row_coverage }
+    record {
+      held_gradient = subst (λ (z : Shade). Shaded z a.ramp.now) c.in-Gradient.is c.requires.shaded;
+      on_surface = c.requires.on_surface;
+      row_coverage =
+          c.requires.row_coverage;
+    }
 
 pub returns-in-Solid : goal.returns-in-Solid
 returns-in-Solid c =

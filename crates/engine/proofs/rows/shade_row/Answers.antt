@@ -9,7 +9,12 @@ use Rattle.engine.proofs.rows.shade_row.Goals as goal
 
 pub shade_masked-requires : goal.shade_masked-requires
 shade_masked-requires c =
-    record { shaded = c.requires.shaded; on_surface = c.requires.on_surface; row_coverage = (c.requires.row_coverage.0, c.requires.row_coverage.1 c.if-style.true) }
+    record {
+      shaded = c.requires.shaded;
+      on_surface = c.requires.on_surface;
+      row_coverage =
+          (c.requires.row_coverage.0, c.requires.row_coverage.1 c.if-style.true);
+    }
 
 pub shade_plain-requires : goal.shade_plain-requires
 shade_plain-requires c =

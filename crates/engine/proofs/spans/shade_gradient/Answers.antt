@@ -10,7 +10,12 @@ shade_level-requires c =
     let l = c.in-Linear.l in
     let held = subst (λ (z : AnyGradient). HeldGradient z c.args.ramp.now) c.in-Linear.is c.requires.held_gradient in
     let level = same_bits 1048576 l.points.x0 l.points.x1 tt held.0.x0 held.0.x1 c.if-p.true in
-    record { limited_points = (held.0, held.1, level); on_surface = (c.requires.on_surface.0, c.requires.on_surface.1, c.requires.on_surface.2.1); row_coverage = c.requires.row_coverage }
+    record {
+      limited_points = (held.0, held.1, level);
+      on_surface = (c.requires.on_surface.0, c.requires.on_surface.1, c.requires.on_surface.2.1);
+      row_coverage
+          = c.requires.row_coverage;
+    }
 
 pub returns-then-p : goal.returns-then-p
 returns-then-p c =

@@ -8,7 +8,14 @@ use Rattle.engine.proofs.spans.shade_level.Goals as goal
 pub composite_runs-requires : goal.composite_runs-requires
 composite_runs-requires c =
     let a = c.args in
-    record { runs = (c.requires.row_coverage.0, omega (arith, runs_few a.runs.now a.count a.strip.length c.requires.row_coverage.0, c.requires.on_surface.2), c.requires.on_surface.1); coverage = c.requires.row_coverage.1 }
+    record {
+      runs = (
+        c.requires.row_coverage.0,
+        omega (arith, runs_few a.runs.now a.count a.strip.length c.requires.row_coverage.0, c.requires.on_surface.2),
+        c.requires.on_surface.1,
+      );
+      coverage = c.requires.row_coverage.1;
+    }
 
 pub returns : goal.returns
 returns c =

@@ -19,7 +19,8 @@ use Rattle.engine.proofs.spans.shade_part.Reads as reads
 part : (c : lts.Start tie.the-claims reads.Pre reads.Post tie.handed_clauses) → PartOfRow c.args.runs.now c.args.part c.args.strip.length
 part c = c.requires.on_surface.1
 
-low : (c : lts.Start tie.the-claims reads.Pre reads.Post tie.handed_clauses) → start_of c.args.runs.now c.args.part.from ≤ start_of c.args.runs.now c.args.part.to
+low : (c : lts.Start tie.the-claims reads.Pre reads.Post tie.handed_clauses) → start_of c.args.runs.now c.args.part.from ≤ start_of c.args.runs.now
+    c.args.part.to
 low c = starts_rise c.args.runs.now c.args.part.to (part c).0.rises c.args.part.from c.args.part.to (part c).1 (omega arith)
 
 high : (c : lts.Start tie.the-claims reads.Pre reads.Post tie.handed_clauses) → c.args.strip.x + start_of c.args.runs.now c.args.part.to ≤ 1024
@@ -50,7 +51,8 @@ on c = omega (arith, c.start-e.ensures, high c.before.before.before.before.befor
 -- the paint that is given back
 painted : (c : lts.After-gradient_row tie.the-claims reads.Pre reads.Post tie.handed_clauses) → length c.gradient_row.new.paints ≡ long c.before.before.before
 painted c =
-    c.gradient_row.auto.paints ∙ part_length c.args.buffer.now 0 (long c.before.before.before) (omega arith) (within c.before.before.before) ∙ all c.before.before.before
+    c.gradient_row.auto.paints ∙ part_length c.args.buffer.now 0 (long c.before.before.before) (omega arith) (within c.before.before.before) ∙ all
+    c.before.before.before
 
 pub start-a-requires : goal.start-a-requires
 start-a-requires c =
@@ -97,7 +99,9 @@ composite_painted_runs-requires c =
     record {
       runs = (subst (Runs a.runs.now a.part.to) (sym c.start-e.ensures) p.0, p.1, omega arith, p.2);
       src_len = (
-        ap length (first_of _ (long c.before.before.before.before.before.before.before.before) ∙ first_part q (behind c.before.before.before.before.before.before.before.before) (long c.before.before.before.before.before.before.before.before) given) ∙ given ∙ size,
+        ap length (first_of _ (long c.before.before.before.before.before.before.before.before) ∙ first_part q
+            (behind c.before.before.before.before.before.before.before.before) (long c.before.before.before.before.before.before.before.before) given) ∙ given ∙
+            size,
         c.requires.row_len.0,
       );
       coverage = p.4;

@@ -20,37 +20,45 @@ use Rattle.engine.proofs.spans.shade_parts.Reads as reads
 abbrev paint : (c : lts.Start tie.the-claims reads.Pre reads.Post goal.the-invariant-loop-j goal.the-decreases-loop-j tie.handed_clauses) → ℕ → Pixel
 paint c i = gradient_tinted c.args.g c.args.ramp.now (c.args.strip.x + i) c.args.strip.y
 
-made : (c : lts.Start tie.the-claims reads.Pre reads.Post goal.the-invariant-loop-j goal.the-decreases-loop-j tie.handed_clauses) → Runs c.args.runs.now c.args.count c.args.strip.length
+made : (c : lts.Start tie.the-claims reads.Pre reads.Post goal.the-invariant-loop-j goal.the-decreases-loop-j tie.handed_clauses) → Runs c.args.runs.now
+    c.args.count c.args.strip.length
 made c = c.requires.row_coverage.0
 
-few : (c : lts.Start tie.the-claims reads.Pre reads.Post goal.the-invariant-loop-j goal.the-decreases-loop-j tie.handed_clauses) → c.args.count ≤ length c.args.runs.now
+few : (c : lts.Start tie.the-claims reads.Pre reads.Post goal.the-invariant-loop-j goal.the-decreases-loop-j tie.handed_clauses) → c.args.count ≤ length
+    c.args.runs.now
 few c = omega (arith, runs_few c.args.runs.now c.args.count c.args.strip.length (made c), c.requires.on_surface.2)
 
 -- where a run begins
-within : (c : lts.Start tie.the-claims reads.Pre reads.Post goal.the-invariant-loop-j goal.the-decreases-loop-j tie.handed_clauses) → (j : ℕ) → j ≤ c.args.count → start_of c.args.runs.now j ≤ c.args.strip.length
+within : (c : lts.Start tie.the-claims reads.Pre reads.Post goal.the-invariant-loop-j goal.the-decreases-loop-j tie.handed_clauses) → (j : ℕ) → j ≤ c.args.count
+    → start_of c.args.runs.now j ≤ c.args.strip.length
 within c = first_within c.args.runs.now c.args.count c.args.strip.length (made c)
 
 -- the runs of a turn's part
 abbrev lent : (c : lts.After-covered_to tie.the-claims reads.Pre reads.Post goal.the-invariant-loop-j goal.the-decreases-loop-j tie.handed_clauses) → List ℕ
 lent c = c.args.runs.now
 
-low : (c : lts.After-covered_to tie.the-claims reads.Pre reads.Post goal.the-invariant-loop-j goal.the-decreases-loop-j tie.handed_clauses) → c.loop-j.j ≤ c.covered_to-m.result
+low : (c : lts.After-covered_to tie.the-claims reads.Pre reads.Post goal.the-invariant-loop-j goal.the-decreases-loop-j tie.handed_clauses) → c.loop-j.j ≤
+    c.covered_to-m.result
 low c = omega (arith, c.covered_to-m.ensures.0)
 
-rise : (c : lts.After-covered_to tie.the-claims reads.Pre reads.Post goal.the-invariant-loop-j goal.the-decreases-loop-j tie.handed_clauses) → start_of (lent c) c.loop-j.j ≤ start_of (lent c) c.covered_to-m.result
+rise : (c : lts.After-covered_to tie.the-claims reads.Pre reads.Post goal.the-invariant-loop-j goal.the-decreases-loop-j tie.handed_clauses) → start_of (lent c)
+    c.loop-j.j ≤ start_of (lent c) c.covered_to-m.result
 rise c =
     let m = c.covered_to-m in
     starts_rise (lent c) c.args.count (made c.before.before.before.before.before.before.before.before).rises c.loop-j.j m.result (low c) m.ensures.1
 
 -- where it ends
-end : (c : lts.After-covered_to tie.the-claims reads.Pre reads.Post goal.the-invariant-loop-j goal.the-decreases-loop-j tie.handed_clauses) → start_of (lent c) c.covered_to-m.result ≤ c.args.strip.length
+end : (c : lts.After-covered_to tie.the-claims reads.Pre reads.Post goal.the-invariant-loop-j goal.the-decreases-loop-j tie.handed_clauses) → start_of (lent c)
+    c.covered_to-m.result ≤ c.args.strip.length
 end c = within c.before.before.before.before.before.before.before.before c.covered_to-m.result c.covered_to-m.ensures.1
 
 -- and its pixels
-rising : (c : lts.After-start2 tie.the-claims reads.Pre reads.Post goal.the-invariant-loop-j goal.the-decreases-loop-j tie.handed_clauses) → c.start-from.result ≤ c.start-to.result
+rising : (c : lts.After-start2 tie.the-claims reads.Pre reads.Post goal.the-invariant-loop-j goal.the-decreases-loop-j tie.handed_clauses) → c.start-from.result
+    ≤ c.start-to.result
 rising c = omega (arith, c.start-to.ensures, c.start-from.ensures, rise c.before.before)
 
-ends : (c : lts.After-start2 tie.the-claims reads.Pre reads.Post goal.the-invariant-loop-j goal.the-decreases-loop-j tie.handed_clauses) → c.start-to.result * 4 ≤ length c.loop-j.row
+ends : (c : lts.After-start2 tie.the-claims reads.Pre reads.Post goal.the-invariant-loop-j goal.the-decreases-loop-j tie.handed_clauses) → c.start-to.result * 4
+    ≤ length c.loop-j.row
 ends c =
     omega (arith, c.start-to.ensures, end c.before.before, c.loop-j.invariant.2.long, c.requires.on_surface.1)
 
@@ -64,7 +72,8 @@ loop-j-init c =
     let next = c.covered_from-j in (
       next.ensures.1,
       refl,
-      stored_past a.runs.now a.count a.strip.length (made c.before.before.before.before.before.before) a.mode (paint c.before.before.before.before.before.before) a.row.now c.requires.on_surface.1 a.row.now 0
+      stored_past a.runs.now a.count a.strip.length (made c.before.before.before.before.before.before) a.mode
+          (paint c.before.before.before.before.before.before) a.row.now c.requires.on_surface.1 a.row.now 0
           (stored_none _ _)
           next.result
           next.ensures.0
@@ -81,7 +90,12 @@ start-from-requires c =
 
 pub overflow_mul-from : goal.overflow_mul-from
 overflow_mul-from c =
-    omega (arith, c.start-from.ensures, within c.before.before.before.before.before.before.before.before.before.before c.loop-j.j c.loop-j.invariant.0, c.requires.on_surface.0.1)
+    omega (
+      arith,
+      c.start-from.ensures,
+      within c.before.before.before.before.before.before.before.before.before.before c.loop-j.j c.loop-j.invariant.0,
+      c.requires.on_surface.0.1,
+    )
 
 pub start-to-requires : goal.start-to-requires
 start-to-requires c =
@@ -117,11 +131,13 @@ shade_part-requires c =
       on_surface = (
         c.requires.on_surface.0,
         (
-          first_runs runs a.count a.strip.length (made c.before.before.before.before.before.before.before.before.before.before.before.before.before) t.result t.ensures.1,
+          first_runs runs a.count a.strip.length (made c.before.before.before.before.before.before.before.before.before.before.before.before.before) t.result
+              t.ensures.1,
           low c.before.before.before.before.before,
           omega (arith, t.ensures.1, few c.before.before.before.before.before.before.before.before.before.before.before.before.before),
           end c.before.before.before.before.before,
-          first_covered runs a.count a.strip.length (made c.before.before.before.before.before.before.before.before.before.before.before.before.before) c.requires.row_coverage.1 t.result t.ensures.1,
+          first_covered runs a.count a.strip.length (made c.before.before.before.before.before.before.before.before.before.before.before.before.before)
+              c.requires.row_coverage.1 t.result t.ensures.1,
         ),
       );
       row_len = (
@@ -131,8 +147,11 @@ shade_part-requires c =
     }
 
 pub covered_from-j-requires-in-loop-j : goal.covered_from-j-requires-in-loop-j
-covered_from-j-requires-in-loop-j c =
-    (c.covered_to-m.ensures.1, few c.before.before.before.before.before.before.before.before.before.before.before.before.before.before.before.before.before.before)
+covered_from-j-requires-in-loop-j c = (
+  c.covered_to-m.ensures.1,
+  few
+      c.before.before.before.before.before.before.before.before.before.before.before.before.before.before.before.before.before.before,
+)
 
 pub loop-j-smaller : goal.loop-j-smaller
 loop-j-smaller c =
@@ -145,12 +164,18 @@ loop-j-preserved c =
     let l = c.loop-j in
     let a = c.args in
     let next = c.covered_from-j-in-loop-j in
-    let through = stored_through a.runs.now a.count a.strip.length (made c.before.before.before.before.before.before.before.before.before.before.before.before.before.before.before.before.before.before.before) a.mode (paint c.before.before.before.before.before.before.before.before.before.before.before.before.before.before.before.before.before.before.before) a.row.now c.requires.on_surface.1
+    let through = stored_through a.runs.now a.count a.strip.length
+    (made c.before.before.before.before.before.before.before.before.before.before.before.before.before.before.before.before.before.before.before) a.mode
+    (paint c.before.before.before.before.before.before.before.before.before.before.before.before.before.before.before.before.before.before.before) a.row.now
+    c.requires.on_surface.1
     l.row l.j t.result c.start-from.result c.start-to.result c.start-from.ensures c.start-to.ensures
     l.invariant.2 call.new.row (low c.before.before.before.before.before.before.before.before.before.before.before) t.ensures.1 call.ensures in (
       next.ensures.1,
       call.auto.buffer ∙ l.invariant.1,
-      stored_past a.runs.now a.count a.strip.length (made c.before.before.before.before.before.before.before.before.before.before.before.before.before.before.before.before.before.before.before) a.mode (paint c.before.before.before.before.before.before.before.before.before.before.before.before.before.before.before.before.before.before.before) a.row.now c.requires.on_surface.1 _ t.result
+      stored_past a.runs.now a.count a.strip.length
+          (made c.before.before.before.before.before.before.before.before.before.before.before.before.before.before.before.before.before.before.before) a.mode
+          (paint c.before.before.before.before.before.before.before.before.before.before.before.before.before.before.before.before.before.before.before)
+          a.row.now c.requires.on_surface.1 _ t.result
           through
           next.result
           next.ensures.0
@@ -161,5 +186,6 @@ pub returns : goal.returns
 returns c =
     let l = c.loop-j in
     let a = c.args in
-    stored_whole a.runs.now a.count a.strip.length (made c.before.before.before.before.before.before.before.before) a.mode (paint c.before.before.before.before.before.before.before.before) a.row.now c.requires.on_surface.1 l.row l.j
+    stored_whole a.runs.now a.count a.strip.length (made c.before.before.before.before.before.before.before.before) a.mode
+    (paint c.before.before.before.before.before.before.before.before) a.row.now c.requires.on_surface.1 l.row l.j
     l.invariant.2 (omega (arith, l.invariant.0, c.loop-j-test.false))

@@ -12,7 +12,8 @@ use Rattle.engine.proofs.spans.shade_parts.Given as goal
 abbrev pub invariant-loop-j : goal.invariant-loop-j
 invariant-loop-j l =
     (l.j ≤ l.count) × (length l.buffer ≡ length l.initial.buffer)
-    × Stored (stepped l.mode (expand l.runs l.count) (λ i. gradient_tinted l.g l.ramp (l.strip.x + i) l.strip.y) l.initial.row) l.initial.row (start_of l.runs l.j) l.row
+    × Stored (stepped l.mode (expand l.runs l.count) (λ i. gradient_tinted l.g l.ramp (l.strip.x + i) l.strip.y) l.initial.row) l.initial.row
+    (start_of l.runs l.j) l.row
 
 abbrev pub decreases-loop-j : goal.decreases-loop-j
 decreases-loop-j l = l.count - l.j
