@@ -22,7 +22,7 @@ returns-then-f-ne-ACCEPTED c =
     let a = c.args in
     let f = c.judge_draw-f in
     let done = draw_refused a.scene.now (mask_of c.args.masked c.args.mask.now) a.surface.now a.scratch.now f.result c.refused.result f.ensures c.if-f-ne-ACCEPTED.true
-          c.refused.ensures in
+    c.refused.ensures in
     record { value = done.0; surface_after = done.1.0; scratch_after = done.1.1 }
 
 pub width-width-requires : goal.width-width-requires
@@ -76,7 +76,6 @@ returns c =
     let h = c.height-height in
     let p = c.paint_area in
     let done = draw_done a.scene.now (mask_of c.args.masked c.args.mask.now) a.surface.now a.scratch.now f.result c.accepted.result p.new.surface _ p.new.scratch w.result
-          h.result f.ensures c.if-f-ne-ACCEPTED.false w.ensures.0 h.ensures.0 c.accepted.ensures
-          (taken_bytes (mask_of c.args.masked c.args.mask.now) c.taken-m.result c.taken-m.ensures) p.ensures.surface_after (p.ensures.scratch_unchanged ∙ c.clear.ensures) in
+    h.result f.ensures c.if-f-ne-ACCEPTED.false w.ensures.0 h.ensures.0 c.accepted.ensures
+    (taken_bytes (mask_of c.args.masked c.args.mask.now) c.taken-m.result c.taken-m.ensures) p.ensures.surface_after (p.ensures.scratch_unchanged ∙ c.clear.ensures) in
     record { value = done.0; surface_after = done.1.0; scratch_after = done.1.1 }
-

@@ -12,7 +12,7 @@ returns-then-f-ne-ACCEPTED c =
     let a = c.args in
     let f = c.judge_scene-f in
     let done = redraw_refused a.old.now a.new.now (mask_of a.masked a.mask.now) a.surface.now a.scratch.now f.result c.refused.result
-          (first_refused f.result _ _ f.ensures c.if-f-ne-ACCEPTED.true) c.if-f-ne-ACCEPTED.true c.refused.ensures in
+    (first_refused f.result _ _ f.ensures c.if-f-ne-ACCEPTED.true) c.if-f-ne-ACCEPTED.true c.refused.ensures in
     record { value = done.0; surface_after = done.1.0; scratch_after = done.1.1 }
 
 pub redraw_from-requires : goal.redraw_from-requires

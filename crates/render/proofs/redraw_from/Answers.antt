@@ -22,8 +22,8 @@ returns-then-f-ne-ACCEPTED c =
     let a = c.args in
     let f = c.judge_redraw_from-f in
     let done = redraw_refused a.old.now a.new.now (mask_of c.args.masked c.args.mask.now) a.surface.now a.scratch.now f.result c.refused.result f.ensures
-          c.if-f-ne-ACCEPTED.true
-          c.refused.ensures in
+    c.if-f-ne-ACCEPTED.true
+    c.refused.ensures in
     record { value = done.0; surface_after = done.1.0; scratch_after = done.1.1 }
 
 pub width-width-requires : goal.width-width-requires
@@ -90,8 +90,7 @@ returns c =
     let d = c.damage-a in
     let p = c.paint_area in
     let done = redraw_done a.old.now a.new.now (mask_of c.args.masked c.args.mask.now) a.surface.now a.scratch.now f.result c.accepted.result p.new.surface _ p.new.scratch
-          w.result h.result d.result f.ensures c.if-f-ne-ACCEPTED.false w.ensures.0 h.ensures.0 d.ensures.value.0 c.accepted.ensures
-          (taken_bytes (mask_of c.args.masked c.args.mask.now) c.taken-m.result c.taken-m.ensures) p.ensures.surface_after
-          (p.ensures.scratch_unchanged ∙ d.ensures.scratch_unchanged ∙ c.clear.ensures) in
+    w.result h.result d.result f.ensures c.if-f-ne-ACCEPTED.false w.ensures.0 h.ensures.0 d.ensures.value.0 c.accepted.ensures
+    (taken_bytes (mask_of c.args.masked c.args.mask.now) c.taken-m.result c.taken-m.ensures) p.ensures.surface_after
+    (p.ensures.scratch_unchanged ∙ d.ensures.scratch_unchanged ∙ c.clear.ensures) in
     record { value = done.0; surface_after = done.1.0; scratch_after = done.1.1 }
-
