@@ -1,7 +1,7 @@
 /*
  * composite.c: the blending step on one pixel, a call for each line of standard input.
  *
- *     cc -std=c99 -I include examples/composite.c target/staticlib/libwayramesh.a -o composite
+ *     cc -std=c99 -I include examples/composite.c crates/wayramesh/out/libwayramesh.a -o composite
  *     echo 2001 80000080 0000ffff 16 | ./composite         half-transparent red over blue: 80007fff
  *     ./composite < tests/vectors/step/P06.txt
  *

@@ -1,7 +1,7 @@
 /*
  * explain.c: why a pixel has its colour, printed as the program explain prints it.
  *
- *     cc -std=c99 -I include examples/explain.c target/staticlib/libwayramesh.a -o explain
+ *     cc -std=c99 -I include examples/explain.c crates/wayramesh/out/libwayramesh.a -o explain
  *     ./explain scenes/panel.scene 512 300
  *     ./explain scenes/panel-soft.scene 512 300 scenes/panel-soft.mask
  *

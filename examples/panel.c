@@ -1,7 +1,7 @@
 /*
  * panel.c: draws a scene, redraws it to the next one, and writes the picture as a PAM image.
  *
- *     cc -std=c99 -I include examples/panel.c target/staticlib/libwayramesh.a -o panel
+ *     cc -std=c99 -I include examples/panel.c crates/wayramesh/out/libwayramesh.a -o panel
  *     ./panel > panel.pam                                             a gauge and a mask that are made here
  *     ./panel scenes/panel.scene scenes/panel-next.scene > panel.pam  two scene files
  *     ./panel scenes/panel-soft.scene scenes/panel-soft-next.scene scenes/panel-soft.mask > panel.pam

@@ -1,7 +1,7 @@
 /*
  * planned.c: a redraw in several small rectangles, the library's own and the caller's.
  *
- *     cc -std=c99 -I include examples/planned.c target/staticlib/libwayramesh.a -o planned
+ *     cc -std=c99 -I include examples/planned.c crates/wayramesh/out/libwayramesh.a -o planned
  *     ./planned
  *
  * A needle at the left moves and a lamp at the right goes on. One area would hold both and all between them; the plan has a

@@ -1,7 +1,7 @@
 /*
  * recipes.c: the recipes of docs/RECIPES.md, each tried on a gauge that is made here.
  *
- *     cc -std=c99 -pthread -I include examples/recipes.c target/staticlib/libwayramesh.a -o recipes
+ *     cc -std=c99 -pthread -I include examples/recipes.c crates/wayramesh/out/libwayramesh.a -o recipes
  *     ./recipes
  *
  * A line for each recipe says what was tried. The exit status is 0 if all of it was as it should be, else 1.

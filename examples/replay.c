@@ -2,7 +2,7 @@
  * replay.c: a minute of driving in one call. A needle goes up and down in 600 frames, which lie one behind another in
  * memory; one of them was spoiled on the way.
  *
- *     cc -std=c99 -I include examples/replay.c target/staticlib/libwayramesh.a -o replay
+ *     cc -std=c99 -I include examples/replay.c crates/wayramesh/out/libwayramesh.a -o replay
  *     ./replay
  *
  * It prints what the replay answered, and the code that the context kept.

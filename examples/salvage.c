@@ -1,7 +1,7 @@
 /*
  * salvage.c: a scene with spoiled blocks is written again.
  *
- *     cc -std=c99 -I include examples/salvage.c target/staticlib/libwayramesh.a -o salvage
+ *     cc -std=c99 -I include examples/salvage.c crates/wayramesh/out/libwayramesh.a -o salvage
  *     ./salvage < spoiled.scene > salvaged.scene
  *
  * The salvaged scene goes to standard output, and what was replaced to standard error: `replaced N`, then the number and the

@@ -9,7 +9,8 @@ use path::Edge;
 
 // Of an edge that goes up: whether its crossing with the row y is at or left of x. Both sides are multiplied by the edge's height.
 fn is_left(x0: i32, y0: i32, x1: i32, y1: i32, x: i32, y: i32) -> bool
-    requires { (nat_abs x0 ≤ 8388608) × (nat_abs y0 ≤ 8388608) × (nat_abs x1 ≤ 8388608) × (nat_abs y1 ≤ 8388608) × (nat_abs x ≤ 8388608) × (nat_abs y ≤ 8388608) }
+    requires { (nat_abs x0 ≤ 8388608) × (nat_abs y0 ≤ 8388608) × (nat_abs x1 ≤ 8388608) × (nat_abs y1 ≤ 8388608)
+        × (nat_abs x ≤ 8388608) × (nat_abs y ≤ 8388608) }
     ensures { result ≡ left_up (edge x0 y0 x1 y1) x y }
 {
     let a = ((y as i64) - (y0 as i64)) * ((x1 as i64) - (x0 as i64));

@@ -237,7 +237,7 @@ pub fn rounds() -> u64 {
 /// Compiles a C program of the folder examples with the library, as its first comment says, into a folder.
 pub fn compiled_example(name: &str, folder: &str) -> PathBuf {
     let root = Path::new(env!("CARGO_MANIFEST_DIR")).join("../..");
-    let archive = env::var_os("WAYRAMESH_LIB_DIR").map_or(root.join("target/staticlib"), PathBuf::from);
+    let archive = env::var_os("WAYRAMESH_LIB_DIR").map_or(root.join("crates/wayramesh/out"), PathBuf::from);
     let program = Path::new(folder).join(name);
     let status = Command::new("cc")
         .args(["-std=c99", "-pthread", "-Wall", "-Wextra", "-Wpedantic", "-Wconversion", "-Werror", "-I"])

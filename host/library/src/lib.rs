@@ -5,7 +5,7 @@
 //! - [`draw`], [`redraw`], [`draw_plain`], [`compare`], [`composite`]: the calls as they are, on buffers that are lent.
 //! - [`Code`] and [`Refusal`]: why a call was refused, in words.
 //!
-//! The archive libwayramesh.a is linked from `target/staticlib` of the repository, or the folder in `WAYRAMESH_LIB_DIR`; the
+//! The archive libwayramesh.a is linked from `crates/wayramesh/out` of the repository, or the folder in `WAYRAMESH_LIB_DIR`; the
 //! package `wayramesh-scene` makes scene files. Nothing checks the declarations here against the library: they are the header's,
 //! and the tests compare results.
 #![warn(missing_docs)]
