@@ -64,7 +64,8 @@ module _ (n : ℕ) (s f d : List ℕ) (e : f ≡ run n (λ i. keep_pixel (pixel_
   over_stored_bytes k =
       bytes_are_pixels n (over_stored_at k s f d) (λ i. unmasked_on mode_src_over k (pixel_in s i) (pixel_in d i)) (λ i l. same i (kept i l))
     where
-      same : (i : ℕ) → pixel_in f i ≡ keep_pixel (pixel_in s i) → pixel_by (over_stored_at k s f d) i ≡ unmasked_on mode_src_over k (pixel_in s i) (pixel_in d i)
+      same : (i : ℕ) → pixel_in f i ≡ keep_pixel (pixel_in s i) → pixel_by (over_stored_at k s f d) i ≡ unmasked_on mode_src_over k (pixel_in s i)
+          (pixel_in d i)
       same i q =
           rw (
             over_byte k (pixel_in s i).a (pixel_in d i).a (pixel_in s i).r (pixel_in d i).r,

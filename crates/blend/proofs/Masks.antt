@@ -89,7 +89,8 @@ pub masked_pixels : (n mode k : ℕ) (mask src d b wide r : List ℕ) → b ≡ 
     → r ≡ run n (λ i. composite_on mode k (get_or mask i 0) (pixel_in src i) (pixel_in d i))
 masked_pixels n mode k mask src d b wide r e f o =
     o
-    ∙ run_same n (λ i. masked_pixel k (pixel_in wide i) (pixel_in b i) (pixel_in d i)) (λ i. composite_on mode k (get_or mask i 0) (pixel_in src i) (pixel_in d i))
+    ∙ run_same n (λ i. masked_pixel k (pixel_in wide i) (pixel_in b i) (pixel_in d i)) (λ i. composite_on mode k (get_or mask i 0) (pixel_in src i)
+    (pixel_in d i))
     (λ i l.
     ap₂ (λ (m c : Pixel). masked_pixel k m c (pixel_in d i)) (weight i l) (made i l)
     ∙ sym (masked_step mode k (get_or mask i 0) (pixel_in src i) (pixel_in d i)))

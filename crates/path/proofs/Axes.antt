@@ -33,7 +33,8 @@ module _ (o : ℤ) (ho : nat_abs o ≤ 32768) where
 
 -- ---- a transformed point
 module _ (a b t : ℤ) (p : Point) (ha : nat_abs a ≤ 16777216) (hb : nat_abs b ≤ 16777216) (ht : nat_abs t ≤ 2147483648) (n : Near p) where
-  pub axis_asked : ((nat_abs (to_z w64 (of_z w64 a)) ≤ 16777216) × (nat_abs (to_z w64 (of_z w64 b)) ≤ 16777216) × (nat_abs (to_z w64 (of_z w64 t)) ≤ 2147483648))
+  pub axis_asked : ((nat_abs (to_z w64 (of_z w64 a)) ≤ 16777216) × (nat_abs (to_z w64 (of_z w64 b)) ≤ 16777216)
+      × (nat_abs (to_z w64 (of_z w64 t)) ≤ 2147483648))
       × ((nat_abs (to_z w32 (of_z w32 p.x)) ≤ 32768) × (nat_abs (to_z w32 (of_z w32 p.y)) ≤ 32768))
   axis_asked =
       rw (

@@ -86,7 +86,8 @@ module _ (m : FixedMatrix) (cs : List ℕ) (walk : Walk) (byte : ℕ) where
       rw (lt-leb 18 (number byte) a, lt-leb 26 (number byte) b, lt-ltb (length cs) (2 * (walk.used + coordinates_taken byte)) k)
 
   pub code_judged : byte < 18 → 2 * (walk.used + coordinates_taken byte) ≤ length cs → (t : Bool)
-      → (curve_in_range (curve_at cs walk byte) && curve_on_grid m (curve_at cs walk byte)) ≡ t → segment_code m cs walk byte ≡ cond t accepted_code illegal_argument
+      → (curve_in_range (curve_at cs walk byte) && curve_on_grid m (curve_at cs walk byte)) ≡ t
+      → segment_code m cs walk byte ≡ cond t accepted_code illegal_argument
   unfolding segment_code
   code_judged h k t e =
       let a : number byte < 18 = omega arith in
@@ -150,7 +151,8 @@ module _ (m : FixedMatrix) (cs : List ℕ) (walk : Walk) (byte : ℕ) where
   unfolding step_of
   from_refused k o = by (eqb (segment_code m cs walk byte) 0) refl o
     where
-      by : (s : Bool) → eqb (segment_code m cs walk byte) 0 ≡ s → Refused k ≡ pick_step s (Drawn (traced_by cs walk byte)) (Refused (segment_code m cs walk byte))
+      by : (s : Bool) → eqb (segment_code m cs walk byte) 0 ≡ s
+          → Refused k ≡ pick_step s (Drawn (traced_by cs walk byte)) (Refused (segment_code m cs walk byte))
           → (segment_code m cs walk byte ≡ k) × (k ≡ 0 → ⊥)
       by true q o = let z : ◌≡◌ {A = ℕ} 0 1 = cc in absurd (omega arith)
       by false q o =

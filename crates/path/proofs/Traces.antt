@@ -103,7 +103,8 @@ module _ (pen : Pen) (byte : ℕ) (c : ℕ → ℤ) where
   unfolding pen_after points_of
   traced_quad h u p q e f = rw (h, e, f)
 
-  pub traced_cubic : byte / 2 ≡ 6 → (u : ℕ) (p q r : Point) → p ≡ pair_at (base byte pen) c 0 → q ≡ pair_at (base byte pen) c 2 → r ≡ pair_at (base byte pen) c 4
+  pub traced_cubic : byte / 2 ≡ 6 → (u : ℕ) (p q r : Point) → p ≡ pair_at (base byte pen) c 0 → q ≡ pair_at (base byte pen) c 2
+      → r ≡ pair_at (base byte pen) c 4
       → traced_as u (pen_at pen.start r q) (cubic_to p q r) ≡ traced_as u (pen_after pen byte (points_of pen byte c)) (points_of pen byte c)
   unfolding pen_after points_of
   traced_cubic h u p q r e f g = rw (h, e, f, g)

@@ -23,13 +23,12 @@ use Rattle.path.specs.declared.FixedMatrix.{FixedMatrix}
 use Rattle.path.specs.declared.Point.{Point}
 use Rattle.path.specs.declared.Pen.{Pen}
 use Rattle.path.specs.declared.Curve.{Curve}
-use Rattle.path.specs.declared.Walk.{Walk}
 use Rattle.path.specs.Matrices.{transform_axis, transform, on_surface_grid}
 use Rattle.path.specs.Segments.{coordinates_taken, relative, number, number_move, in_sixteen_bits, in_range, point, base, pair_at, points_of, pen_after}
 use Rattle.path.specs.Segments.{coordinate_from, curve_at, walk_to, curve_in_range, curve_on_grid, fault_to}
 use Rattle.path.specs.Answers.{checked_to}
 use Rattle.path.specs.Plain.{is_plain, plain_to, taken_to, axis_small, is_small}
-use Rattle.path.specs.Limits.{Near, NearCurve}
+use Rattle.path.specs.Limits.{Near}
 use Rattle.path.proofs.Codes.{near_curve, code_judged}
 use Rattle.path.proofs.Faults.{accepted_next, checked_accepted}
 

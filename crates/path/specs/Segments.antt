@@ -1,6 +1,7 @@
 -- Segments: the walk of the pen over a path, step by step, and its rules ("Paths", document 003, Table 6).
 -- segments and coordinates are the path's bytes; a coordinate is a signed 16-bit number.
-use Rattle.std.specs.Prelude.{ℕ, zero, suc, ◌+◌, ◌*◌, ◌/◌, ◌%◌, List, [], ◌∷◌, Bool, cond, ◌&&◌, get_or, length, leb, ltb, eqb, ℤ, pos, negsuc, ◌+ℤ◌, ◌-ℤ◌, ◌*ℤ◌}
+use Rattle.std.specs.Prelude.{ℕ, zero, suc, ◌+◌, ◌*◌, ◌/◌, ◌%◌, List, [], ◌∷◌, Bool, cond, ◌&&◌, get_or, length, leb, ltb, eqb, ℤ, pos, negsuc, ◌+ℤ◌, ◌-ℤ◌}
+use Rattle.std.specs.Prelude.{◌*ℤ◌}
 use Rattle.std.specs.Int.Signed.{le_z}
 use Rattle.codes.specs.Codes.{accepted_code, illegal_argument, unsupported_path_format}
 use Rattle.codes.specs.First.{soonest}

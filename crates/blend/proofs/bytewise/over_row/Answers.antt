@@ -15,7 +15,8 @@ use Rattle.blend.proofs.bytewise.over_row.Tie as tie
 use Rattle.blend.proofs.bytewise.over_row.Lts as lts
 use Rattle.blend.proofs.bytewise.over_row.Reads as reads
 
-keep-length : (c : lts.Start tie.the-claims reads.Pre reads.Post goal.the-invariant-loop-i goal.the-decreases-loop-i tie.handed_clauses) → length c.args.keep.now ≡ c.args.n * 4
+keep-length : (c : lts.Start tie.the-claims reads.Pre reads.Post goal.the-invariant-loop-i goal.the-decreases-loop-i tie.handed_clauses)
+    → length c.args.keep.now ≡ c.args.n * 4
 keep-length c = ap length c.requires.keep_value ∙ run_length c.args.n (λ i. keep_pixel (pixel_in c.args.src.now i))
 
 pub bounds-keep-i : goal.bounds-keep-i

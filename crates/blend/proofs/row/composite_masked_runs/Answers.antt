@@ -18,7 +18,8 @@ use Rattle.blend.proofs.row.composite_masked_runs.Lts as lts
 use Rattle.blend.proofs.row.composite_masked_runs.Reads as reads
 
 -- the run of the turn
-turn : (c : lts.In-loop tie.the-claims reads.Pre reads.Post goal.the-invariant-loop-j goal.the-decreases-loop-j tie.handed_clauses) → let l = c.loop-j in let a = c.args in
+turn : (c : lts.In-loop tie.the-claims reads.Pre reads.Post goal.the-invariant-loop-j goal.the-decreases-loop-j tie.handed_clauses) → let l = c.loop-j in
+    let a = c.args in
     LentRun a.runs.now l.j c.start-first.result l.a (length a.src.now)
 turn c =
     let l = c.loop-j in
@@ -30,10 +31,12 @@ turn c =
     (p.src_len.0 ∙ ap (λ (f : ℕ). (start_of a.runs.now a.some.to - f) * 4) (sym first.ensures))
 
 -- the row is as long as the paint, and so is the mask
-long : (c : lts.In-loop tie.the-claims reads.Pre reads.Post goal.the-invariant-loop-j goal.the-decreases-loop-j tie.handed_clauses) → length c.loop-j.row ≡ length c.args.src.now
+long : (c : lts.In-loop tie.the-claims reads.Pre reads.Post goal.the-invariant-loop-j goal.the-decreases-loop-j tie.handed_clauses)
+    → length c.loop-j.row ≡ length c.args.src.now
 long c = c.loop-j.invariant.2.long ∙ c.requires.src_len.1 ∙ sym c.requires.src_len.0
 
-mask-long : (c : lts.In-loop tie.the-claims reads.Pre reads.Post goal.the-invariant-loop-j goal.the-decreases-loop-j tie.handed_clauses) → length c.args.mask.now * 4 ≡ length c.args.src.now
+mask-long : (c : lts.In-loop tie.the-claims reads.Pre reads.Post goal.the-invariant-loop-j goal.the-decreases-loop-j tie.handed_clauses)
+    → length c.args.mask.now * 4 ≡ length c.args.src.now
 mask-long c = ap (λ (m : ℕ). m * 4) c.requires.coverage.1 ∙ sym c.requires.src_len.0
 
 pub start-first-requires : goal.start-first-requires

@@ -20,7 +20,8 @@ use Rattle.blend.proofs.row.composite_painted_runs.Lts as lts
 use Rattle.blend.proofs.row.composite_painted_runs.Reads as reads
 
 -- the run of the turn
-turn : (c : lts.In-loop tie.the-claims reads.Pre reads.Post goal.the-invariant-loop-j goal.the-decreases-loop-j tie.handed_clauses) → let l = c.loop-j in let a = c.args in
+turn : (c : lts.In-loop tie.the-claims reads.Pre reads.Post goal.the-invariant-loop-j goal.the-decreases-loop-j tie.handed_clauses) → let l = c.loop-j in
+    let a = c.args in
     LentRun a.runs.now l.j c.start-first.result l.a (length a.src.now)
 turn c =
     let l = c.loop-j in
@@ -32,7 +33,8 @@ turn c =
     (p.src_len.0 ∙ ap (λ (f : ℕ). (start_of a.runs.now a.some.to - f) * 4) (sym first.ensures))
 
 -- the row is as long as the paint
-long : (c : lts.In-loop tie.the-claims reads.Pre reads.Post goal.the-invariant-loop-j goal.the-decreases-loop-j tie.handed_clauses) → length c.loop-j.row ≡ length c.args.src.now
+long : (c : lts.In-loop tie.the-claims reads.Pre reads.Post goal.the-invariant-loop-j goal.the-decreases-loop-j tie.handed_clauses)
+    → length c.loop-j.row ≡ length c.args.src.now
 long c = c.loop-j.invariant.2.long ∙ c.requires.src_len.1 ∙ sym c.requires.src_len.0
 
 pub start-first-requires : goal.start-first-requires
@@ -134,7 +136,12 @@ loop-j-preserved c =
       omega (arith, next_start runs l.j, t.low),
       part_turn (λ i. unmasked_on a.mode (get_or (expand runs a.n) (first + i) 0) (pixel_in a.src.now i))
           (λ i. unmasked_on a.mode (level_of runs l.j) (pixel_in (take (e * 4 - l.a * 4) (drop (l.a * 4) a.src.now)) i))
-          l.row a.row.now call.new.row l.a e t.some (omega (arith, t.within, long c.before.before.before.before.before.before.before.before, l.invariant.2.long)) l.invariant.2
+          l.row a.row.now call.new.row l.a e t.some (omega (
+            arith,
+            t.within,
+            long c.before.before.before.before.before.before.before.before,
+            l.invariant.2.long,
+          )) l.invariant.2
           (λ i h p.
           ap₂ (λ (k : ℕ) (q : Pixel). unmasked_on a.mode k q p)
           (sym (runs_at runs a.n a.w c.requires.runs.0 l.j (first + (l.a + i)) below (omega (arith, l.invariant.1)) (omega arith)))

@@ -14,7 +14,8 @@ use Rattle.blend.proofs.row.laid_runs.Lts as lts
 use Rattle.blend.proofs.row.laid_runs.Reads as reads
 
 -- the run of the turn
-turn : (c : lts.In-loop tie.the-claims reads.Pre reads.Post goal.the-invariant-loop-j goal.the-decreases-loop-j tie.handed_clauses) → let l = c.loop-j in let a = c.args in
+turn : (c : lts.In-loop tie.the-claims reads.Pre reads.Post goal.the-invariant-loop-j goal.the-decreases-loop-j tie.handed_clauses) → let l = c.loop-j in
+    let a = c.args in
     LentRun a.runs.now l.j 0 l.a (length a.row.now)
 turn c =
     let l = c.loop-j in
@@ -80,7 +81,8 @@ over_laid-requires c =
     let a = c.args in
     let l = c.loop-j in
     record {
-      coverage_bound = run_asks a.runs.now a.n a.w c.requires.runs.0 l.j l.a c.loop-j-test.true l.row a.row.now (turn c.before.before.before.before) c.requires.coverage
+      coverage_bound = run_asks a.runs.now a.n a.w c.requires.runs.0 l.j l.a c.loop-j-test.true l.row a.row.now (turn c.before.before.before.before)
+          c.requires.coverage
           l.invariant.2.long;
       paint_value = c.requires.paint_value;
     }
@@ -93,7 +95,8 @@ loop-j-preserved c =
     let call = c.over_laid in (
       omega (arith, below),
       sym (next_start a.runs.now l.j),
-      run_turn a.runs.now a.n a.w c.requires.runs.0 l.j l.a below l.row a.row.now (turn c.before.before.before.before.before.before.before) mode_src_over (pixel_in a.paint.now 0)
+      run_turn a.runs.now a.n a.w c.requires.runs.0 l.j l.a below l.row a.row.now (turn c.before.before.before.before.before.before.before) mode_src_over
+          (pixel_in a.paint.now 0)
           call.new.row l.invariant.1 l.invariant.2 call.ensures,
     )
 

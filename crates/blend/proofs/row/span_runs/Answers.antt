@@ -12,7 +12,8 @@ use Rattle.blend.proofs.row.span_runs.Lts as lts
 use Rattle.blend.proofs.row.span_runs.Reads as reads
 
 -- the run of the turn
-turn : (c : lts.In-loop tie.the-claims reads.Pre reads.Post goal.the-invariant-loop-j goal.the-decreases-loop-j tie.handed_clauses) → let l = c.loop-j in let a = c.args in
+turn : (c : lts.In-loop tie.the-claims reads.Pre reads.Post goal.the-invariant-loop-j goal.the-decreases-loop-j tie.handed_clauses) → let l = c.loop-j in
+    let a = c.args in
     LentRun a.runs.now l.j 0 l.a (length a.row.now)
 turn c =
     let l = c.loop-j in

@@ -11,7 +11,8 @@ use Rattle.blend.proofs.row.span_runs.Given as goal
 -- `blend::span_runs` meets its contract: the runs before j are stored, and the other pixels are as they were. Assumes nothing.
 abbrev pub invariant-loop-j : goal.invariant-loop-j
 invariant-loop-j l =
-    (l.j ≤ l.n) × (l.a ≡ start_of l.runs l.j) × Stored (λ i. unmasked_on l.mode (get_or (expand l.runs l.n) i 0) l.src (pixel_in l.initial.row i)) l.initial.row l.a l.row
+    (l.j ≤ l.n) × (l.a ≡ start_of l.runs l.j) × Stored (λ i. unmasked_on l.mode (get_or (expand l.runs l.n) i 0) l.src (pixel_in l.initial.row i))
+    l.initial.row l.a l.row
 
 abbrev pub decreases-loop-j : goal.decreases-loop-j
 decreases-loop-j l = l.n - l.j

@@ -11,7 +11,8 @@ use Rattle.blend.proofs.span.over_kept.Given as goal
 -- `blend::over_kept` meets its contract: the pixels before i are blended, and the others are as they were. Assumes nothing.
 abbrev pub invariant-loop-i : goal.invariant-loop-i
 invariant-loop-i l =
-    (l.i ≤ l.n) × (length l.keep ≡ 512) × Stored (λ j. unmasked_on mode_src_over l.coverage (pixel_in l.src j) (pixel_in l.initial.row j)) l.initial.row l.i l.row
+    (l.i ≤ l.n) × (length l.keep ≡ 512) × Stored (λ j. unmasked_on mode_src_over l.coverage (pixel_in l.src j) (pixel_in l.initial.row j)) l.initial.row
+    l.i l.row
 
 abbrev pub decreases-loop-i : goal.decreases-loop-i
 decreases-loop-i l = l.n - l.i

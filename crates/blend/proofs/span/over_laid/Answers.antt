@@ -20,16 +20,20 @@ use Rattle.blend.proofs.span.over_laid.Lts as lts
 use Rattle.blend.proofs.span.over_laid.Reads as reads
 
 -- the first pixels that are laid out
-laid : (c : lts.Start tie.the-claims reads.Pre reads.Post goal.the-invariant-loop-i goal.the-decreases-loop-i tie.handed_clauses) (m w : ℕ) → m ≤ 16 → w ≡ m * 4 → take w c.args.paint.now ≡ run m (λ i. pixel_in c.args.paint.now 0)
+laid : (c : lts.Start tie.the-claims reads.Pre reads.Post goal.the-invariant-loop-i goal.the-decreases-loop-i tie.handed_clauses) (m w : ℕ) → m ≤ 16
+    → w ≡ m * 4 → take w c.args.paint.now ≡ run m (λ i. pixel_in c.args.paint.now 0)
 laid c m w h e = laid_part 16 m w (pixel_in c.args.paint.now 0) c.args.paint.now c.requires.paint_value.0 h e
 
-laid_at : (c : lts.Start tie.the-claims reads.Pre reads.Post goal.the-invariant-loop-i goal.the-decreases-loop-i tie.handed_clauses) (m w j : ℕ) → m ≤ 16 → w ≡ m * 4 → j < m → pixel_in (take w c.args.paint.now) j ≡ pixel_in c.args.paint.now 0
+laid_at : (c : lts.Start tie.the-claims reads.Pre reads.Post goal.the-invariant-loop-i goal.the-decreases-loop-i tie.handed_clauses) (m w j : ℕ) → m ≤ 16
+    → w ≡ m * 4 → j < m → pixel_in (take w c.args.paint.now) j ≡ pixel_in c.args.paint.now 0
 laid_at c m w j h e l = ap (λ (s : List ℕ). pixel_in s j) (laid c m w h e) ∙ run_at m (λ i. pixel_in c.args.paint.now 0) j l
 
-paint-length : (c : lts.Start tie.the-claims reads.Pre reads.Post goal.the-invariant-loop-i goal.the-decreases-loop-i tie.handed_clauses) → length c.args.paint.now ≡ 64
+paint-length : (c : lts.Start tie.the-claims reads.Pre reads.Post goal.the-invariant-loop-i goal.the-decreases-loop-i tie.handed_clauses)
+    → length c.args.paint.now ≡ 64
 paint-length c = ap length c.requires.paint_value.0 ∙ run_length 16 (λ i. pixel_in c.args.paint.now 0)
 
-keep-length : (c : lts.Start tie.the-claims reads.Pre reads.Post goal.the-invariant-loop-i goal.the-decreases-loop-i tie.handed_clauses) → length c.args.keep.now ≡ 64
+keep-length : (c : lts.Start tie.the-claims reads.Pre reads.Post goal.the-invariant-loop-i goal.the-decreases-loop-i tie.handed_clauses)
+    → length c.args.keep.now ≡ 64
 keep-length c = ap length c.requires.paint_value.1 ∙ run_length 16 (λ i. keep_pixel (pixel_in c.args.paint.now 0))
 
 pub returns-then-coverage-eq0 : goal.returns-then-coverage-eq0
@@ -63,11 +67,13 @@ over_part-requires c =
     record {
       coverage_bound = (
         c.requires.coverage_bound.0,
-        ap length (laid c.before.before.before.before.before.before.before.before.before.before.before m (e * 4 - l.i * 4 - 0) few w) ∙ run_length m (λ i. first),
+        ap length (laid c.before.before.before.before.before.before.before.before.before.before.before m (e * 4 - l.i * 4 - 0) few w)
+            ∙ run_length m (λ i. first),
         part_length l.row (l.i * 4) (e * 4) (omega (arith, c.sooner-e.ensures)) (omega (arith, c.sooner-e.ensures)) ∙ omega arith,
       );
       keep_value = laid_part 16 m (e * 4 - l.i * 4 - 0) (keep_pixel first) a.keep.now c.requires.paint_value.1 few w
-          ∙ run_same m (λ j. keep_pixel first) _ (λ j h. ap keep_pixel (sym (laid_at c.before.before.before.before.before.before.before.before.before.before.before m (e * 4 - l.i * 4 - 0) j few w h)));
+          ∙ run_same m (λ j. keep_pixel first) _ (λ j h. ap keep_pixel
+          (sym (laid_at c.before.before.before.before.before.before.before.before.before.before.before m (e * 4 - l.i * 4 - 0) j few w h)));
     }
 
 pub loop-i-smaller : goal.loop-i-smaller
@@ -89,7 +95,9 @@ loop-i-preserved c =
           (λ j p. unmasked_on mode_src_over a.coverage (pixel_in (take (e * 4 - l.i * 4 - 0) a.paint.now) j) p)
           l.row a.row.now call.new.row l.i e (omega (arith, c.sooner-e.ensures))
           (omega (arith, c.sooner-e.ensures, c.requires.coverage_bound.1)) l.invariant.1
-          (λ j h p. ap (λ (q : Pixel). unmasked_on mode_src_over a.coverage q p) (laid_at c.before.before.before.before.before.before.before.before.before.before.before.before.before.before m (e * 4 - l.i * 4 - 0) j few w h)) call.ensures,
+          (λ j h p. ap (λ (q : Pixel). unmasked_on mode_src_over a.coverage q p)
+          (laid_at c.before.before.before.before.before.before.before.before.before.before.before.before.before.before m (e * 4 - l.i * 4 - 0) j few w
+          h)) call.ensures,
     )
 
 pub returns : goal.returns

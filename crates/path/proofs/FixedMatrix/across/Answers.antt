@@ -5,7 +5,10 @@ use Rattle.path.proofs.FixedMatrix.across.Goals as goal
 pub axis-requires : goal.axis-requires
 axis-requires c =
     let m = c.args.self in
-    record { a_bound = (axis_asked m.sx m.shx m.tx c.args.p c.requires.0.sx c.requires.0.shx c.requires.0.tx c.requires.1).0; x_bound = (axis_asked m.sx m.shx m.tx c.args.p c.requires.0.sx c.requires.0.shx c.requires.0.tx c.requires.1).1 }
+    record {
+      a_bound = (axis_asked m.sx m.shx m.tx c.args.p c.requires.0.sx c.requires.0.shx c.requires.0.tx c.requires.1).0;
+      x_bound = (axis_asked m.sx m.shx m.tx c.args.p c.requires.0.sx c.requires.0.shx c.requires.0.tx c.requires.1).1;
+    }
 
 pub returns : goal.returns
 returns c =

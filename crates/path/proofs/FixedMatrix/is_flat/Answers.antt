@@ -11,7 +11,6 @@ use Rattle.fixed.proofs.Within.{Within, fits}
 use Rattle.fixed.proofs.Means.{Num, need, keep, small, mul, sub}
 use Rattle.fixed.proofs.Signed.{zero_yes, zero_no}
 use Rattle.path.proofs.FixedMatrix.is_flat.Goals as goal
-use Rattle.path.proofs.FixedMatrix.is_flat.Tie as tie
 use Rattle.path.proofs.FixedMatrix.is_flat.Lts as lts
 use Rattle.path.proofs.FixedMatrix.is_flat.Reads as reads
 

@@ -2,7 +2,6 @@
 use mathlib.Core.Path.{◌≡◌, ap, ◌∙◌}
 use lib.Dec.{leb}
 use lib.IntN.{ℤ, nat_abs}
-use borrow.Author.Rules.{rules}
 use mir.Syntax.{w64}
 use Rattle.fixed.proofs.Signed.{back}
 use Rattle.path.specs.Matrices.{transform}

@@ -1,5 +1,4 @@
 -- `path::Matrix::in_limits` meets its contract. Assumes nothing.
-use borrow.Author.Rules.{rules}
 use Rattle.path.proofs.Ands.{and_on, and_off}
 use Rattle.path.proofs.Matrix.in_limits.Goals as goal
 

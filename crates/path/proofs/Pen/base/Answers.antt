@@ -1,6 +1,5 @@
 -- `path::Pen::base` meets its contract. Assumes nothing.
 use mathlib.Core.Path.{◌≡◌, ap, sym, ◌∙◌}
-use borrow.Author.Rules.{rules}
 use Rattle.path.specs.declared.Segment.{Segment}
 use Rattle.path.specs.Segments.{relative}
 use Rattle.path.proofs.Pen.base.Goals as goal

@@ -1,6 +1,5 @@
 -- `path::Pen::smooth_quad_to` meets its contract. Assumes nothing.
 use mathlib.Core.Path.{ap, ◌∙◌}
-use borrow.Author.Rules.{rules}
 use Rattle.path.specs.declared.Point.{Point}
 use Rattle.path.specs.Segments.{pen_at}
 use Rattle.path.proofs.Pen.smooth_quad_to.Goals as goal

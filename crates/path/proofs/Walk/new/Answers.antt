@@ -1,5 +1,4 @@
 -- `path::Walk::new` meets its contract. Assumes nothing.
-use borrow.Author.Rules.{rules}
 use Rattle.path.proofs.Walk.new.Goals as goal
 
 pub returns : goal.returns

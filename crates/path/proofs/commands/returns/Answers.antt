@@ -3,7 +3,6 @@ use mathlib.Core.Path.{◌≡◌, ap, ◌∙◌}
 use Prim.Native.Nat.{ℕ, ◌/◌}
 use native.Mathlib.Omega.{arith}
 use lib.Dec.{leb, leb→le, le→leb}
-use borrow.Author.Rules.{rules}
 use Rattle.fixed.proofs.Tests.{same_test}
 use Rattle.path.specs.declared.Segment.{Segment}
 use Rattle.path.specs.Segments.{number, number_move}

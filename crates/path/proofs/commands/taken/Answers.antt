@@ -2,7 +2,6 @@
 use mathlib.Core.Path.{◌≡◌, refl, ap}
 use Prim.Native.Nat.{◌/◌}
 use native.Mathlib.Omega.{arith}
-use borrow.Author.Rules.{rules}
 use Rattle.path.specs.declared.Segment.{Segment}
 use Rattle.path.proofs.Traces.{takes_few, packed_takes}
 use Rattle.path.proofs.commands.taken.Goals as goal

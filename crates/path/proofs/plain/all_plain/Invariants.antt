@@ -1,12 +1,7 @@
 -- `path::plain::all_plain` meets its contract.
-use mathlib.Core.Path.{◌≡◌, ap, sym, ◌∙◌}
+use mathlib.Core.Path.{◌≡◌}
 use Prim.Native.Nat.{◌-◌, ◌≤◌}
-use mathlib.Core.Bool.{Bool, ◌&&◌}
-use native.Mathlib.Numerals.{add-one}
-use native.Mathlib.Omega.{arith}
-use lib.ListN.{get_or}
-use Rattle.path.specs.Plain.{is_plain, plain_to}
-use borrow.Author.Rules.{rules}
+use Rattle.path.specs.Plain.{plain_to}
 use Rattle.path.proofs.plain.all_plain.Given as goal
 
 -- `path::plain::all_plain` meets its contract.

@@ -1,7 +1,6 @@
 -- `path::plain::is_plain` meets its contract.
-use mathlib.Core.Path.{◌≡◌, sym, ◌∙◌}
+use mathlib.Core.Path.{sym, ◌∙◌}
 use borrow.Author.Tests.{le-leb, lt-leb}
-use borrow.Author.Rules.{rules}
 use Rattle.path.proofs.plain.is_plain.Goals as goal
 
 pub returns-then-n-gt-MOST_SEGMENTS : goal.returns-then-n-gt-MOST_SEGMENTS

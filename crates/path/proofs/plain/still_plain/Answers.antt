@@ -1,6 +1,5 @@
 -- `path::plain::still_plain` meets its contract.
-use mathlib.Core.Path.{◌≡◌, sym}
-use borrow.Author.Rules.{rules}
+use mathlib.Core.Path.{sym}
 use Rattle.path.proofs.Ands.{and-true, and-false}
 use Rattle.path.proofs.Untraced.{is_plain_lem, not_plain}
 use Rattle.path.proofs.plain.still_plain.Goals as goal

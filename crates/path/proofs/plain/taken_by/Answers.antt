@@ -1,9 +1,8 @@
 -- `path::plain::taken_by` meets its contract.
 use mathlib.Core.Path.{◌≡◌, ap, ap₂, sym, ◌∙◌}
-use Prim.Native.Nat.{◌+◌, ◌-◌, ◌*◌, ◌≤◌, ◌<◌}
+use Prim.Native.Nat.{◌+◌}
 use native.Mathlib.Numerals.{add-one}
 use native.Mathlib.Omega.{arith}
-use lib.ListN.{get_or}
 use Rattle.path.specs.Plain.{taken_to}
 use Rattle.path.proofs.Untraced.{plain_below}
 use borrow.Author.Rules.{rules}

@@ -1,7 +1,6 @@
 -- `path::rules::accepts` meets its contract. Assumes nothing.
 use mathlib.Core.Path.{sym, subst, ◌∙◌}
 use lib.Dec.{T}
-use borrow.Author.Rules.{rules}
 use Rattle.path.specs.Segments.{curve_in_range, curve_on_grid}
 use Rattle.path.proofs.Ands.{and_on, and_off}
 use Rattle.path.proofs.Codes.{near_curve}

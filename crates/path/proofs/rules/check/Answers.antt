@@ -5,7 +5,6 @@ use native.Mathlib.Omega.{arith}
 use Prim.Native.Nat.{◌≤◌}
 use lib.Dec.{leb}
 use borrow.Author.Tests.{leb-true, not-false}
-use borrow.Author.Rules.{rules}
 use Rattle.rect.proofs.Laws.{both}
 use Rattle.path.specs.Plain.{is_small, plain_to}
 use Rattle.path.proofs.Untraced.{plain_checked}
@@ -14,7 +13,8 @@ use Rattle.path.proofs.rules.check.Tie as tie
 use Rattle.path.proofs.rules.check.Lts as lts
 use Rattle.path.proofs.rules.check.Reads as reads
 
-passed : (c : lts.Else1 tie.the-claims reads.Pre reads.Post tie.handed_clauses) → let a = c.args in (a.n ≤ 128) × ((is_small a.m ≡ true) × (plain_to a.segments.now a.n ≡ true))
+passed : (c : lts.Else1 tie.the-claims reads.Pre reads.Post tie.handed_clauses) → let a = c.args in (a.n ≤ 128) × ((is_small a.m ≡ true)
+    × (plain_to a.segments.now a.n ≡ true))
 passed c =
     let a = c.args in
     let answer = c.is_plain in

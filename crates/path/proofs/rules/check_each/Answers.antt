@@ -1,6 +1,6 @@
 -- `path::rules::check_each` meets its contract. The invariant: the walk is that over the segments passed, which are accepted. Assumes nothing.
 use mathlib.Core.Path.{◌≡◌, refl, sym, ap, subst, ◌∙◌}
-use Prim.Native.Nat.{ℕ, ◌≤◌, ◌-◌}
+use Prim.Native.Nat.{ℕ}
 use native.Mathlib.Numerals.{add-one}
 use native.Mathlib.Omega.{arith}
 use lib.ListN.{get_or}
@@ -17,7 +17,8 @@ use Rattle.path.proofs.rules.check_each.Tie as tie
 use Rattle.path.proofs.rules.check_each.Lts as lts
 use Rattle.path.proofs.rules.check_each.Reads as reads
 
-stepped : (step : lts.After-step tie.the-claims reads.Pre reads.Post goal.the-invariant-loop-i goal.the-decreases-loop-i) → let a = step.args in let i = step.loop-i.i in
+stepped : (step : lts.After-step tie.the-claims reads.Pre reads.Post goal.the-invariant-loop-i goal.the-decreases-loop-i) → let a = step.args in
+    let i = step.loop-i.i in
     step.step-s.result ≡ step_of a.m a.coordinates.now (walk_to a.segments.now a.coordinates.now i) (get_or a.segments.now i 0)
 stepped step =
     let a = step.args in

@@ -1,6 +1,5 @@
 -- `path::rules::curve_in_range` meets its contract. Assumes nothing.
 use mathlib.Core.Bool.{◌&&◌}
-use borrow.Author.Rules.{rules}
 use Rattle.path.specs.Segments.{in_range}
 use Rattle.path.proofs.Ands.{and_on, and_off}
 use Rattle.path.proofs.rules.curve_in_range.Goals as goal

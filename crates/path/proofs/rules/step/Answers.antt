@@ -3,7 +3,6 @@ use mathlib.Core.Path.{◌≡◌, refl, sym, ap, subst, ◌∙◌}
 use mathlib.Core.Bool.{cond, ◌&&◌}
 use Prim.Native.Nat.{ℕ, ◌+◌, ◌*◌, ◌/◌, ◌<◌, ◌≤◌}
 use native.Mathlib.Omega.{arith}
-use borrow.Author.Rules.{rules}
 use lib.ListN.{length}
 use Rattle.codes.specs.Codes.{accepted_code, illegal_argument, unsupported_path_format}
 use Rattle.codes.proofs.Refusals.{refuses}
@@ -48,7 +47,8 @@ enough c =
     subst (λ (n : ℕ). 2 * (a.walk.used + n) ≤ length a.coordinates.now) taken.ensures.0 c.if-coordinates-walk.false
 
 -- they are judged
-judged : (c : lts.After-accepts tie.the-claims reads.Pre reads.Post) → code_of c.before.before.before.before.before.before.before.before.before ≡ cond c.accepts.result accepted_code illegal_argument
+judged : (c : lts.After-accepts tie.the-claims reads.Pre reads.Post) → code_of c.before.before.before.before.before.before.before.before.before ≡ cond
+    c.accepts.result accepted_code illegal_argument
 unfolding traced_by
 judged c =
     let trace = c.trace-t in
@@ -60,13 +60,15 @@ pub returns-then-command-le-LAST_ARC : goal.returns-then-command-le-LAST_ARC
 returns-then-command-le-LAST_ARC c =
     let a = c.args in
     step_refused a.m a.coordinates.now a.walk a.byte unsupported_path_format
-    (code_arc a.m a.coordinates.now a.walk a.byte (rw (is-command c.before.before.before) at c.if-command-ge-FIRST_ARC.true) (rw (is-command c.before.before.before) at c.if-command-le-LAST_ARC.true))
+    (code_arc a.m a.coordinates.now a.walk a.byte (rw (is-command c.before.before.before) at c.if-command-ge-FIRST_ARC.true)
+    (rw (is-command c.before.before.before) at c.if-command-le-LAST_ARC.true))
     (refuses unsupported_path_format refl)
 
 pub returns-then-command-ge-FIRST_ARC : goal.returns-then-command-ge-FIRST_ARC
 returns-then-command-ge-FIRST_ARC c =
     let a = c.args in
-    illegal c.before.before.before.before.before (code_number a.m a.coordinates.now a.walk a.byte (rw (is-command c.before.before.before) at c.if-command-le-LAST_ARC.false))
+    illegal c.before.before.before.before.before (code_number a.m a.coordinates.now a.walk a.byte (rw (is-command c.before.before.before) at
+    c.if-command-le-LAST_ARC.false))
 
 pub taken-requires : goal.taken-requires
 taken-requires c =

@@ -2,7 +2,6 @@
 use mathlib.Core.Path.{◌≡◌, ap}
 use Prim.Native.Nat.{◌/◌}
 use native.Mathlib.Omega.{arith}
-use borrow.Author.Rules.{rules}
 use Rattle.path.specs.declared.Segment.{Segment}
 use Rattle.path.proofs.tracing.trace.Goals as goal
 use Rattle.path.proofs.tracing.trace.Tie as tie

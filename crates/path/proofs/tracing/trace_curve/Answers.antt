@@ -2,7 +2,6 @@
 use mathlib.Core.Path.{◌≡◌, refl, sym, ap, subst, ◌∙◌}
 use Prim.Native.Nat.{ℕ, ◌+◌, ◌*◌, ◌/◌, ◌≤◌}
 use native.Mathlib.Omega.{arith}
-use borrow.Author.Rules.{rules}
 use lib.IntN.{ℤ}
 use lib.ListN.{length}
 use Rattle.path.specs.declared.Point.{Point}
@@ -29,7 +28,8 @@ near from =
 abbrev pointAt : lts.After-base tie.the-claims reads.Pre reads.Post → ℕ → Point
 pointAt from j = let a = from.args in pair_at (base a.byte a.walk.pen) (coordinate from) j
 
-at_base : (from : lts.After-base tie.the-claims reads.Pre reads.Post) (j : ℕ) (p : Point) → p ≡ pair_at from.base-base.result (coordinate from) j → p ≡ pointAt from j
+at_base : (from : lts.After-base tie.the-claims reads.Pre reads.Post) (j : ℕ) (p : Point) → p ≡ pair_at from.base-base.result (coordinate from) j
+    → p ≡ pointAt from j
 at_base from j p e = e ∙ ap (λ (o : Point). pair_at o (coordinate from) j) from.base-base.ensures
 
 -- what is returned, by how many coordinates are used
@@ -41,7 +41,8 @@ used from r pen pen₂ curve curve₂ e p q = e ∙ (λ i. traced_as (from.args.
 kind : (split : lts.After-split tie.the-claims reads.Pre reads.Post) → (k : ℕ) → split.split-s.result.command ≡ k → split.args.byte / 2 ≡ k
 kind split k e = sym (ap (λ (s : Segment). s.command) split.split-s.ensures) ∙ e
 
-enough : (split : lts.After-split tie.the-claims reads.Pre reads.Post) → (k : ℕ) → split.split-s.result.command ≡ k → 2 * (split.args.walk.used + taken_by k) ≤ length split.args.coordinates.now
+enough : (split : lts.After-split tie.the-claims reads.Pre reads.Post) → (k : ℕ) → split.split-s.result.command ≡ k
+    → 2 * (split.args.walk.used + taken_by k) ≤ length split.args.coordinates.now
 enough split k e = enough_at split.args.coordinates.now split.args.walk split.args.byte k split.requires.0 ((kind split k) e)
 
 pub taken-requires : goal.taken-requires
@@ -94,8 +95,10 @@ returns-in-5 c =
     let q = c.pair_at-q in
     let a = c.args in
     used c.before.before.before.before.before.before.before.before _ _ _ _ _ c.traced.ensures c.quad_to.ensures c.quad.ensures
-    ∙ traced_quad a.walk.pen a.byte (coordinate c.before.before.before.before.before.before.before.before) (kind c.before.before.before.before.before.before 5 c.in-5.is) _ p.result q.result
-    (at_base c.before.before.before.before.before.before.before.before 0 p.result p.ensures) (at_base c.before.before.before.before.before.before.before.before 2 q.result q.ensures)
+    ∙ traced_quad a.walk.pen a.byte (coordinate c.before.before.before.before.before.before.before.before)
+    (kind c.before.before.before.before.before.before 5 c.in-5.is) _ p.result q.result
+    (at_base c.before.before.before.before.before.before.before.before 0 p.result p.ensures)
+    (at_base c.before.before.before.before.before.before.before.before 2 q.result q.ensures)
 
 pub returns-in-6 : goal.returns-in-6
 unfolding traced_by
@@ -105,8 +108,11 @@ returns-in-6 c =
     let r = c.pair_at-r in
     let a = c.args in
     used c.before.before.before.before.before.before.before.before.before _ _ _ _ _ c.traced-in-6.ensures c.cubic_to.ensures c.cubic.ensures
-    ∙ traced_cubic a.walk.pen a.byte (coordinate c.before.before.before.before.before.before.before.before.before) (kind c.before.before.before.before.before.before.before 6 c.in-6.is) _ p.result q.result r.result
-    (at_base c.before.before.before.before.before.before.before.before.before 0 p.result p.ensures) (at_base c.before.before.before.before.before.before.before.before.before 2 q.result q.ensures) (at_base c.before.before.before.before.before.before.before.before.before 4 r.result r.ensures)
+    ∙ traced_cubic a.walk.pen a.byte (coordinate c.before.before.before.before.before.before.before.before.before)
+    (kind c.before.before.before.before.before.before.before 6 c.in-6.is) _ p.result q.result r.result
+    (at_base c.before.before.before.before.before.before.before.before.before 0 p.result p.ensures)
+    (at_base c.before.before.before.before.before.before.before.before.before 2 q.result q.ensures)
+    (at_base c.before.before.before.before.before.before.before.before.before 4 r.result r.ensures)
 
 pub returns-in-7 : goal.returns-in-7
 unfolding traced_by
@@ -115,17 +121,25 @@ returns-in-7 c =
     let a = c.args in
     let curve = c.quad-in-7.ensures ∙ ap (λ (d : Point). quad_to d p.result) c.reflected-c.ensures in
     used c.before.before.before.before.before.before.before.before _ _ _ _ _ c.traced-in-7.ensures c.smooth_quad_to.ensures curve
-    ∙ traced_smooth_quad a.walk.pen a.byte (coordinate c.before.before.before.before.before.before.before.before) (kind c.before.before.before.before.before.before 7 c.in-7.is) _ p.result
+    ∙ traced_smooth_quad a.walk.pen a.byte (coordinate c.before.before.before.before.before.before.before.before)
+    (kind c.before.before.before.before.before.before 7 c.in-7.is) _ p.result
     (at_base c.before.before.before.before.before.before.before.before 0 p.result p.ensures)
 
 pub returns-in_default : goal.returns-in_default
 unfolding traced_by
 returns-in_default c =
-    let smooth : c.split-s.result.command ≡ 8 = omega (arith, kind c.before.before.before.before.before.before.before _ refl, c.requires.0.segment, c.requires.1) in
+    let smooth : c.split-s.result.command ≡ 8 = omega (
+      arith,
+      kind c.before.before.before.before.before.before.before _ refl,
+      c.requires.0.segment,
+      c.requires.1,
+    ) in
     let p = c.pair_at-p in
     let q = c.pair_at-q-in_default in
     let a = c.args in
     let curve = c.cubic-in_default.ensures ∙ ap (λ (d : Point). cubic_to d p.result q.result) c.reflected-c-in_default.ensures in
     used c.before.before.before.before.before.before.before.before.before _ _ _ _ _ c.traced-in_default.ensures c.smooth_cubic_to.ensures curve
-    ∙ traced_smooth_cubic a.walk.pen a.byte (coordinate c.before.before.before.before.before.before.before.before.before) (kind c.before.before.before.before.before.before.before 8 smooth) _ p.result q.result
-    (at_base c.before.before.before.before.before.before.before.before.before 0 p.result p.ensures) (at_base c.before.before.before.before.before.before.before.before.before 2 q.result q.ensures)
+    ∙ traced_smooth_cubic a.walk.pen a.byte (coordinate c.before.before.before.before.before.before.before.before.before)
+    (kind c.before.before.before.before.before.before.before 8 smooth) _ p.result q.result
+    (at_base c.before.before.before.before.before.before.before.before.before 0 p.result p.ensures)
+    (at_base c.before.before.before.before.before.before.before.before.before 2 q.result q.ensures)

@@ -2,7 +2,6 @@
 use mathlib.Core.Path.{ap, ◌∙◌}
 use Prim.Native.Nat.{◌+◌}
 use native.Mathlib.Omega.{arith}
-use borrow.Author.Rules.{rules}
 use Rattle.path.specs.declared.Pen.{Pen}
 use Rattle.path.specs.Segments.{line_to, coordinate_from}
 use Rattle.path.specs.Answers.{traced_as, traced_by}

@@ -3,7 +3,6 @@ use mathlib.Core.Path.{◌≡◌, ap, ◌∙◌}
 use native.Mathlib.Omega.{arith}
 use lib.IntN.{nat_abs}
 use mir.Facts.{to_z-of_z}
-use borrow.Author.Rules.{rules}
 use Rattle.path.proofs.transform.axis_small.Goals as goal
 
 first : (c : goal.After-size-2) → c.size.result ≡ nat_abs c.args.a

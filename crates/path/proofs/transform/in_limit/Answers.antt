@@ -1,5 +1,4 @@
 -- `path::transform::in_limit` meets its contract. Assumes nothing.
-use borrow.Author.Rules.{rules}
 use Rattle.path.proofs.Ands.{and_on, and_off}
 use Rattle.path.proofs.transform.in_limit.Goals as goal
 

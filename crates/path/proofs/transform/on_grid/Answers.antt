@@ -1,6 +1,5 @@
 -- `path::transform::on_grid` meets its contract. Assumes nothing.
 use mathlib.Core.Path.{◌∙◌}
-use borrow.Author.Rules.{rules}
 use mir.Facts.{to_z-of_z}
 use Rattle.path.proofs.Sizes.{size_below, size_above}
 use Rattle.path.proofs.transform.on_grid.Goals as goal
