@@ -1,5 +1,6 @@
 -- What the tests `y >= 0.0` and `y < 256.0` tell of `y as u8`. Each law goes by the cases of a float, and is left with fractions.
-use Rattle.std.proofs.Common.{◌≡◌, ◌+◌, ◌*◌, ◌/◌, ◌^◌, ◌<◌, ◌≤◌, Bool, true, false, ◌&&◌, ◌||◌, T, eqb, ltb, pos, refl, subst, div-lt_iff_lt-mul, le-div_iff_mul-le, arith, lit<, eqb→eq, ltb→lt, lt→ltb, ltb-false}
+use Rattle.std.proofs.Common.{◌≡◌, ◌+◌, ◌*◌, ◌/◌, ◌^◌, ◌<◌, ◌≤◌, Bool, true, false, ◌&&◌, ◌||◌, T, eqb, ltb, pos, refl, subst, div-lt_iff_lt-mul}
+use Rattle.std.proofs.Common.{le-div_iff_mul-le, arith, lit<, eqb→eq, ltb→lt, lt→ltb, ltb-false}
 use borrow.Author.Tests.{eqb-false}
 use lib.Ieee.{Float, nan, inf, fin, up, down, lt, le, eq, to_unsigned}
 use lib.Ieee.Fits.{down_pos}

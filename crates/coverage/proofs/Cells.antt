@@ -144,7 +144,11 @@ module _ (non_zero : Bool) (s : List ℤ) (p : ℕ) (z : Cell) (st : Stands non_
     where
       still : (r : ℕ) (v : ℤ) → r < 4
           → line_from non_zero v numbers r
-          ≡ record { sum = v; count = one_if (inside_by non_zero v) + one_if (inside_by non_zero v) + one_if (inside_by non_zero v) + one_if (inside_by non_zero v) }
+          ≡ record {
+            sum = v;
+            count = one_if (inside_by non_zero v) + one_if (inside_by non_zero v) + one_if (inside_by non_zero v) + one_if
+                (inside_by non_zero v);
+          }
       still r v l =
           ap₂ (λ (a b : ℤ). taken_from non_zero v a b (numbers (r + 8)) (numbers (r + 12))) (h r (omega arith)) (h (r + 4) (omega arith))
           ∙ ap₂ (λ (a b : ℤ). taken_from non_zero v (pos 0) (pos 0) a b) (h (r + 8) (omega arith)) (h (r + 12) (omega arith)) ∙ still_line non_zero v
@@ -206,5 +210,6 @@ module _ (s v : List ℤ) (p : ℕ) (now : v ≡ over (zeros (p * 16)) s) where
             part : take 16 (drop (p * 16) v) ≡ zeros 16
             part =
                 tab_ext (pos 0) (take 16 (drop (p * 16) v)) 16 (λ j. pos 0) (simp (length-take, length-drop) (omega (arith, long)))
-                (λ j h. get_or-take 16 (drop (p * 16) v) j (pos 0) h ∙ get_or-drop (p * 16) v j (pos 0) ∙ numbers_stand j ∙ nothing_begins (eqb-true mark 0 q) j h)
+                (λ j h. get_or-take 16 (drop (p * 16) v) j (pos 0) h ∙ get_or-drop (p * 16) v j (pos 0) ∙ numbers_stand j
+                ∙ nothing_begins (eqb-true mark 0 q) j h)
         by false q = refl

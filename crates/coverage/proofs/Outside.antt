@@ -100,7 +100,8 @@ unfolding coverage
 coverage_none es non_zero x y h =
     total_none 4 (λ r. tally non_zero (λ j. winding es (sample j) (sample (4 * y + r))) x)
     (λ r l. total_none 4 (λ m. one_if (inside_by non_zero (winding es (sample (4 * x + m)) (sample (4 * y + r)))))
-    (λ m k. ap (λ (w : ℤ). one_if (inside_by non_zero w)) (h (4 * x + m) (4 * y + r) (omega arith) (omega arith) (omega arith) (omega arith)) ∙ zero_out non_zero))
+    (λ m k. ap (λ (w : ℤ). one_if (inside_by non_zero w)) (h (4 * x + m) (4 * y + r) (omega arith) (omega arith) (omega arith) (omega arith))
+    ∙ zero_out non_zero))
 
 -- ---- an edge's two ends on an axis: false for x, true for y
 abbrev from_of : Bool → Edge → ℤ

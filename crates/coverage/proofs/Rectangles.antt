@@ -29,14 +29,16 @@ module _ (scissors : List ℕ) (n r y : ℕ) where
 
   pub span_of_lem : r < n → (t : Bool) → in_span rows y ≡ t → cond t columns no_span ≡ span_of scissors n r y
   unfolding span_of
-  span_of_lem h t e = ap (λ (b : Bool). cond b columns no_span) (sym e) ∙ ap (λ (b : Bool). cond b no_span (cond (in_span rows y) columns no_span)) (sym (lt-leb n r h))
+  span_of_lem h t e = ap (λ (b : Bool). cond b columns no_span) (sym e)
+      ∙ ap (λ (b : Bool). cond b no_span (cond (in_span rows y) columns no_span)) (sym (lt-leb n r h))
 
 module _ (scissors : List ℕ) (n x y : ℕ) where
   past_none : (r : ℕ) → n ≤ r → in_span (span_of scissors n r y) x ≡ false
   past_none r h = ap (λ (s : Span). in_span s x) (sym (span_past scissors n r y h)) ∙ not_in_none x
 
   span_is : (r : ℕ) → r < n → in_span (span_of scissors n r y) x ≡ in_scissor scissors r x y
-  span_is r h = ap (λ (s : Span). in_span s x) (sym (span_of_lem scissors n r y h (in_span (rows scissors n r y) y) refl)) ∙ by (in_span (rows scissors n r y) y)
+  span_is r h = ap (λ (s : Span). in_span s x) (sym (span_of_lem scissors n r y h (in_span (rows scissors n r y) y) refl))
+      ∙ by (in_span (rows scissors n r y) y)
     where
       by : (t : Bool) → in_span (cond t (columns scissors n r y) no_span) x ≡ (in_span (columns scissors n r y) x && t)
       by true = sym (and-true (in_span (columns scissors n r y) x))

@@ -108,7 +108,8 @@ module _ (c k y : ℕ) where
           abs_add (sums_at c k y es i) (cond (ltb (i % 4) r) (begun e i) (pos 0)),
           starts_small c k (sample (4 * y + i % 4)) es (i / 4),
           cond_small (ltb (i % 4) r) (begun e i)
-              (cond_small (eqb (start_at c k (sample (4 * y + i % 4)) e) (i / 4)) (weight (sample (4 * y + i % 4)) e) (weight_small (sample (4 * y + i % 4)) e)),
+              (cond_small (eqb (start_at c k (sample (4 * y + i % 4)) e) (i / 4)) (weight (sample (4 * y + i % 4)) e) (weight_small
+              (sample (4 * y + i % 4)) e)),
         )
 
 -- an edge that misses the row of pixels begins nothing in it

@@ -68,7 +68,8 @@ module _ (c k : ℕ) (r : Rise) (up : pos 0 <ℤ r.d) where
           from_le (num 0) ((num j ⊖ num i) ⊗ (num 0 ⊖ var r.step)) (product_le (pos j -ℤ pos i) (pos 0 -ℤ r.step) along (gap r.step (pos 0) s)),
         )))
 
-  middle : (j : ℕ) → j ≤ 3 → (min (column_in c k r 0) (column_in c k r 3) ≤ column_in c k r j) × (column_in c k r j ≤ max (column_in c k r 0) (column_in c k r 3))
+  middle : (j : ℕ) → j ≤ 3 → (min (column_in c k r 0) (column_in c k r 3) ≤ column_in c k r j)
+      × (column_in c k r j ≤ max (column_in c k r 0) (column_in c k r 3))
   middle j h = by (le_z (pos 0) r.step) refl
     where
       rising : (a b d : ℕ) → a ≤ b → b ≤ d → (min a d ≤ b) × (b ≤ max a d)

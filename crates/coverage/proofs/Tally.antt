@@ -52,7 +52,11 @@ step f n m e = sym (ap (running f) e)
 
 core_four : (non_zero : Bool) (z a b c d A B C D : ℤ) → z +ℤ a ≡ A → A +ℤ b ≡ B → B +ℤ c ≡ C → C +ℤ d ≡ D
     → taken_from non_zero z a b c d
-    ≡ record { sum = D; count = 0 + one_if (inside_by non_zero A) + one_if (inside_by non_zero B) + one_if (inside_by non_zero C) + one_if (inside_by non_zero D) }
+    ≡ record {
+      sum = D;
+      count = 0 + one_if (inside_by non_zero A) + one_if (inside_by non_zero B) + one_if (inside_by non_zero C) + one_if
+          (inside_by non_zero D);
+    }
 unfolding taken_of
 core_four non_zero z a b c d A B C D p q r s = rw (p, q, r, s, zero-add)
 

@@ -162,7 +162,8 @@ module _ (n w c y : ℕ) (l : List ℤ) (fit : n * 4 + w * 16 ≤ length l) (i :
 
   marks_more : (d : List ℕ) (f : ℕ → ℤ) → ((j : ℕ) → f j ≡ sums_at c (w * 4) y (edges_of l i ++ (edge_at l i ∷ [])) j)
       → Marked d f → Marked d (sums_at c (w * 4) y (edges_of l (i + 1)))
-  marks_more d f h = mark_same d f (sums_at c (w * 4) y (edges_of l (i + 1))) (λ j m. h j ∙ sym (ap (λ (k : ℕ). sums_at c (w * 4) y (edges_of l k) j) (add-one i)))
+  marks_more d f h = mark_same d f (sums_at c (w * 4) y (edges_of l (i + 1))) (λ j m. h j
+      ∙ sym (ap (λ (k : ℕ). sums_at c (w * 4) y (edges_of l k) j) (add-one i)))
 
   -- it misses the row
   module _ (q : missed (edge_at l i).y0 (edge_at l i).y1 y ≡ true) where

@@ -80,7 +80,8 @@ module _ (c w y : ℕ) (es : List Edge) where
   sums_marked d e = mark_same d (sums_at c (w * 4) y es) (at sums_of) (λ i h. sym (reads i (omega (arith, e))))
 
 -- k of the pixels from x on
-pub window_covers : (x w y : ℕ) (es : List Edge) (non_zero : Bool) → tab w (pixel_of non_zero (sums_of (4 * x) w y es)) ≡ tab w (λ i. coverage es non_zero (x + i) y)
+pub window_covers : (x w y : ℕ) (es : List Edge) (non_zero : Bool)
+    → tab w (pixel_of non_zero (sums_of (4 * x) w y es)) ≡ tab w (λ i. coverage es non_zero (x + i) y)
 unfolding coverage
 window_covers x w y es non_zero =
     tab_same w (pixel_of non_zero (sums_of (4 * x) w y es)) (λ i. total 4 (λ r. tally non_zero (λ j. winding es (sample j) (sample (4 * y + r))) (x + i)))

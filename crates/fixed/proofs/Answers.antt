@@ -34,10 +34,6 @@ pub no_number_lem : (t : Bool) (v : Float) → is_number (real_of t v) ≡ false
 no_number_lem true v e = refl
 no_number_lem false v e = absurd (subst T e tt)
 
-pub no_number_arm : (r : Real) → OneOf (1 ∷ []) (tag_of real-enum.the_type r) → is_number r ≡ false
-no_number_arm (Number v) h = absurd (miss (1 ∷ []) 0 tt h)
-no_number_arm Nan h = refl
-
 -- ---- Offset: 65,536ths, where the float is from 0 to 1
 abbrev pub is_offset : Offset → Bool
 is_offset (offset.At n) = true
@@ -77,8 +73,3 @@ offset_told v n e = (sym (ap offset_of e) ∙ ap offset_of (offset_in_lem v insi
 
 pub no_offset : (v : Float) → is_offset (offset_in v) ≡ false → in_unit v ≡ false
 no_offset v e = sym (offset_within v) ∙ e
-
-pub no_offset_arm : (r : Offset) → OneOf (1 ∷ 2 ∷ []) (tag_of offset-enum.the_type r) → is_offset r ≡ false
-no_offset_arm (offset.At n) h = absurd (miss (1 ∷ 2 ∷ []) 0 tt h)
-no_offset_arm offset.Outside h = refl
-no_offset_arm offset.NotANumber h = refl

@@ -105,4 +105,10 @@ rem r s = record {
 
 -- an unsigned number that was cast to a signed type of w bits, as it stands in a local
 abbrev pub of_nat : (w : Width) (n b : ℕ) → n ≤ b → T (ltb b (2 ^ hbits w)) → Num
-of_nat w n b h t = record { bound = b; read = to_z w n; int = pos n; same = to_z_pos w (lt_of_le_of_lt h (ltb→lt b (2 ^ hbits w) t)); size = record { size = h } }
+of_nat w n b h t = record {
+  bound = b;
+  read = to_z w n;
+  int = pos n;
+  same = to_z_pos w (lt_of_le_of_lt h (ltb→lt b (2 ^ hbits w) t));
+  size = record { size = h };
+}

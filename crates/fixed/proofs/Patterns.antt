@@ -41,7 +41,8 @@ pub bits_more : (n x : ℕ) → size_bits n / exponent_bit ≡ suc x → suc x <
     → HasValue (of_bits binary32 n) (leb sign_bit n) ((8388608 + n % exponent_bit) * 2 ^ x) (2 ^ 149)
 unfolding of_bits
 bits_more n x e h =
-    subst (λ (y : ℕ). HasValue (of_fields binary32 (leb sign_bit n) y (n % exponent_bit)) (leb sign_bit n) ((8388608 + n % exponent_bit) * 2 ^ x) (2 ^ 149)) (sym e)
+    subst (λ (y : ℕ). HasValue (of_fields binary32 (leb sign_bit n) y (n % exponent_bit)) (leb sign_bit n) ((8388608 + n % exponent_bit) * 2 ^ x)
+    (2 ^ 149)) (sym e)
     (more_field (leb sign_bit n) x (n % exponent_bit) h)
 
 pub bits_infinite : (n : ℕ) → size_bits n ≡ infinity_pattern → of_bits binary32 n ≡ inf (leb sign_bit n)
@@ -162,7 +163,8 @@ module _ (n g : ℕ) where
   pub size_pattern : g ≤ 15 → leb (size_bits n) (power_pattern g) ≡ at_most (2 ^ g) v
   size_pattern small = by (leb (size_bits n) (power_pattern g)) refl
     where
-      above : power_pattern g < size_bits n → Dec (size_bits n ≡ infinity_pattern) → (t : Bool) → ltb (size_bits n) infinity_pattern ≡ t → at_most (2 ^ g) v ≡ false
+      above : power_pattern g < size_bits n → Dec (size_bits n ≡ infinity_pattern) → (t : Bool) → ltb (size_bits n) infinity_pattern ≡ t
+          → at_most (2 ^ g) v ≡ false
       above h (yes e) t q = ap (at_most (2 ^ g)) (bits_infinite n e)
       above h (no f) true q = pattern_above h (ltb-true _ _ q)
       above h (no f) false q =

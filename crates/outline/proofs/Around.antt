@@ -58,7 +58,8 @@ over_wider a b p h k = record { side = λ greater axis. beyond_trans greater _ (
 module _ (c : Edge) (p q : Point) where
   grown_end : (greater axis : Bool) → Beyond greater (side_of greater axis (grown_by c (edge p q))) (outer greater (axis_of axis p) (axis_of axis q))
   grown_end greater axis =
-      rw (grown_side greater axis c (edge p q), sym (edge_end greater axis p q)) (outer_second greater (side_of greater axis c) (end_of greater axis (edge p q)))
+      rw (grown_side greater axis c (edge p q), sym (edge_end greater axis p q)) (outer_second greater (side_of greater axis c) (end_of greater axis
+      (edge p q)))
 
   pub grown_from : Over (grown_by c (edge p q)) p
   grown_from = record {

@@ -216,7 +216,8 @@ module _ (m : FixedMatrix) (cs : List ℕ) (c : Edge) where
     edges : Around c es
 
   -- the first segment is a move, which draws nothing
-  kept_first : (byte : ℕ) → byte ≡ 2 → FramedBy m c cs ((0 + coordinates_taken byte) / 2) → Kept (walk_on cs first_walk byte) (segment_edges m cs first_walk byte)
+  kept_first : (byte : ℕ) → byte ≡ 2 → FramedBy m c cs ((0 + coordinates_taken byte) / 2)
+      → Kept (walk_on cs first_walk byte) (segment_edges m cs first_walk byte)
   unfolding points_of pen_after
   kept_first byte e f = subst (λ (k : ℕ). Kept (walk_on cs first_walk k) (segment_edges m cs first_walk k)) (sym e) moved
     where

@@ -1,5 +1,6 @@
 -- t along a row as a line: its quotients by d are quotients of a line in parts of 2^44, as long as (j + 1) d is below that.
-use Rattle.std.proofs.Common.{◌≡◌, ℕ, suc, ◌+◌, ◌-◌, ◌*◌, ◌/◌, ◌%◌, ◌<◌, ◌≤◌, min, [], ◌∷◌, ℤ, pos, negsuc, ◌+ℤ◌, ◌-ℤ◌, ◌*ℤ◌, nat_abs, sym, refl, ap, ◌∙◌, ap₂, le_trans, le_refl, mod-lt, div-lt_iff_lt-mul, mul-le-mul, arith, lit<, ltb→lt}
+use Rattle.std.proofs.Common.{◌≡◌, ℕ, suc, ◌+◌, ◌-◌, ◌*◌, ◌/◌, ◌%◌, ◌<◌, ◌≤◌, min, [], ◌∷◌, ℤ, pos, negsuc, ◌+ℤ◌, ◌-ℤ◌, ◌*ℤ◌, nat_abs, sym, refl, ap, ◌∙◌}
+use Rattle.std.proofs.Common.{ap₂, le_trans, le_refl, mod-lt, div-lt_iff_lt-mul, mul-le-mul, arith, lit<, ltb→lt}
 use native.Mathlib.Nat.{div-eq_of_lt-le, div-div-eq-div-mul, div-add-mod}
 use Rattle.fixed.specs.Floor.{floor_div, floor_mod}
 use Rattle.fixed.proofs.Poly as P
@@ -48,7 +49,8 @@ module _ (n s : ℤ) (d j : ℕ) (some : 0 < d) where
       ).0
 
   by_parts : (u v : ℕ)
-      → floor_div (floor_div n d *ℤ pos line_parts +ℤ pos v +ℤ (floor_div s d *ℤ pos line_parts +ℤ pos u) *ℤ pos j) line_parts ≡ wholes ((u * j + v) / line_parts)
+      → floor_div (floor_div n d *ℤ pos line_parts +ℤ pos v +ℤ (floor_div s d *ℤ pos line_parts +ℤ pos u) *ℤ pos j) line_parts ≡ wholes ((u * j + v) /
+      line_parts)
   by_parts u v =
       let z = u * j + v in
       (floor_parts (floor_div n d *ℤ pos line_parts +ℤ pos v +ℤ (floor_div s d *ℤ pos line_parts +ℤ pos u) *ℤ pos j) (wholes (z / line_parts))

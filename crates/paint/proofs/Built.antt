@@ -1,5 +1,6 @@
 -- Stops written to a run of numbers, one after the other.
-use Rattle.std.proofs.Common.{◌≡◌, ℕ, zero, suc, ◌+◌, ◌-◌, ◌*◌, ◌/◌, ◌%◌, ◌<◌, ◌≤◌, List, [], ◌∷◌, ◌++◌, length, drop, set, sym, refl, ap, ◌∙◌, ap₂, add-one, arith, length-set, get_or-set_same, drop-drop, drop-set-lt}
+use Rattle.std.proofs.Common.{◌≡◌, ℕ, zero, suc, ◌+◌, ◌-◌, ◌*◌, ◌/◌, ◌%◌, ◌<◌, ◌≤◌, List, [], ◌∷◌, ◌++◌, length, drop, set, sym, refl, ap, ◌∙◌, ap₂}
+use Rattle.std.proofs.Common.{add-one, arith, length-set, get_or-set_same, drop-drop, drop-set-lt}
 use Rattle.lists.proofs.Laws.{get_d_set_before}
 use Rattle.color.specs.declared.Pixel.{Pixel}
 use Rattle.paint.specs.Ramps.{stop}

@@ -1,5 +1,6 @@
 -- What is kept of the stops, and the ends of a ramp, stop after stop.
-use Rattle.std.proofs.Common.{◌≡◌, ℕ, zero, suc, ◌+◌, ◌-◌, ◌*◌, Bool, true, false, cond, eqb, List, [], ◌∷◌, ◌++◌, map, get_or, nat_abs, sym, refl, ap, ◌∙◌, append-nil, arith, eq-eqb, ne_eqb}
+use Rattle.std.proofs.Common.{◌≡◌, ℕ, zero, suc, ◌+◌, ◌-◌, ◌*◌, Bool, true, false, cond, eqb, List, [], ◌∷◌, ◌++◌, map, get_or, nat_abs, sym, refl, ap, ◌∙◌}
+use Rattle.std.proofs.Common.{append-nil, arith, eq-eqb, ne_eqb}
 use mathlib.Core.List.{map-append}
 use Rattle.lists.specs.Lists.{upto}
 use Rattle.fixed.specs.Floats.{in_unit, offset_in, scaled}
@@ -40,7 +41,10 @@ grown_one (a ∷ l) s = by (eqb a.offset 0)
 pub kept_turn : (premultiply : Bool) (stops : List ℕ) (i : ℕ) (l : List Stop)
     → grown (with_first (map (prepared premultiply) l)) (map (prepared premultiply) (kept_at stops i))
     ≡ with_first (map (prepared premultiply) (l ++ kept_at stops i))
-kept_turn premultiply stops i l = by (in_unit (offset_at stops i)) (record { offset = nat_abs (scaled ramp_unit (offset_at stops i)); color = color_at stops i })
+kept_turn premultiply stops i l = by (in_unit (offset_at stops i)) (record {
+  offset = nat_abs (scaled ramp_unit (offset_at stops i));
+  color = color_at stops i;
+})
   where
     by : (t : Bool) (s : Stop)
         → grown (with_first (map (prepared premultiply) l)) (map (prepared premultiply) (cond t (s ∷ []) []))

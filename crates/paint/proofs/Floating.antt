@@ -1,9 +1,11 @@
 -- Which floats are numbers, so that they may be read as bits or converted: what is below something, a bit pattern of a moderate size, what is rounded, and a
 -- sum with a finite number.
-use Rattle.std.proofs.Common.{◌≡◌, ℕ, zero, suc, ◌+◌, ◌-◌, ◌*◌, ◌/◌, ◌%◌, ◌^◌, ◌≤◌, Bool, true, false, cond, not, ◌&&◌, T, ltb, ℤ, pos, negsuc, sym, refl, ◌∙◌, subst, arith, ltb→lt}
+use Rattle.std.proofs.Common.{◌≡◌, ℕ, zero, suc, ◌+◌, ◌-◌, ◌*◌, ◌/◌, ◌%◌, ◌^◌, ◌≤◌, Bool, true, false, cond, not, ◌&&◌, T, ltb, ℤ, pos, negsuc, sym, refl}
+use Rattle.std.proofs.Common.{◌∙◌, subst, arith, ltb→lt}
 use mathlib.Core.Bool.{beq}
 use Prim.Native.Nat.{compare}
-use lib.Ieee.{Float, nan, inf, fin, Format, binary32, prec, emax, low, up, down, size, nearest, lt, is_nan, nan_bits, of_bits, odd, units, round, sum, add, of_int}
+use lib.Ieee.{Float, nan, inf, fin, Format, binary32, prec, emax, low, up, down, size, nearest, lt, is_nan, nan_bits, of_bits, odd, units, round, sum, add}
+use lib.Ieee.{of_int}
 use lib.Ieee.Bits.{nan_bits_above, nan_bits_is}
 
 pub below_number : (x y : Float) → lt x y ≡ true → T (not (is_nan x))

@@ -1,6 +1,7 @@
 -- Where the focal point is inside the circle: Q is not negative, its root is not below A's size, so A + q and t are not negative either,
 -- and every number of t fits 64 bits.
-use Rattle.std.proofs.Common.{◌≡◌, ℕ, ◌+◌, ◌-◌, ◌*◌, ◌/◌, ◌<◌, ◌≤◌, true, false, T, List, ℤ, pos, negsuc, ◌+ℤ◌, ◌-ℤ◌, ◌*ℤ◌, nat_abs, ◌<ℤ◌, sym, refl, ap, ◌∙◌, subst, ap₂, add-le-add, mul-le-mul, arith, ltb→lt, lt→ltb, le-ltb, lt-ltb, leb-false, leb-true}
+use Rattle.std.proofs.Common.{◌≡◌, ℕ, ◌+◌, ◌-◌, ◌*◌, ◌/◌, ◌<◌, ◌≤◌, true, false, T, List, ℤ, pos, negsuc, ◌+ℤ◌, ◌-ℤ◌, ◌*ℤ◌, nat_abs, ◌<ℤ◌, sym, refl, ap}
+use Rattle.std.proofs.Common.{◌∙◌, subst, ap₂, add-le-add, mul-le-mul, arith, ltb→lt, lt→ltb, le-ltb, lt-ltb, leb-false, leb-true}
 use lib.IntN.{pos-ne-negsuc}
 use lib.Signed.{le_z, lt_z, non_neg}
 use Rattle.lists.proofs.Laws.{upto_same}
@@ -68,7 +69,8 @@ d_small c a h = inside_small c.r (c.fx -ℤ c.cx) (c.fy -ℤ c.cy) h a
 
 -- ---- A, Q and D of plain numbers
 module _ (r u v f g : ℤ) (h : pos 0 <ℤ inside r f g) where
-  pub q_is : under_root r u v f g ≡ pos (nat_abs (along u v f g) * nat_abs (along u v f g) + nat_abs (inside r f g) * (nat_abs u * nat_abs u + nat_abs v * nat_abs v))
+  pub q_is : under_root r u v f g ≡ pos (nat_abs (along u v f g) * nat_abs (along u v f g) + nat_abs (inside r f g) * (nat_abs u * nat_abs u + nat_abs v *
+      nat_abs v))
   q_is =
       lagrange r u v f g
       ∙ ap₂ ◌+ℤ◌ (square_is (along u v f g)) (ap₂ ◌*ℤ◌ (is_positive h) (ap₂ ◌+ℤ◌ (square_is u) (square_is v)))
@@ -80,7 +82,8 @@ module _ (r u v f g : ℤ) (h : pos 0 <ℤ inside r f g) where
   a_below_root = largest _ _ (rw (ap nat_abs q_is) (omega arith))
 
   -- Q is r² (dx² + dy²) less a square
-  less : nat_abs (under_root r u v f g) + nat_abs (across u v f g) * nat_abs (across u v f g) ≡ nat_abs r * nat_abs r * (nat_abs u * nat_abs u + nat_abs v * nat_abs v)
+  less : nat_abs (under_root r u v f g) + nat_abs (across u v f g) * nat_abs (across u v f g) ≡ nat_abs r * nat_abs r * (nat_abs u * nat_abs u + nat_abs v
+      * nat_abs v)
   less =
       let e = sym q_not_negative ∙ ap₂ ◌-ℤ◌ (ap₂ ◌*ℤ◌ (square_is r) (ap₂ ◌+ℤ◌ (square_is u) (square_is v))) (square_is (across u v f g)) in
       omega (

@@ -1,5 +1,6 @@
 -- A channel between two stops as a line: the quotient by their distance d is a product with its reciprocal, in parts of 2^40.
-use Rattle.std.proofs.Common.{◌≡◌, ℕ, ◌+◌, ◌-◌, ◌*◌, ◌/◌, ◌%◌, ◌<◌, ◌≤◌, T, ℤ, pos, ◌+ℤ◌, ◌-ℤ◌, ◌*ℤ◌, nat_abs, sym, ap, ◌∙◌, subst, mul-le-mul_right, mod-lt, mul-le-mul, lt_of_mul-lt-mul_right, div-le_self, arith, w8, Fits}
+use Rattle.std.proofs.Common.{◌≡◌, ℕ, ◌+◌, ◌-◌, ◌*◌, ◌/◌, ◌%◌, ◌<◌, ◌≤◌, T, ℤ, pos, ◌+ℤ◌, ◌-ℤ◌, ◌*ℤ◌, nat_abs, sym, ap, ◌∙◌, subst, mul-le-mul_right}
+use Rattle.std.proofs.Common.{mod-lt, mul-le-mul, lt_of_mul-lt-mul_right, div-le_self, arith, w8, Fits}
 use native.Mathlib.Nat.{div-eq_of_lt-le, div-add-mod}
 use lib.Signed.{non_neg}
 use Rattle.fixed.specs.Floor.{floor_div}
@@ -53,7 +54,8 @@ below ci cj u v h k l =
     omega (arith, mul-le-mul_right u h', mul-le-mul_right v k')
 
 pub mixed_by_line : (from to k ci cj : ℕ) → from ≤ k → k < to → to ≤ from + 65536 → ci < 256 → cj < 256
-    → floor_div ((pos cj -ℤ pos ci) *ℤ pos (reciprocal_of (to - from)) *ℤ pos (k - from) +ℤ pos ((ci * (to - from) + (to - from) / 2) * reciprocal_of (to - from)))
+    → floor_div ((pos cj -ℤ pos ci) *ℤ pos (reciprocal_of (to - from)) *ℤ pos (k - from) +ℤ pos ((ci * (to - from) + (to - from) / 2) * reciprocal_of
+    (to - from)))
     parts
     ≡ pos (mix_byte from to k ci cj)
 mixed_by_line from to k ci cj h l m p q =

@@ -1,5 +1,6 @@
 -- A search through stops in a run of numbers, from one stop to the next.
-use Rattle.std.proofs.Common.{◌≡◌, ℕ, zero, suc, ◌+◌, ◌-◌, ◌*◌, ◌<◌, ◌≤◌, true, false, T, List, get_or, ℤ, pos, negsuc, nat_abs, sym, ◌∙◌, subst, zero-add, add-one, arith, ltb→lt, le-ltb, lt-ltb}
+use Rattle.std.proofs.Common.{◌≡◌, ℕ, zero, suc, ◌+◌, ◌-◌, ◌*◌, ◌<◌, ◌≤◌, true, false, T, List, get_or, ℤ, pos, negsuc, nat_abs, sym, ◌∙◌, subst, zero-add}
+use Rattle.std.proofs.Common.{add-one, arith, ltb→lt, le-ltb, lt-ltb}
 use lib.Signed.{lt_z, non_neg}
 use Rattle.paint.specs.Gradient.{ramp_unit}
 use Rattle.paint.specs.Ramps.{mix, between, last_color, ramp_at}

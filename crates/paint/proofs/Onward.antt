@@ -1,5 +1,6 @@
 -- From pixel to pixel of a row: what a loop over a radial gradient's pixels keeps, and what it has at each of them.
-use Rattle.std.proofs.Common.{◌≡◌, ℕ, zero, suc, ◌+◌, ◌<◌, ◌≤◌, true, List, [], ◌∷◌, length, set, ℤ, pos, ◌+ℤ◌, ◌*ℤ◌, nat_abs, ◌<ℤ◌, refl, ap, ◌∙◌, arith, length-set, w64, to_z, of_z}
+use Rattle.std.proofs.Common.{◌≡◌, ℕ, zero, suc, ◌+◌, ◌<◌, ◌≤◌, true, List, [], ◌∷◌, length, set, ℤ, pos, ◌+ℤ◌, ◌*ℤ◌, nat_abs, ◌<ℤ◌, refl, ap, ◌∙◌, arith}
+use Rattle.std.proofs.Common.{length-set, w64, to_z, of_z}
 use Rattle.lists.specs.Lists.{tab, over}
 use Rattle.lists.proofs.Laws.{upto_same, tab_turn, tab_all}
 use Rattle.fixed.specs.Floor.{floor_div}

@@ -1,6 +1,7 @@
 -- On and outside its circle a radial gradient's t is at least 65,536: Q - (D - A)² is D times what the squared distance from the centre is above r². Which
 -- pixels of a row may lie inside, and the colour from 65,536 on where the spread pads.
-use Rattle.std.proofs.Common.{◌≡◌, ℕ, suc, ◌+◌, ◌-◌, ◌*◌, ◌/◌, ◌<◌, ◌≤◌, min, Bool, true, false, T, leb, List, ℤ, pos, negsuc, ◌+ℤ◌, ◌-ℤ◌, ◌*ℤ◌, nat_abs, ◌≤ℤ◌, ◌<ℤ◌, sym, refl, ap, ◌∙◌, subst, ap₂, le_refl, mul-le-mul, arith, le→leb, leb-false, leb-true}
+use Rattle.std.proofs.Common.{◌≡◌, ℕ, suc, ◌+◌, ◌-◌, ◌*◌, ◌/◌, ◌<◌, ◌≤◌, min, Bool, true, false, T, leb, List, ℤ, pos, negsuc, ◌+ℤ◌, ◌-ℤ◌, ◌*ℤ◌, nat_abs}
+use Rattle.std.proofs.Common.{◌≤ℤ◌, ◌<ℤ◌, sym, refl, ap, ◌∙◌, subst, ap₂, le_refl, mul-le-mul, arith, le→leb, leb-false, leb-true}
 use lib.Signed.{le_z}
 use Rattle.fixed.specs.Roots.{isqrt}
 use Rattle.fixed.proofs.Roots.{square_mono, largest, next_above}
@@ -77,7 +78,8 @@ module _ (r u v f g : ℤ) (h : pos 0 <ℤ inside r f g) (out : (r *ℤ r) ≤�
   sum_large =
       let A = along u v f g in
       let q = isqrt (nat_abs (under_root r u v f g)) in
-      let l = reached A (nat_abs (inside r f g)) (nat_abs u * nat_abs u + nat_abs v * nat_abs v) q apart (ap (λ (z : ℤ). isqrt (nat_abs z)) (q_is r u v f g h)) in
+      let l = reached A (nat_abs (inside r f g)) (nat_abs u * nat_abs u + nat_abs v * nat_abs v) q apart (ap (λ (z : ℤ). isqrt (nat_abs z)) (q_is r u v f g
+      h)) in
       size_above _ (A +ℤ pos q) (omega (arith, l, (var A ⊕ num q).law))
 
 -- the centre of the pixel (x, y) less that of the circle

@@ -1,5 +1,6 @@
 -- Two stops at both ends of a ramp: a channel by a product of 16 bits, and two pairs of channels as a pixel's number, premultiplied before they are joined.
-use Rattle.std.proofs.Common.{◌≡◌, ℕ, ◌+◌, ◌-◌, ◌*◌, ◌/◌, ◌%◌, ◌<◌, ◌≤◌, min, List, [], ◌∷◌, length, get_or, sym, refl, ap, ◌∙◌, ap₂, le_refl, mul-le-mul, arith}
+use Rattle.std.proofs.Common.{◌≡◌, ℕ, ◌+◌, ◌-◌, ◌*◌, ◌/◌, ◌%◌, ◌<◌, ◌≤◌, min, List, [], ◌∷◌, length, get_or, sym, refl, ap, ◌∙◌, ap₂, le_refl, mul-le-mul}
+use Rattle.std.proofs.Common.{arith}
 use Rattle.lists.specs.Lists.{tab}
 use Rattle.lists.proofs.Laws.{tab_at, tab_length, upto_same}
 use Rattle.color.specs.declared.Pixel.{Pixel}

@@ -1,5 +1,7 @@
 -- Positions on a ramp: the colour at a position is the colour at t.
-use Rattle.std.proofs.Common.{◌≡◌, ℕ, ◌+◌, ◌-◌, ◌*◌, ◌/◌, ◌<◌, ◌≤◌, min, Bool, true, false, cond, ltb, List, [], ◌∷◌, ◌++◌, length, get_or, take, drop, ℤ, pos, negsuc, ◌+ℤ◌, refl, ap, ◌∙◌, div-lt_iff_lt-mul, le-div_iff_mul-le, add-one, arith, take_at, ltb-false, ltb-true, le-ltb, lt-ltb}
+use Rattle.std.proofs.Common.{◌≡◌, ℕ, ◌+◌, ◌-◌, ◌*◌, ◌/◌, ◌<◌, ◌≤◌, min, Bool, true, false, cond, ltb, List, [], ◌∷◌, ◌++◌, length, get_or, take, drop, ℤ}
+use Rattle.std.proofs.Common.{pos, negsuc, ◌+ℤ◌, refl, ap, ◌∙◌, div-lt_iff_lt-mul, le-div_iff_mul-le, add-one, arith, take_at, ltb-false, ltb-true, le-ltb}
+use Rattle.std.proofs.Common.{lt-ltb}
 use lib.Signed.{lt_z}
 use Rattle.lists.specs.Lists.{tab}
 use Rattle.lists.proofs.Laws.{tab_length, tab_at, part_length}
@@ -107,4 +109,5 @@ module _ (n spread : ℕ) (f : ℕ → ℤ) (ks : List ℕ) (e : ks ≡ tab n (�
       → run n (λ i. color_at_position premultiply ramp (get_or ks i 0)) ≡ run n (λ i. gradient_color spread premultiply ramp (f i))
   colored premultiply ramp =
       run_same n _ _
-      (λ i l. ap (color_at_position premultiply ramp) (rw e (tab_at n (λ i. position_of (mapped spread (f i))) i 0 l)) ∙ at_position spread premultiply ramp (f i))
+      (λ i l. ap (color_at_position premultiply ramp) (rw e (tab_at n (λ i. position_of (mapped spread (f i))) i 0 l))
+      ∙ at_position spread premultiply ramp (f i))

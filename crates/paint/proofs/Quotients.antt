@@ -1,6 +1,7 @@
 -- A floor division that is carried from one numerator to the next: its parts are the only ones there are, and quotients add with a carry. The quotients
 -- of a line by a product and a shift.
-use Rattle.std.proofs.Common.{◌≡◌, ℕ, suc, ◌+◌, ◌-◌, ◌*◌, ◌/◌, ◌%◌, ◌<◌, ◌≤◌, Bool, true, false, ltb, ℤ, pos, negsuc, ◌+ℤ◌, ◌-ℤ◌, ◌*ℤ◌, refl, ap, ◌∙◌, ap₂, mul-le-mul_right, mod-lt, mul_assoc, lt_of_mul-lt-mul_right, div-add-mod', arith, ltb-false, ltb-true}
+use Rattle.std.proofs.Common.{◌≡◌, ℕ, suc, ◌+◌, ◌-◌, ◌*◌, ◌/◌, ◌%◌, ◌<◌, ◌≤◌, Bool, true, false, ltb, ℤ, pos, negsuc, ◌+ℤ◌, ◌-ℤ◌, ◌*ℤ◌, refl, ap, ◌∙◌, ap₂}
+use Rattle.std.proofs.Common.{mul-le-mul_right, mod-lt, mul_assoc, lt_of_mul-lt-mul_right, div-add-mod', arith, ltb-false, ltb-true}
 use native.Mathlib.Nat.{mul-div-mul_left, div-eq_of_lt-le, div-add-mod}
 use Rattle.fixed.specs.Floor.{floor_div, floor_mod}
 use Rattle.fixed.proofs.Poly as P

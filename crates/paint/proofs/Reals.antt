@@ -44,7 +44,8 @@ pub less_read : (s : List ℕ) (i j : ℕ) → less_real (real_at s i) (real_at 
 less_read s i j = by (nan_bits binary32 (u32_at s i)) (nan_bits binary32 (u32_at s j)) refl refl
   where
     by : (a b : Bool) → nan_bits binary32 (u32_at s i) ≡ a → nan_bits binary32 (u32_at s j) ≡ b
-        → less_real (real_of (nan_bits binary32 (u32_at s i)) (f32_at s i)) (real_of (nan_bits binary32 (u32_at s j)) (f32_at s j)) ≡ lt (f32_at s i) (f32_at s j)
+        → less_real (real_of (nan_bits binary32 (u32_at s i)) (f32_at s i)) (real_of (nan_bits binary32 (u32_at s j)) (f32_at s j)) ≡ lt (f32_at s i)
+        (f32_at s j)
     by true b p q = rw (p, nan_only (f32_at s i) (sym (nan_bits_is binary32 (u32_at s i)) ∙ p)) (sym (nan_less (f32_at s j)))
     by false true p q = rw (p, q, nan_only (f32_at s j) (sym (nan_bits_is binary32 (u32_at s j)) ∙ q)) (sym (less_nan (f32_at s i)))
     by false false p q = rw (p, q)

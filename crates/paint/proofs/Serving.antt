@@ -1,5 +1,6 @@
 -- Segments of a ramp: each has the ramp's colours at the positions that it serves.
-use Rattle.std.proofs.Common.{◌≡◌, ℕ, zero, suc, ◌+◌, ◌-◌, ◌*◌, ◌/◌, ◌%◌, ◌<◌, ◌≤◌, min, Bool, true, false, ltb, List, get_or, pos, sym, refl, ◌∙◌, ap₂, arith, ltb-false, ltb-true, le-ltb, lt-ltb}
+use Rattle.std.proofs.Common.{◌≡◌, ℕ, zero, suc, ◌+◌, ◌-◌, ◌*◌, ◌/◌, ◌%◌, ◌<◌, ◌≤◌, min, Bool, true, false, ltb, List, get_or, pos, sym, refl, ◌∙◌, ap₂}
+use Rattle.std.proofs.Common.{arith, ltb-false, ltb-true, le-ltb, lt-ltb}
 use Rattle.color.specs.declared.Pixel.{Pixel}
 use Rattle.paint.specs.Gradient.{ramp_unit}
 use Rattle.paint.specs.Ramps.{mix_byte, mix_pixel, between, ramp_at}

@@ -1,5 +1,6 @@
 -- Signed numbers of 64 bits of which a size is known: parameters, fields and calls' results.
-use Rattle.std.proofs.Common.{◌≡◌, ℕ, suc, ◌+◌, ◌/◌, ◌%◌, ◌^◌, ◌<◌, ◌≤◌, true, T, ltb, ℤ, pos, negsuc, ◌-ℤ◌, nat_abs, sym, ap, ◌∙◌, subst, arith, w64, to_z, of_z}
+use Rattle.std.proofs.Common.{◌≡◌, ℕ, suc, ◌+◌, ◌/◌, ◌%◌, ◌^◌, ◌<◌, ◌≤◌, true, T, ltb, ℤ, pos, negsuc, ◌-ℤ◌, nat_abs, sym, ap, ◌∙◌, subst, arith, w64, to_z}
+use Rattle.std.proofs.Common.{of_z}
 use lib.Signed.{lt_z, lt_z_yes, quot_z, rem_z}
 use Rattle.fixed.proofs.Means.{Num}
 use Rattle.fixed.proofs.Within.{Within, abs_neg}

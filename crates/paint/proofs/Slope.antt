@@ -1,5 +1,6 @@
 -- dx² + dy² is not negative, and 0 only where the points coincide. Where their x is the same, t is the same along a row.
-use Rattle.std.proofs.Common.{◌≡◌, ℕ, zero, suc, ◌+◌, ◌*◌, ◌<◌, cond, eqb, ℤ, pos, negsuc, ◌+ℤ◌, ◌-ℤ◌, ◌*ℤ◌, nat_abs, ◌<ℤ◌, sym, refl, ap, ◌∙◌, ap₂, arith, lt→ltb}
+use Rattle.std.proofs.Common.{◌≡◌, ℕ, zero, suc, ◌+◌, ◌*◌, ◌<◌, cond, eqb, ℤ, pos, negsuc, ◌+ℤ◌, ◌-ℤ◌, ◌*ℤ◌, nat_abs, ◌<ℤ◌, sym, refl, ap, ◌∙◌, ap₂, arith}
+use Rattle.std.proofs.Common.{lt→ltb}
 use Rattle.fixed.specs.Floor.{floor_div}
 use Rattle.fixed.proofs.Poly as P
 use Rattle.fixed.proofs.Poly.{◌⊕◌, ◌⊖◌, ◌⊗◌}

@@ -1,5 +1,6 @@
 -- What the stops of a ramp keep to, and a run that holds one: the first stop lies at 0, none above 65,536, and colours are bytes.
-use Rattle.std.proofs.Common.{◌≡◌, ℕ, zero, suc, ◌+◌, ◌-◌, ◌*◌, ◌<◌, ◌≤◌, Bool, true, false, cond, eqb, List, [], ◌∷◌, ◌++◌, map, length, get_or, nat_abs, sym, refl, subst, ⊎_elim, eq-or-lt_of_le, arith, eqb-true}
+use Rattle.std.proofs.Common.{◌≡◌, ℕ, zero, suc, ◌+◌, ◌-◌, ◌*◌, ◌<◌, ◌≤◌, Bool, true, false, cond, eqb, List, [], ◌∷◌, ◌++◌, map, length, get_or, nat_abs}
+use Rattle.std.proofs.Common.{sym, refl, subst, ⊎_elim, eq-or-lt_of_le, arith, eqb-true}
 use Rattle.paint.specs.Gradient.{ramp_unit}
 use Rattle.paint.specs.Ramps.{offset_at, color_at, falls_in, kept_at, kept_stops, black, white, stop}
 use Rattle.paint.specs.Ramps.{with_end, with_ends, prepared, ramp_of}

@@ -1,6 +1,7 @@
 -- No channel of a paint is above its alpha, whatever the draw's bytes: a premultiplied byte is not, and between two stops a channel and its alpha are mixed
 -- in the same way.
-use Rattle.std.proofs.Common.{◌≡◌, ℕ, zero, suc, ◌+◌, ◌-◌, ◌*◌, ◌/◌, ◌<◌, ◌≤◌, Bool, true, false, cond, T, ltb, List, [], ◌∷◌, ℤ, pos, nat_abs, sym, refl, subst, mul-le-mul_right, arith, ltb→lt, ltb-false}
+use Rattle.std.proofs.Common.{◌≡◌, ℕ, zero, suc, ◌+◌, ◌-◌, ◌*◌, ◌/◌, ◌<◌, ◌≤◌, Bool, true, false, cond, T, ltb, List, [], ◌∷◌, ℤ, pos, nat_abs, sym, refl}
+use Rattle.std.proofs.Common.{subst, mul-le-mul_right, arith, ltb→lt, ltb-false}
 use native.Mathlib.Nat.{div-zero}
 use lib.Ieee.Nearest.{div_mono}
 use lib.Signed.{lt_z}

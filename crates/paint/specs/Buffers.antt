@@ -1,6 +1,7 @@
 -- How the code holds a gradient: what a draw is known to keep to, the ramp in a lent run of numbers, t along a row. Only the proofs need it: a
 -- reviewer of the paper need not read it.
-use Rattle.std.specs.Prelude.{◌≡◌, ℕ, zero, suc, ◌+◌, ◌*◌, ◌/◌, ◌%◌, ◌<◌, ◌≤◌, Bool, false, cond, List, [], ◌∷◌, ◌++◌, length, drop, ℤ, pos, ◌+ℤ◌, ◌-ℤ◌, ◌*ℤ◌, ◌≤ℤ◌, ◌<ℤ◌, ◌==◌, int_lt, slice_index, slice_index_or, unsigned_abs}
+use Rattle.std.specs.Prelude.{◌≡◌, ℕ, zero, suc, ◌+◌, ◌*◌, ◌/◌, ◌%◌, ◌<◌, ◌≤◌, Bool, false, cond, List, [], ◌∷◌, ◌++◌, length, drop, ℤ, pos, ◌+ℤ◌, ◌-ℤ◌}
+use Rattle.std.specs.Prelude.{◌*ℤ◌, ◌≤ℤ◌, ◌<ℤ◌, ◌==◌, int_lt, slice_index, slice_index_or, unsigned_abs}
 use Rattle.std.specs.Float.Ieee.{lt}
 use Rattle.fixed.specs.declared.Real.{Real}
 use Rattle.fixed.specs.declared.Real.TheVariants.{Number, Nan}

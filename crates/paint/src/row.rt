@@ -110,7 +110,8 @@ fn cut_row(
     to: usize,
     row: &mut [u8],
 )
-    requires held_gradient { HeldGradient (Radial g) ramp.now × Sloped (Radial g) × Pads g.spread × RampWithin g.circle x y n (record { from = from; to = to }) }
+    requires held_gradient { HeldGradient (Radial g) ramp.now × Sloped (Radial g) × Pads g.spread
+        × RampWithin g.circle x y n (record { from = from; to = to }) }
     requires n_bound { (x + n ≤ 1024) × (y ≤ 1024) × (length row.old ≡ n * 4) }
     ensures { row.new ≡ run n (λ i. radial_at g (stops_in ramp.now g.count) (x + i) y) }
 {

@@ -74,7 +74,8 @@ fn line_in(
     right: &mut [u16],
     row: &mut [u8],
 )
-    requires first_bound { (unsigned_abs first ≤ 2305843009213693952) × (unsigned_abs step ≤ 18014398509481984) × (length left.old ≡ 256) × (length right.old ≡ 256) }
+    requires first_bound { (unsigned_abs first ≤ 2305843009213693952) × (unsigned_abs step ≤ 18014398509481984) × (length left.old ≡ 256)
+        × (length right.old ≡ 256) }
     requires row_len { (length row.old ≡ length row.old / 4 * 4) × (length row.old / 4 ≤ 256) }
     ensures { row.new
         ≡ run (length row.old / 4) (λ i. finished premultiply (two_stops c d (position_of (floor_div (first +ℤ step *ℤ pos i) line_parts)))) }

@@ -18,14 +18,16 @@ use Rattle.paint.specs.Radial.{fixed_circle, focal_allowed}
 use Rattle.path.specs.Matrices.{linear_limit, translation_limit, matrix_in_limits, fixed_matrix}
 use Rattle.path.specs.Segments.{fault_to}
 use Rattle.scene.specs.Layout.{block_bytes, payload_bytes, draw_limit, no_draw, flags_at, flags_limit, segment_limit, scissor_limit}
-use Rattle.scene.specs.Layout.{matrix_at, translation_at, color_at, linear_points_at, scissors_at, scissor_bytes, stops_at, stop_bytes, stop_floats, segments_at}
+use Rattle.scene.specs.Layout.{matrix_at, translation_at, color_at, linear_points_at, scissors_at, scissor_bytes, stops_at, stop_bytes, stop_floats}
+use Rattle.scene.specs.Layout.{segments_at}
 use Rattle.scene.specs.Layout.{radial_at, radial_floats}
 use Rattle.scene.specs.Blocks.{block_number, block_right_from, block_of, draw_of, file_offset}
 use Rattle.scene.specs.Header.{width_of, height_of, count_of, edition_of}
 use Rattle.scene.specs.Fields.{blend_of, paint_type_of, spread_of, segment_count, scissor_count, stop_count, matrix_of, segments_of, coordinates_of}
 use Rattle.scene.specs.Fields.{flags_of, uses_mask, is_radial, radial_of, first_stop_at}
 use Rattle.scene.specs.Faults.{fine, must, or_else, first_of, unused, limited, numbers, accepted, fault, demand, or_fault, first_fault}
-use Rattle.scene.specs.Rules.{linear_point_limit, is_paint, is_spread, flags_allowed, head_rules, stop_limit_of, count_rules, float_rules, flat_rule, path_rules}
+use Rattle.scene.specs.Rules.{linear_point_limit, is_paint, is_spread, flags_allowed, head_rules, stop_limit_of, count_rules, float_rules, flat_rule}
+use Rattle.scene.specs.Rules.{path_rules}
 use Rattle.scene.specs.Rules.{radial_limit, focal_rule, circle_rules, stop_rules, list_rules, transform_rules, rest_rules}
 use Rattle.scene.specs.Rules.{draw_rules, is_side, header_rules, located, in_header, in_draw}
 use Rattle.scene.specs.Rules.{check_faults, draw_fault_from, draw_fault, scene_fault_from, scene_fault}

@@ -51,7 +51,8 @@ pub checked_of : (edition : ℕ) (d : List ℕ) (m : FixedMatrix) (ss cs : List 
     → r ≡ checked_to (fixed_matrix (matrix_of d)) (segments_of d) (coordinates_of edition d) (segment_count d)
 checked_of edition d m ss cs n r a b c e f = cc
 
-module _ (edition : ℕ) (d : List ℕ) (r : Checked) (e : r ≡ checked_to (fixed_matrix (matrix_of d)) (segments_of d) (coordinates_of edition d) (segment_count d)) where
+module _ (edition : ℕ) (d : List ℕ) (r : Checked) (e : r ≡ checked_to (fixed_matrix (matrix_of d)) (segments_of d) (coordinates_of edition d)
+    (segment_count d)) where
   abbrev here : PathFault
   here = fault_to (fixed_matrix (matrix_of d)) (segments_of d) (coordinates_of edition d) (segment_count d)
 

@@ -51,7 +51,8 @@ draw_byte : (s : List ℕ) (i j k : ℕ) → block_bytes * block_of (i + 1) ≤ 
     → get_or (draw_of s i) (payload_bytes * j + k) 0 ≡ get_or s (block_bytes * (block_of i + j) + k) 0
 unfolding draw_of
 draw_byte s i j k h l g =
-    joined_at draw_blocks f long j k l g ∙ get_or-take payload_bytes (drop (block_bytes * (block_of i + j)) s) k 0 g ∙ get_or-drop (block_bytes * (block_of i + j)) s k 0
+    joined_at draw_blocks f long j k l g ∙ get_or-take payload_bytes (drop (block_bytes * (block_of i + j)) s) k 0 g
+    ∙ get_or-drop (block_bytes * (block_of i + j)) s k 0
   where
     f : ℕ → List ℕ
     f j = take payload_bytes (drop (block_bytes * (block_of i + j)) s)

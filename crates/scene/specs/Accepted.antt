@@ -7,7 +7,8 @@ use Rattle.blend.specs.PorterDuff.{is_mode}
 use Rattle.paint.specs.Radial.{fixed_circle, focal_allowed}
 use Rattle.path.specs.Matrices.{matrix_in_limits, fixed_matrix}
 use Rattle.path.specs.Segments.{fault_to}
-use Rattle.scene.specs.Layout.{block_bytes, side_limit, draw_limit, segment_limit, scissor_limit, color_at, linear_points_at, radial_at, radial_floats, stop_floats}
+use Rattle.scene.specs.Layout.{block_bytes, side_limit, draw_limit, segment_limit, scissor_limit, color_at, linear_points_at, radial_at, radial_floats}
+use Rattle.scene.specs.Layout.{stop_floats}
 use Rattle.scene.specs.Blocks.{block_of, draw_of}
 use Rattle.scene.specs.Header.{width_of, height_of, count_of, edition_of}
 use Rattle.scene.specs.Fields.{blend_of, paint_type_of, spread_of, segment_count, scissor_count, stop_count, matrix_of, segments_of, coordinates_of}

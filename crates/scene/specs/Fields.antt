@@ -11,7 +11,8 @@ use Rattle.paint.specs.declared.Paint.TheVariants.{Solid, Linear, Radial}
 use Rattle.paint.specs.Paints.{paint_linear, paint_radial}
 use Rattle.transform.specs.declared.ColorTransform.{ColorTransform}
 use Rattle.scene.specs.Layout.{flags_at, blend_at, paint_type_at, spread_at, segment_count_at, scissor_count_at, stop_count_at, matrix_at}
-use Rattle.scene.specs.Layout.{translation_at, color_at, linear_points_at, scissors_at, stops_at, radial_at, segments_at, segments_end, transform_at, coordinates_at}
+use Rattle.scene.specs.Layout.{translation_at, color_at, linear_points_at, scissors_at, stops_at, radial_at, segments_at, segments_end, transform_at}
+use Rattle.scene.specs.Layout.{coordinates_at}
 use Rattle.scene.specs.Layout.{draw_bytes, stop_bytes}
 
 abbrev pub flags_of : List ℕ → ℕ
@@ -68,7 +69,12 @@ abbrev pub color_of : List ℕ → Color
 color_of d = record { r = f32_at d color_at; g = f32_at d (color_at + 4); b = f32_at d (color_at + 8); a = f32_at d (color_at + 12) }
 
 abbrev pub linear_of : List ℕ → LinearPoints
-linear_of d = record { x0 = f32_at d linear_points_at; y0 = f32_at d (linear_points_at + 4); x1 = f32_at d (linear_points_at + 8); y1 = f32_at d (linear_points_at + 12) }
+linear_of d = record {
+  x0 = f32_at d linear_points_at;
+  y0 = f32_at d (linear_points_at + 4);
+  x1 = f32_at d (linear_points_at + 8);
+  y1 = f32_at d (linear_points_at + 12);
+}
 
 abbrev pub is_radial : List ℕ → Bool
 is_radial d = eqb (paint_type_of d) paint_radial

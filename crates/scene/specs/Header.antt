@@ -18,4 +18,9 @@ edition_of s = u16_at s edition_at
 
 -- the background as given, not premultiplied
 abbrev pub background_of : List ℕ → Pixel
-background_of s = record { r = get_or s background_at 0; g = get_or s (background_at + 1) 0; b = get_or s (background_at + 2) 0; a = get_or s (background_at + 3) 0 }
+background_of s = record {
+  r = get_or s background_at 0;
+  g = get_or s (background_at + 1) 0;
+  b = get_or s (background_at + 2) 0;
+  a = get_or s (background_at + 3) 0;
+}

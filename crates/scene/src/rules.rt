@@ -7,7 +7,8 @@ ghost use Rattle.scene.specs.Fields.{blend_of, paint_type_of, spread_of, segment
 ghost use Rattle.scene.specs.Faults as Faults;
 ghost use Rattle.scene.specs.Faults.{or_else};
 ghost use Rattle.scene.specs.Rules.{is_gradient, is_paint, is_spread, flags_allowed, head_rules, stop_limit_of, count_rules, float_rules};
-ghost use Rattle.scene.specs.Rules.{radial_limit, focal_rule, circle_rules, stop_rules, list_rules, transform_rules, flat_rule, path_rules, rest_rules, draw_rules};
+ghost use Rattle.scene.specs.Rules.{radial_limit, focal_rule, circle_rules, stop_rules, list_rules, transform_rules, flat_rule, path_rules, rest_rules};
+ghost use Rattle.scene.specs.Rules.{draw_rules};
 
 use crate::FieldFault;
 use crate::faults::{limited, must, numbers, or_else, unused};

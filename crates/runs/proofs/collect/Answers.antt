@@ -46,4 +46,8 @@ pub returns : goal.returns
 returns c =
     let row = c.args.row.now in
     let e : c.loop-i.i ≡ length row = omega arith in
-    record { runs = (subst (λ (w : ℕ). Runs c.loop-i.runs c.loop-i.n w) e c.loop-i.invariant.2, c.loop-i.invariant.1); result_after = c.loop-i.invariant.3 ∙ sym (tab_ext 0 row c.loop-i.i (λ (j : ℕ). get_or row j 0) (sym e) (λ j l. refl)) }
+    record {
+      runs = (subst (λ (w : ℕ). Runs c.loop-i.runs c.loop-i.n w) e c.loop-i.invariant.2, c.loop-i.invariant.1);
+      result_after = c.loop-i.invariant.3
+          ∙ sym (tab_ext 0 row c.loop-i.i (λ (j : ℕ). get_or row j 0) (sym e) (λ j l. refl));
+    }

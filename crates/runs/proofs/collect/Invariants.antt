@@ -8,7 +8,8 @@ use Rattle.runs.proofs.collect.Given as goal
 
 -- `runs::collect` meets its contract.
 abbrev pub invariant-loop-i : goal.invariant-loop-i
-invariant-loop-i l = (l.i ≤ length l.row) × (length l.runs ≡ length l.initial.runs) × Runs l.runs l.n l.i × (expand l.runs l.n ≡ tab l.i (λ j. get_or l.row j 0))
+invariant-loop-i l = (l.i ≤ length l.row) × (length l.runs ≡ length l.initial.runs) × Runs l.runs l.n l.i
+    × (expand l.runs l.n ≡ tab l.i (λ j. get_or l.row j 0))
 
 abbrev pub decreases-loop-i : goal.decreases-loop-i
 decreases-loop-i l = length l.row - l.i

@@ -46,7 +46,8 @@ loop-j-preserved c =
       sym (ap (start_of runs) one),
       ap length laid
           ∙ over_length (expand runs (j + 1)) d
-          (subst (λ (m : ℕ). m ≤ length d) (sym (first_length runs c.args.n (length d) r (j + 1) next ∙ ap (start_of runs) one)) (runs_within c.args.runs.now c.args.n (length c.args.row.now) c.requires.0 j l)),
+          (subst (λ (m : ℕ). m ≤ length d) (sym (first_length runs c.args.n (length d) r (j + 1) next
+          ∙ ap (start_of runs) one)) (runs_within c.args.runs.now c.args.n (length c.args.row.now) c.requires.0 j l)),
       laid,
     )
   where

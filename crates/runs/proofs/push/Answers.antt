@@ -80,4 +80,7 @@ returns c =
     let l : a.p < a.e = omega (arith, c.requires.p_le_e, c.if-p-e.false) in
     let m : a.n < length a.runs.now = omega (arith, runs_few c.args.runs.now c.args.n c.args.p c.requires.runs, c.requires.p_le_e) in
     let g : a.k < 32 = omega (arith, c.requires.p_le_e) in
-    record { runs_2 = (push_runs a.runs.now a.n a.p c.requires.runs a.e a.k g l m, length-set a.runs.now a.n (a.e * 32 + a.k)); result_after = push_expand a.runs.now a.n a.p c.requires.runs a.e a.k g m }
+    record {
+      runs_2 = (push_runs a.runs.now a.n a.p c.requires.runs a.e a.k g l m, length-set a.runs.now a.n (a.e * 32 + a.k));
+      result_after = push_expand a.runs.now a.n a.p c.requires.runs a.e a.k g m;
+    }

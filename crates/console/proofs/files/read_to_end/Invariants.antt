@@ -3,8 +3,6 @@ use Prim.Native.Nat.{◌-◌, ◌≤◌}
 use lib.ListN.{length}
 use borrow.Author.Rules.{rules}
 use Rattle.console.proofs.files.unreadable.Reads as unreadable-reads
-use Rattle.io.proofs.count.Reads as count-reads
-use Rattle.libc.proofs.read.Reads as read-reads
 use Rattle.console.proofs.files.read_to_end.Given as goal
 
 abbrev pub invariant-loop-n : goal.invariant-loop-n

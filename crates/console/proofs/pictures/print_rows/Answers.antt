@@ -1,31 +1,22 @@
 use mathlib.Core.Path.{◌≡◌}
-use Prim.Native.Nat.{◌+◌, ◌-◌, ◌*◌, ◌≤◌}
+use Prim.Native.Nat.{ℕ, ◌+◌, ◌-◌, ◌*◌, ◌≤◌, ◌<◌}
 use native.Mathlib.Omega.{arith}
 use lib.ListN.{length}
 use Rattle.lists.proofs.Laws.{run_fits}
-use borrow.Author.Rules.{rules}
-use Rattle.console.proofs.pictures.print_row.Reads as print-row-reads
 use Rattle.console.proofs.pictures.print_rows.Goals as goal
-use Rattle.console.proofs.pictures.print_rows.Tie as tie
-use Rattle.console.proofs.pictures.print_rows.Lts as lts
-use Rattle.console.proofs.pictures.print_rows.Reads as reads
 
--- the row below y lies in the surface
-row_fits : (c : lts.In-loop tie.the-claims reads.Pre reads.Post goal.the-invariant-loop-y goal.the-decreases-loop-y tie.handed_clauses)
-    → (c.loop-y.y - 1) * (c.args.width * 4) + c.args.width * 4
-    ≤ length c.args.surface.now
-row_fits c =
-    let a = c.args in
-    omega (arith, run_fits (a.width * 4) (c.loop-y.y - 1) a.height (omega arith))
+-- the row below y lies in a surface of n bytes
+row_fits : (y width height n : ℕ) → 0 < y → y ≤ height → n ≡ height * (width * 4) → (y - 1) * (width * 4) + width * 4 ≤ n
+row_fits y width height n some within e = omega (arith, run_fits (width * 4) (y - 1) height (omega arith))
 
 pub overflow_mul-at-in-loop-y : goal.overflow_mul-at-in-loop-y
 overflow_mul-at-in-loop-y c =
-    omega (arith, row_fits c.before)
+    omega (arith, row_fits c.loop-y.y c.args.width c.args.height (length c.args.surface.now) (omega arith) (omega arith) (omega arith))
 
 pub overflow_add-e : goal.overflow_add-e
 overflow_add-e c =
-    omega (arith, row_fits c.before)
+    omega (arith, row_fits c.loop-y.y c.args.width c.args.height (length c.args.surface.now) (omega arith) (omega arith) (omega arith))
 
 pub slice_bounds-print_row-end : goal.slice_bounds-print_row-end
 slice_bounds-print_row-end c =
-    row_fits c.before
+    row_fits c.loop-y.y c.args.width c.args.height (length c.args.surface.now) (omega arith) (omega arith) (omega arith)

@@ -36,7 +36,8 @@ up : (c : goal.Then-passes)
 up c =
     let e = c.args.e in
     let p = c.requires.0 in
-    rw (clean e.y0 p.y0, clean e.y1 p.y1, first c.before.before.before.before.before.before, last c.before.before.before.before.before.before) at c.passes.ensures
+    rw (clean e.y0 p.y0, clean e.y1 p.y1, first c.before.before.before.before.before.before, last c.before.before.before.before.before.before) at
+    c.passes.ensures
 
 down : (c : goal.Then-passes-2)
     → let a = c.args in
@@ -44,7 +45,12 @@ down : (c : goal.Then-passes-2)
 down c =
     let e = c.args.e in
     let p = c.requires.0 in
-    rw (clean e.y0 p.y0, clean e.y1 p.y1, first c.before.before.before.before.before.before.before.before, last c.before.before.before.before.before.before.before.before) at c.passes-2.ensures
+    rw (
+      clean e.y0 p.y0,
+      clean e.y1 p.y1,
+      first c.before.before.before.before.before.before.before.before,
+      last c.before.before.before.before.before.before.before.before,
+    ) at c.passes-2.ensures
 
 pub rise-requires : goal.rise-requires
 rise-requires c =
@@ -69,7 +75,8 @@ returns-then-passes c =
     let e = a.e in
     let p = c.requires.0 in
     let slope : rise.result ≡ rise_of e (sample (4 * a.y + 0)) =
-    rw (clean e.x0 p.x0, clean e.y0 p.y0, clean e.x1 p.x1, clean e.y1 p.y1, first c.before.before.before.before.before.before.before.before.before) at rise.ensures.value in
+    rw (clean e.x0 p.x0, clean e.y0 p.y0, clean e.x1 p.x1, clean e.y1 p.y1, first c.before.before.before.before.before.before.before.before.before) at
+    rise.ensures.value in
     begins_crosses a.c a.k a.y e columns.result 1 c.crossed.result c.crossed.ensures
     (passes_up a.c a.k a.y e columns.result (sym (up c.before.before.before) ∙ c.if-passes.true)
     (columns.ensures ∙ ap (columns_of a.c a.k) slope))
@@ -97,7 +104,13 @@ returns-then-passes-2 c =
     let e = a.e in
     let p = c.requires.0 in
     let slope : rise.result ≡ rise_of (turned e) (sample (4 * a.y + 0)) =
-    rw (clean e.x0 p.x0, clean e.y0 p.y0, clean e.x1 p.x1, clean e.y1 p.y1, first c.before.before.before.before.before.before.before.before.before.before.before) at rise.ensures.value in
+    rw (
+      clean e.x0 p.x0,
+      clean e.y0 p.y0,
+      clean e.x1 p.x1,
+      clean e.y1 p.y1,
+      first c.before.before.before.before.before.before.before.before.before.before.before,
+    ) at rise.ensures.value in
     begins_crosses a.c a.k a.y e columns.result 2 c.crossed-then-passes-2.result c.crossed-then-passes-2.ensures
     (passes_down a.c a.k a.y e columns.result (sym (down c.before.before.before) ∙ c.if-passes-2.true)
     (columns.ensures ∙ ap (columns_of a.c a.k) slope))

@@ -70,12 +70,18 @@ behind c i g = level_behind c.args.lo c.args.hi c.args.w c.requires.0 i (subst (
 
 -- the runs after each step
 one : (c : goal.After-push_each-arg-1) → expand c.push-n.new.runs c.push-n.result ≡ tab (a c.before.before.before.before) (level c.before.before.before.before)
-one c = grown (level c.before.before.before.before) _ _ 0 (a c.before.before.before.before) 0 refl c.push-n.ensures.result_after (omega arith) (before c.before.before.before.before)
+one c = grown (level c.before.before.before.before) _ _ 0 (a c.before.before.before.before) 0 refl c.push-n.ensures.result_after (omega arith)
+    (before c.before.before.before.before)
 
 three : (c : goal.After-push_each-arg-2-1)
-    → expand c.push-q.new.runs c.push-q.result ≡ tab (e c.before.before.before.before.before.before.before.before.before.before.before.before) (level c.before.before.before.before.before.before.before.before.before.before.before.before)
+    → expand c.push-q.new.runs c.push-q.result ≡ tab (e c.before.before.before.before.before.before.before.before.before.before.before.before)
+    (level c.before.before.before.before.before.before.before.before.before.before.before.before)
 three c =
-    grown (level c.before.before.before.before.before.before.before.before.before.before.before.before) _ _ (b c.before.before.before.before.before.before.before.before.before.before.before.before) (e c.before.before.before.before.before.before.before.before.before.before.before.before) 16 c.push_each-m.ensures.result_after c.push-q.ensures.result_after (order c.before.before.before.before.before.before.before.before.before.before.before.before).1 (between c.before.before.before.before.before.before.before.before.before.before.before.before)
+    grown (level c.before.before.before.before.before.before.before.before.before.before.before.before) _ _
+    (b c.before.before.before.before.before.before.before.before.before.before.before.before)
+    (e c.before.before.before.before.before.before.before.before.before.before.before.before) 16 c.push_each-m.ensures.result_after
+    c.push-q.ensures.result_after (order c.before.before.before.before.before.before.before.before.before.before.before.before).1
+    (between c.before.before.before.before.before.before.before.before.before.before.before.before)
 
 -- and how long they are
 long-each : (c : goal.After-push-arg-2-1) → length c.push_each-m.new.runs ≡ length c.args.runs.now
@@ -112,7 +118,15 @@ pub push-n-requires : goal.push-n-requires
 push-n-requires c =
     let o = order c in
     let p = c.requires in
-    record { runs = record { rises = λ j h. absurd (omega (arith, h)); last = refl }; p_le_e = (omega arith, omega (arith, o.0, o.1, o.2, o.3, p.2), omega (arith, o.0, o.1, o.2, o.3, p.1), omega arith) }
+    record {
+      runs = record { rises = λ j h. absurd (omega (arith, h)); last = refl };
+      p_le_e = (
+        omega arith,
+        omega (arith, o.0, o.1, o.2, o.3, p.2),
+        omega (arith, o.0, o.1, o.2, o.3, p.1),
+        omega arith,
+      );
+    }
 
 pub push_each-m-requires : goal.push_each-m-requires
 push_each-m-requires c =
@@ -145,4 +159,14 @@ shape_of-runs c =
 
 pub returns : goal.returns
 returns c =
-    record { runs = (c.push.ensures.runs_2.0, long-push3 c.before.before.before); result_after = grown (level c.before.before.before.before.before.before.before.before.before.before.before.before.before.before.before.before.before.before.before.before) _ _ (d c.before.before.before.before.before.before.before.before.before.before.before.before.before.before.before.before.before.before.before.before) c.args.w 0 c.push_each-r.ensures.result_after c.push.ensures.result_after (order c.before.before.before.before.before.before.before.before.before.before.before.before.before.before.before.before.before.before.before.before).3 (behind c.before.before.before.before.before.before.before.before.before.before.before.before.before.before.before.before.before.before.before.before) }
+    record {
+      runs = (c.push.ensures.runs_2.0, long-push3 c.before.before.before);
+      result_after = grown (level
+          c.before.before.before.before.before.before.before.before.before.before.before.before.before.before.before.before.before.before.before.before) _ _
+          (d c.before.before.before.before.before.before.before.before.before.before.before.before.before.before.before.before.before.before.before.before)
+          c.args.w 0 c.push_each-r.ensures.result_after c.push.ensures.result_after
+          (order
+          c.before.before.before.before.before.before.before.before.before.before.before.before.before.before.before.before.before.before.before.before).3
+          (behind
+          c.before.before.before.before.before.before.before.before.before.before.before.before.before.before.before.before.before.before.before.before);
+    }

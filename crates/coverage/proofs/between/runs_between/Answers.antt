@@ -23,7 +23,8 @@ two c = c.if-list-ne2.false
 place : (c : lts.Else1 tie.the-claims reads.Pre reads.Post tie.handed_clauses) → (j : ℕ) → j < 2 → get_or c.args.list.now j 0 < c.args.line.edges
 place c j h = c.requires.outlined.1.below j (omega (arith, h, (two c)))
 
-small : (c : lts.Else1 tie.the-claims reads.Pre reads.Post tie.handed_clauses) → (j : ℕ) → j < 2 → Small (edge_at c.args.scratch.now (get_or c.args.list.now j 0))
+small : (c : lts.Else1 tie.the-claims reads.Pre reads.Post tie.handed_clauses) → (j : ℕ) → j < 2
+    → Small (edge_at c.args.scratch.now (get_or c.args.list.now j 0))
 small c j h = c.requires.outlined.0.small (get_or c.args.list.now j 0) ((place c) j h)
 
 room : (c : lts.Else1 tie.the-claims reads.Pre reads.Post tie.handed_clauses) → (j : ℕ) → j < 2 → get_or c.args.list.now j 0 * 4 + 3 < length c.args.scratch.now
@@ -48,7 +49,8 @@ first c = subst ((Crossing c) (one c)) c.load.ensures c.cross-s.ensures
 second : (c : lts.After-cross2 tie.the-claims reads.Pre reads.Post tie.handed_clauses) → (Crossing c) (other c) ((own c) 1)
 second c = subst ((Crossing c) (other c)) c.load-2.ensures c.cross-t.ensures
 
-in_order : (c : lts.After-cross2 tie.the-claims reads.Pre reads.Post tie.handed_clauses) → Opposed (one c).way (other c).way → Ordered (lesser_of (one c) (other c)) (greater_of (one c) (other c)) (c.args.w * 4)
+in_order : (c : lts.After-cross2 tie.the-claims reads.Pre reads.Post tie.handed_clauses) → Opposed (one c).way (other c).way
+    → Ordered (lesser_of (one c) (other c)) (greater_of (one c) (other c)) (c.args.w * 4)
 in_order c opposed =
     let a = c.args in
     let way = known (one c).way (other c).way opposed in
@@ -98,7 +100,8 @@ fill_between-requires c =
     let order = in_order c.before.before.before.before.before.before (c.is_opposed.ensures c.if-is_opposed.true) in
     let w = c.args.w in
     let p = c.requires.y_bound in
-    let upper = subst (λ (z : Columns). Ordered (lesser_of (one c.before.before.before.before.before.before) (other c.before.before.before.before.before.before)) z (w * 4)) (sym c.greater.ensures) order in
+    let upper = subst (λ (z : Columns). Ordered (lesser_of (one c.before.before.before.before.before.before)
+    (other c.before.before.before.before.before.before)) z (w * 4)) (sym c.greater.ensures) order in
     (subst (λ (z : Columns). Ordered z c.greater.result (w * 4)) (sym c.lesser.ensures) upper, omega (arith, p.1), p.2)
 
 pub shape_of-runs-then-is_opposed : goal.shape_of-runs-then-is_opposed
@@ -125,7 +128,8 @@ returns-then-is_opposed c =
             ∙ tab_same a.w (level_at (lesser_of s t) (greater_of s t)) k
             (λ i g.
             sym (covered_between a.scratch.now a.line.edges a.line.y a.line.x a.w a.list.now a.line.nonzero
-            c.requires.outlined.1 found-two s t (first c.before.before.before.before.before.before.before.before.before) (second c.before.before.before.before.before.before.before.before.before) opposed i g)),
+            c.requires.outlined.1 found-two s t (first c.before.before.before.before.before.before.before.before.before)
+            (second c.before.before.before.before.before.before.before.before.before) opposed i g)),
       );
     }
 

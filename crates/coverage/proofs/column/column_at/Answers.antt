@@ -38,7 +38,8 @@ abbrev top : goal.Else-high-n → Num
 top c = sub (keep w64 (more c) tt) (lit 1)
 
 -- what the two tests tell
-left : (s : lts.Start reads.Pre reads.Post tie.handed_clauses) {t : Bool} → le_z (n s).read (low s).read ≡ t → le_z s.args.n (pos s.args.c *ℤ (pos 64 *ℤ s.args.d)) ≡ t
+left : (s : lts.Start reads.Pre reads.Post tie.handed_clauses) {t : Bool} → le_z (n s).read (low s).read ≡ t
+    → le_z s.args.n (pos s.args.c *ℤ (pos 64 *ℤ s.args.d)) ≡ t
 left s e = sym (ap₂ le_z (n s).same ((low s).same ∙ s.requires.low_value.0)) ∙ e
 
 right : (s : lts.Start reads.Pre reads.Post tie.handed_clauses) {t : Bool} → lt_z (high s).read (n s).read ≡ t

@@ -128,7 +128,10 @@ overflow_add-n c =
 
 pub column_at-last-requires : goal.column_at-last-requires
 column_at-last-requires c =
-    record { pos_bound = (asks c.before (keep w64 (last c.before) tt) (omega (arith, (last c.before).size.size))).0; low_value = (asks c.before (keep w64 (last c.before) tt) (omega (arith, (last c.before).size.size))).1 }
+    record {
+      pos_bound = (asks c.before (keep w64 (last c.before) tt) (omega (arith, (last c.before).size.size))).0;
+      low_value = (asks c.before (keep w64 (last c.before) tt) (omega (arith, (last c.before).size.size))).1;
+    }
 
 pub returns-then-first-last : goal.returns-then-first-last
 unfolding columns_of
@@ -145,7 +148,14 @@ overflow_add-n-2 c =
 
 pub column_at-requires : goal.column_at-requires
 column_at-requires c =
-    record { pos_bound = (asks c.before.before.before (keep w64 (second c.before.before.before) tt) (omega (arith, (second c.before.before.before).size.size))).0; low_value = (asks c.before.before.before (keep w64 (second c.before.before.before) tt) (omega (arith, (second c.before.before.before).size.size))).1 }
+    record {
+      pos_bound = (asks c.before.before.before (keep w64 (second c.before.before.before) tt) (omega (
+        arith,
+        (second c.before.before.before).size.size,
+      ))).0;
+      low_value = (asks c.before.before.before (keep w64 (second c.before.before.before) tt)
+          (omega (arith, (second c.before.before.before).size.size))).1;
+    }
 
 pub overflow_mul-step-2 : goal.overflow_mul-step-2
 overflow_mul-step-2 c =
@@ -157,12 +167,22 @@ overflow_add-n-3 c =
 
 pub column_at-requires-2 : goal.column_at-requires-2
 column_at-requires-2 c =
-    record { pos_bound = (asks c.before.before.before.before (keep w64 (third c.before.before.before.before) tt) (omega (arith, (third c.before.before.before.before).size.size))).0; low_value = (asks c.before.before.before.before (keep w64 (third c.before.before.before.before) tt) (omega (arith, (third c.before.before.before.before).size.size))).1 }
+    record {
+      pos_bound = (asks c.before.before.before.before (keep w64 (third c.before.before.before.before) tt) (omega (
+        arith,
+        (third c.before.before.before.before).size.size,
+      ))).0;
+      low_value = (asks c.before.before.before.before (keep w64 (third c.before.before.before.before) tt) (omega (
+        arith,
+        (third c.before.before.before.before).size.size,
+      ))).1;
+    }
 
 pub returns : goal.returns
 unfolding columns_of
 returns c =
     same-columns (first-is c.before.before.before.before)
-    (found c.before.before.before.before.before (keep w64 (second c.before.before.before.before.before) tt) 1 (one_more c.before.before.before.before.before) c.column_at.result c.column_at.ensures)
+    (found c.before.before.before.before.before (keep w64 (second c.before.before.before.before.before) tt) 1
+    (one_more c.before.before.before.before.before) c.column_at.result c.column_at.ensures)
     (found c.before.before.before.before.before (keep w64 (third c.before.before.before.before.before) tt) 2 refl c.column_at-2.result c.column_at-2.ensures)
     (last_is c.before.before.before)

@@ -82,4 +82,9 @@ returns c =
     let a = c.args in
     let l = c.loop-i in
     let e : l.i ≡ length a.marks.now = omega (arith, l.invariant.0, l.invariant.2) in
-    record { scratch_unchanged = l.invariant.1; runs = subst (Runs l.runs l.n) e l.invariant.4; result_after = l.invariant.5 ∙ ap (λ (m : ℕ). tab m (k_of (edges_of a.scratch.now a.line.edges) a.line.nonzero a.line.x a.line.y)) e }
+    record {
+      scratch_unchanged = l.invariant.1;
+      runs = subst (Runs l.runs l.n) e l.invariant.4;
+      result_after = l.invariant.5
+          ∙ ap (λ (m : ℕ). tab m (k_of (edges_of a.scratch.now a.line.edges) a.line.nonzero a.line.x a.line.y)) e;
+    }

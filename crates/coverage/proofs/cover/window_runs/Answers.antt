@@ -64,11 +64,12 @@ take_runs-requires c =
     let k : length d ≡ w = g.auto.cover in
     let few : length es ≤ 1000000 = omega (arith, tab_length a.line.edges (edge_at a.scratch.now), c.requires.outlined.0.few) in
     record {
-      sums_len = subst (λ (t : List ℤ). (length t ≡ length d * 16) × Marked d (at t) × Tame t (length d * 4)) (sym (lent (goal.at.take_runs-requires c).After-add_listed)) (
-        sums_long (4 * x) w a.line.y es ∙ ap (λ (n : ℕ). n * 16) (sym k),
-        sums_marked (4 * x) w a.line.y es d k g.ensures.marked,
-        subst (λ (n : ℕ). Tame (sums_of (4 * x) w a.line.y es) (n * 4)) (sym k) (sums_tame (4 * x) w a.line.y es few),
-      );
+      sums_len = subst (λ (t : List ℤ). (length t ≡ length d * 16) × Marked d (at t)
+          × Tame t (length d * 4)) (sym (lent (goal.at.take_runs-requires c).After-add_listed)) (
+            sums_long (4 * x) w a.line.y es ∙ ap (λ (n : ℕ). n * 16) (sym k),
+            sums_marked (4 * x) w a.line.y es d k g.ensures.marked,
+            subst (λ (n : ℕ). Tame (sums_of (4 * x) w a.line.y es) (n * 4)) (sym k) (sums_tame (4 * x) w a.line.y es few),
+          );
       grouped = g.ensures.grouped;
       runs = (c.requires.runs.0, omega (arith, k, u.auto.s, c.requires.runs.1), omega (arith, k, u.auto.s, c.requires.y_bound.1));
     }
@@ -96,6 +97,7 @@ returns c =
       );
       result_after = t.ensures.result_after
           ∙ ap (λ (q : List ℕ). expand a.runs.now a.n ++ q)
-          (ap₂ (λ (m : ℕ) (q : List ℤ). tab m (pixel_of a.line.nonzero q)) k (lent (goal.at.returns c).After-add_listed) ∙ window_covers x w a.line.y es a.line.nonzero
+          (ap₂ (λ (m : ℕ) (q : List ℤ). tab m (pixel_of a.line.nonzero q)) k (lent (goal.at.returns c).After-add_listed)
+          ∙ window_covers x w a.line.y es a.line.nonzero
           ∙ ap (λ (m : ℕ). tab m (λ i. coverage es a.line.nonzero (x + i) a.line.y)) u.auto.s);
     }

@@ -50,7 +50,11 @@ returns-then-x1-first c =
 
 pub returns-else-x1-first : goal.returns-else-x1-first
 returns-else-x1-first c =
-    rw (told (goal.at.returns-else-x1-first c).Start c.args.x0 c.ranges.x0 c.if-x0-first.true, told (goal.at.returns-else-x1-first c).Start c.args.x1 c.ranges.x1 c.if-x1-first.false)
+    rw (
+      told (goal.at.returns-else-x1-first c).Start c.args.x0 c.ranges.x0 c.if-x0-first.true,
+      told (goal.at.returns-else-x1-first c).Start c.args.x1
+          c.ranges.x1 c.if-x1-first.false,
+    )
 
 pub returns-else-x0-first : goal.returns-else-x0-first
 returns-else-x0-first c =

@@ -46,7 +46,11 @@ returns-then-misses c =
     let a = c.args in
     let w = length a.cover.now in
     let q = sym (tested c.before.before) ∙ c.if-misses.true in
-    record { scratch_after = miss_sums a.n w a.c a.y a.scratch.now c.requires.edges.room a.i q c.requires.scratch_value; marked_2 = miss_marks a.n w a.c a.y a.scratch.now c.requires.edges.room a.i q a.cover.now c.requires.marked; grouped = c.requires.i_lt_n.3 }
+    record {
+      scratch_after = miss_sums a.n w a.c a.y a.scratch.now c.requires.edges.room a.i q c.requires.scratch_value;
+      marked_2 = miss_marks a.n w a.c a.y a.scratch.now c.requires.edges.room a.i q a.cover.now c.requires.marked;
+      grouped = c.requires.i_lt_n.3;
+    }
 
 pub returns-then-is_beyond : goal.returns-then-is_beyond
 returns-then-is_beyond c =
@@ -54,7 +58,11 @@ returns-then-is_beyond c =
     let w = length a.cover.now in
     let room = c.requires.edges.room in
     let q = sym (right-of-window c.before.before) ∙ c.if-is_beyond.true in
-    record { scratch_after = beyond_sums a.n w a.c a.y a.scratch.now room a.i q c.requires.scratch_value; marked_2 = beyond_marks a.n w a.c a.y a.scratch.now room a.i q a.cover.now refl c.requires.marked; grouped = c.requires.i_lt_n.3 }
+    record {
+      scratch_after = beyond_sums a.n w a.c a.y a.scratch.now room a.i q c.requires.scratch_value;
+      marked_2 = beyond_marks a.n w a.c a.y a.scratch.now room a.i q a.cover.now refl c.requires.marked;
+      grouped = c.requires.i_lt_n.3;
+    }
 
 pub add_rows-requires : goal.add_rows-requires
 add_rows-requires c =

@@ -56,15 +56,18 @@ add_edge-requires c =
     let low = c.requires.needed.below l.j here in
     record {
       i_lt_n = (low, c.requires.y_bound.0, omega (arith, l.invariant.2, c.requires.y_bound.1), l.invariant.5);
-      edges = (turn_asks a.n (length a.cover.now) a.c a.y a.scratch.now c.requires.edges.room i low l.scratch (stands c.before.before.before.before.before) (length l.cover)
+      edges = (turn_asks a.n (length a.cover.now) a.c a.y a.scratch.now c.requires.edges.room i low l.scratch (stands c.before.before.before.before.before)
+          (length l.cover)
           l.invariant.2 l.cover c.requires.edges l.invariant.1
           (subst (λ (m : ℕ). Marked l.cover (sums_at a.c (length a.cover.now * 4) a.y (edges_of a.scratch.now m)))
           (reach_at a.list.now a.n l.j here) l.invariant.4)).0;
-      scratch_value = (turn_asks a.n (length a.cover.now) a.c a.y a.scratch.now c.requires.edges.room i low l.scratch (stands c.before.before.before.before.before) (length l.cover)
+      scratch_value = (turn_asks a.n (length a.cover.now) a.c a.y a.scratch.now c.requires.edges.room i low l.scratch
+          (stands c.before.before.before.before.before) (length l.cover)
           l.invariant.2 l.cover c.requires.edges l.invariant.1
           (subst (λ (m : ℕ). Marked l.cover (sums_at a.c (length a.cover.now * 4) a.y (edges_of a.scratch.now m)))
           (reach_at a.list.now a.n l.j here) l.invariant.4)).1.0;
-      marked = (turn_asks a.n (length a.cover.now) a.c a.y a.scratch.now c.requires.edges.room i low l.scratch (stands c.before.before.before.before.before) (length l.cover)
+      marked = (turn_asks a.n (length a.cover.now) a.c a.y a.scratch.now c.requires.edges.room i low l.scratch
+          (stands c.before.before.before.before.before) (length l.cover)
           l.invariant.2 l.cover c.requires.edges l.invariant.1
           (subst (λ (m : ℕ). Marked l.cover (sums_at a.c (length a.cover.now * 4) a.y (edges_of a.scratch.now m)))
           (reach_at a.list.now a.n l.j here) l.invariant.4)).1.1;
@@ -89,9 +92,11 @@ loop-j-preserved c =
     let rise : i + 1 ≤ r = omega (arith, k.rise l.j here) in
     let gap : (m : ℕ) → i + 1 ≤ m → m < r → missed (edge_at a.scratch.now m).y0 (edge_at a.scratch.now m).y1 a.y ≡ true =
     λ m u v. k.gap l.j m here (omega (arith, u)) v in
-    let sums = turn_sums a.n w a.c a.y a.scratch.now room i low l.scratch (stands c.before.before.before.before.before.before.before.before.before.before.before) (length l.cover) l.invariant.2 g.new.scratch
+    let sums = turn_sums a.n w a.c a.y a.scratch.now room i low l.scratch
+    (stands c.before.before.before.before.before.before.before.before.before.before.before) (length l.cover) l.invariant.2 g.new.scratch
     g.ensures.scratch_after in
-    let marks = turn_marks a.n w a.c a.y a.scratch.now room i low l.scratch (stands c.before.before.before.before.before.before.before.before.before.before.before) (length l.cover) l.invariant.2
+    let marks = turn_marks a.n w a.c a.y a.scratch.now room i low l.scratch
+    (stands c.before.before.before.before.before.before.before.before.before.before.before) (length l.cover) l.invariant.2
     g.new.cover g.ensures.marked_2 in (
       omega (arith, here),
       omega (arith, g.auto.scratch, l.invariant.1),
@@ -110,4 +115,8 @@ returns c =
     let a = c.args in
     let l = c.loop-j in
     let e = reach_end a.list.now a.n l.j (omega (arith, l.invariant.0, c.loop-j-test.false)) in
-    record { scratch_after = l.invariant.3 ∙ ap (λ (i : ℕ). with_sums a.n (length a.cover.now) a.c a.y i a.scratch.now) e; marked = subst (λ (i : ℕ). Marked l.cover (sums_at a.c (length a.cover.now * 4) a.y (edges_of a.scratch.now i))) e l.invariant.4; grouped = l.invariant.5 }
+    record {
+      scratch_after = l.invariant.3 ∙ ap (λ (i : ℕ). with_sums a.n (length a.cover.now) a.c a.y i a.scratch.now) e;
+      marked = subst (λ (i : ℕ). Marked l.cover (sums_at a.c (length a.cover.now * 4) a.y (edges_of a.scratch.now i))) e l.invariant.4;
+      grouped = l.invariant.5;
+    }

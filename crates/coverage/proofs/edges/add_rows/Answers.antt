@@ -51,23 +51,31 @@ abbrev start_in : (c : lts.Start tie.the-claims reads.Pre reads.Post tie.handed_
 start_in c r = (start_by c) (sample (4 * c.args.y + r))
 
 -- a sample row, as it is handed on
-line : (c : lts.Start tie.the-claims reads.Pre reads.Post tie.handed_clauses) → (r n : ℕ) → (h : r < 4) → (q : n ≡ 64 * (4 * c.args.y + r) + 32) → to_z w32 n ≡ sample (4 * c.args.y + r)
+line : (c : lts.Start tie.the-claims reads.Pre reads.Post tie.handed_clauses) → (r n : ℕ) → (h : r < 4) → (q : n ≡ 64 * (4 * c.args.y + r) + 32)
+    → to_z w32 n ≡ sample (4 * c.args.y + r)
 line c r n h q = ap (to_z w32) q ∙ to_z_pos w32 (omega (arith, h, c.requires.i_lt_n.1))
 
-asks : (c : lts.Start tie.the-claims reads.Pre reads.Post tie.handed_clauses) → (r n : ℕ) → (h : r < 4) → (q : n ≡ 64 * (4 * c.args.y + r) + 32) → Small c.args.e × ((nat_abs (to_z w32 n) ≤ 8388608) × (c.args.c + (wide c) * 4 < 2 ^ 31))
+asks : (c : lts.Start tie.the-claims reads.Pre reads.Post tie.handed_clauses) → (r n : ℕ) → (h : r < 4) → (q : n ≡ 64 * (4 * c.args.y + r) + 32)
+    → Small c.args.e × ((nat_abs (to_z w32 n) ≤ 8388608) × (c.args.c + (wide c) * 4 < 2 ^ 31))
 asks c r n h q = (
   (small c),
   (subst (λ (z : ℤ). nat_abs z ≤ 8388608) (sym ((line c) r n h q)) (omega (arith, h, c.requires.i_lt_n.1)), omega (arith, c.requires.i_lt_n.2)),
 )
 
-found : (c : goal.After-put_rows-arg-3-1) → (r n : ℕ) → (h : r < 4) → (q : n ≡ 64 * (4 * c.args.y + r) + 32) → (s : Start) → s ≡ (start_by c.before.before.before.before.before.before.before.before.before.before.before.before.before.before.before.before.before) (to_z w32 n) → s ≡ (start_in c.before.before.before.before.before.before.before.before.before.before.before.before.before.before.before.before.before) r
-found c r n h q s o = o ∙ ap (start_by c.before.before.before.before.before.before.before.before.before.before.before.before.before.before.before.before.before) ((line c.before.before.before.before.before.before.before.before.before.before.before.before.before.before.before.before.before) r n h q)
+found : (c : goal.After-put_rows-arg-3-1) → (r n : ℕ) → (h : r < 4) → (q : n ≡ 64 * (4 * c.args.y + r) + 32) → (s : Start)
+    → s ≡ (start_by c.before.before.before.before.before.before.before.before.before.before.before.before.before.before.before.before.before) (to_z w32 n)
+    → s ≡ (start_in c.before.before.before.before.before.before.before.before.before.before.before.before.before.before.before.before.before) r
+found c r n h q s o = o
+    ∙ ap (start_by c.before.before.before.before.before.before.before.before.before.before.before.before.before.before.before.before.before)
+    ((line c.before.before.before.before.before.before.before.before.before.before.before.before.before.before.before.before.before) r n h q)
 
 -- what begins in it may be added
-unit : (c : lts.Start tie.the-claims reads.Pre reads.Post tie.handed_clauses) → (r : ℕ) → (h : r < 4) → (s : Start) → (q : s ≡ (start_in c) r) → nat_abs s.by ≤ 1
+unit : (c : lts.Start tie.the-claims reads.Pre reads.Post tie.handed_clauses) → (r : ℕ) → (h : r < 4) → (s : Start) → (q : s ≡ (start_in c) r)
+    → nat_abs s.by ≤ 1
 unit c r h s q = by_small c.args.c ((wide c) * 4) (sample (4 * c.args.y + r)) c.args.e s q
 
-fit : (c : lts.Start tie.the-claims reads.Pre reads.Post tie.handed_clauses) → (r : ℕ) → (h : r < 4) → (s : Start) → (q : s ≡ (start_in c) r) → Fits c.args.scratch.now (c.args.n * 4) (wide c) r s
+fit : (c : lts.Start tie.the-claims reads.Pre reads.Post tie.handed_clauses) → (r : ℕ) → (h : r < 4) → (s : Start) → (q : s ≡ (start_in c) r)
+    → Fits c.args.scratch.now (c.args.n * 4) (wide c) r s
 fit c r h s q = (
   ((unit c) r h s q),
   λ i. added_low c.args.n (wide c) c.args.c c.args.y c.args.scratch.now c.requires.edges.0.room
@@ -76,10 +84,13 @@ fit c r h s q = (
 )
 
 -- what begins in all four may be added, and is all that the edge begins
-fit_all : (c : lts.Start tie.the-claims reads.Pre reads.Post tie.handed_clauses) → (s u v t : Start) → (q0 : s ≡ (start_in c) 0) → (q1 : u ≡ (start_in c) 1) → (q2 : v ≡ (start_in c) 2) → (q3 : t ≡ (start_in c) 3) → FitRows c.args.scratch.now (c.args.n * 4) (wide c) s u v t
+fit_all : (c : lts.Start tie.the-claims reads.Pre reads.Post tie.handed_clauses) → (s u v t : Start) → (q0 : s ≡ (start_in c) 0)
+    → (q1 : u ≡ (start_in c) 1) → (q2 : v ≡ (start_in c) 2) → (q3 : t ≡ (start_in c) 3) → FitRows c.args.scratch.now (c.args.n * 4) (wide c) s u v t
 fit_all c s u v t q0 q1 q2 q3 = ((fit c) 0 (omega arith) s q0, (fit c) 1 (omega arith) u q1, (fit c) 2 (omega arith) v q2, (fit c) 3 (omega arith) t q3)
 
-all-added : (c : lts.Start tie.the-claims reads.Pre reads.Post tie.handed_clauses) → (s u v t : Start) → (q0 : s ≡ (start_in c) 0) → (q1 : u ≡ (start_in c) 1) → (q2 : v ≡ (start_in c) 2) → (q3 : t ≡ (start_in c) 3) → (z : List ℤ) (m : List ℕ) → z ≡ put_rows (c.args.n * 4) (wide c) s u v t c.args.scratch.now
+all-added : (c : lts.Start tie.the-claims reads.Pre reads.Post tie.handed_clauses) → (s u v t : Start) → (q0 : s ≡ (start_in c) 0)
+    → (q1 : u ≡ (start_in c) 1) → (q2 : v ≡ (start_in c) 2) → (q3 : t ≡ (start_in c) 3) → (z : List ℤ) (m : List ℕ)
+    → z ≡ put_rows (c.args.n * 4) (wide c) s u v t c.args.scratch.now
     → m ≡ mark_rows (s.at / 4) (u.at / 4) (v.at / 4) (t.at / 4) c.args.cover.now
     → (z ≡ with_sums c.args.n (wide c) c.args.c c.args.y (c.args.i + 1) c.args.scratch.now)
     × Marked m (sums_at c.args.c ((wide c) * 4) c.args.y (edges_of c.args.scratch.now (c.args.i + 1)))
@@ -104,7 +115,12 @@ up : (c : goal.After-put_columns-arg-then-passes-2-1)
 up c =
     let e = c.args.e in
     let p = small c.before.before.before.before.before.before.before.before.before.before.before in
-    rw (clean e.y0 p.y0, clean e.y1 p.y1, first c.before.before.before.before.before.before.before.before.before.before.before, last c.before.before.before.before.before.before.before.before.before.before.before) at c.passes.ensures
+    rw (
+      clean e.y0 p.y0,
+      clean e.y1 p.y1,
+      first c.before.before.before.before.before.before.before.before.before.before.before,
+      last c.before.before.before.before.before.before.before.before.before.before.before,
+    ) at c.passes.ensures
 
 begins-up : (c : goal.After-columns)
     → let a = c.args in
@@ -116,7 +132,13 @@ begins-up c =
     let e = a.e in
     let p = small c.before.before.before.before.before.before.before.before.before.before.before.before.before in
     let slope : rise.result ≡ rise_of e (sample (4 * a.y + 0)) =
-    rw (clean e.x0 p.x0, clean e.y0 p.y0, clean e.x1 p.x1, clean e.y1 p.y1, first c.before.before.before.before.before.before.before.before.before.before.before.before.before) at rise.ensures.value in (
+    rw (
+      clean e.x0 p.x0,
+      clean e.y0 p.y0,
+      clean e.x1 p.x1,
+      clean e.y1 p.y1,
+      first c.before.before.before.before.before.before.before.before.before.before.before.before.before,
+    ) at rise.ensures.value in (
       passes_up a.c k a.y e c.columns.result (sym (up c.before.before) ∙ c.if-passes.true)
           (c.columns.ensures ∙ ap (columns_of a.c k) slope),
       subst Straight (sym c.columns.ensures) (columns_straight a.c k rise.result rise.ensures.sloped.up),
@@ -129,7 +151,12 @@ down : (c : goal.After-put_columns-arg-then-passes-2-4-1)
 down c =
     let e = c.args.e in
     let p = small c.before.before.before.before.before.before.before.before.before.before.before.before.before in
-    rw (clean e.y0 p.y0, clean e.y1 p.y1, first c.before.before.before.before.before.before.before.before.before.before.before.before.before, last c.before.before.before.before.before.before.before.before.before.before.before.before.before) at c.passes-2.ensures
+    rw (
+      clean e.y0 p.y0,
+      clean e.y1 p.y1,
+      first c.before.before.before.before.before.before.before.before.before.before.before.before.before,
+      last c.before.before.before.before.before.before.before.before.before.before.before.before.before,
+    ) at c.passes-2.ensures
 
 begins-down : (c : goal.After-columns-then-passes-2)
     → let a = c.args in
@@ -141,25 +168,35 @@ begins-down c =
     let e = a.e in
     let p = small c.before.before.before.before.before.before.before.before.before.before.before.before.before.before.before in
     let slope : rise.result ≡ rise_of (turned e) (sample (4 * a.y + 0)) =
-    rw (clean e.x0 p.x0, clean e.y0 p.y0, clean e.x1 p.x1, clean e.y1 p.y1, first c.before.before.before.before.before.before.before.before.before.before.before.before.before.before.before) at rise.ensures.value in (
+    rw (
+      clean e.x0 p.x0,
+      clean e.y0 p.y0,
+      clean e.x1 p.x1,
+      clean e.y1 p.y1,
+      first c.before.before.before.before.before.before.before.before.before.before.before.before.before.before.before,
+    ) at rise.ensures.value in (
       passes_down a.c k a.y e c.columns-then-passes-2.result (sym (down c.before.before) ∙ c.if-passes-2.true)
           (c.columns-then-passes-2.ensures ∙ ap (columns_of a.c k) slope),
       subst Straight (sym c.columns-then-passes-2.ensures) (columns_straight a.c k rise.result rise.ensures.sloped.up),
     )
 
-first_at : (c : goal.After-put_rows-arg-3-1) → c.start-s.result ≡ start_in c.before.before.before.before.before.before.before.before.before.before.before.before.before.before.before.before.before 0
+first_at : (c : goal.After-put_rows-arg-3-1)
+    → c.start-s.result ≡ start_in c.before.before.before.before.before.before.before.before.before.before.before.before.before.before.before.before.before 0
 first_at c =
     found c 0 (256 * c.args.y + 32) (omega arith) (omega arith) c.start-s.result c.start-s.ensures
 
-last-at : (c : goal.After-put_rows-arg-3-1) → c.start-t.result ≡ start_in c.before.before.before.before.before.before.before.before.before.before.before.before.before.before.before.before.before 3
+last-at : (c : goal.After-put_rows-arg-3-1)
+    → c.start-t.result ≡ start_in c.before.before.before.before.before.before.before.before.before.before.before.before.before.before.before.before.before 3
 last-at c =
     found c 3 (256 * c.args.y + 224) (omega arith) (omega arith) c.start-t.result c.start-t.ensures
 
-second_at : (c : goal.After-put_rows-arg-3-1) → c.start-u.result ≡ start_in c.before.before.before.before.before.before.before.before.before.before.before.before.before.before.before.before.before 1
+second_at : (c : goal.After-put_rows-arg-3-1)
+    → c.start-u.result ≡ start_in c.before.before.before.before.before.before.before.before.before.before.before.before.before.before.before.before.before 1
 second_at c =
     found c 1 (256 * c.args.y + 96) (omega arith) (omega arith) c.start-u.result c.start-u.ensures
 
-third_at : (c : goal.After-put_rows-arg-3-1) → c.start-v.result ≡ start_in c.before.before.before.before.before.before.before.before.before.before.before.before.before.before.before.before.before 2
+third_at : (c : goal.After-put_rows-arg-3-1)
+    → c.start-v.result ≡ start_in c.before.before.before.before.before.before.before.before.before.before.before.before.before.before.before.before.before 2
 third_at c =
     found c 2 (256 * c.args.y + 160) (omega arith) (omega arith) c.start-v.result c.start-v.ensures
 
@@ -170,7 +207,13 @@ rise-requires c =
     let asks = rise_asks c.args.y e (sym (up c) ∙ c.if-passes.true) p c.requires.i_lt_n.1 in
     record {
       y0_lt_y1 = rw (clean e.y0 p.y0, clean e.y1 p.y1) asks.0;
-      x0_bound = rw (clean e.x0 p.x0, clean e.y0 p.y0, clean e.x1 p.x1, clean e.y1 p.y1, first c.before.before.before.before.before.before.before.before.before.before.before) asks.1;
+      x0_bound = rw (
+        clean e.x0 p.x0,
+        clean e.y0 p.y0,
+        clean e.x1 p.x1,
+        clean e.y1 p.y1,
+        first c.before.before.before.before.before.before.before.before.before.before.before,
+      ) asks.1;
     }
 
 pub columns-requires : goal.columns-requires
@@ -183,7 +226,8 @@ put_columns-requires c =
     let b = begins-up c in
     record {
       cover_in_bounds = (c.requires.edges.0.room, c.requires.i_lt_n.3, b.1);
-      fit_rows = fit_all c.before.before.before.before.before.before.before.before.before.before.before.before.before (start_with s.a (pos 1)) (start_with s.b (pos 1)) (start_with s.c (pos 1)) (start_with s.d (pos 1))
+      fit_rows = fit_all c.before.before.before.before.before.before.before.before.before.before.before.before.before (start_with s.a (pos 1))
+          (start_with s.b (pos 1)) (start_with s.c (pos 1)) (start_with s.d (pos 1))
           b.0.0 b.0.1 b.0.2 b.0.3;
     }
 
@@ -192,7 +236,9 @@ returns-then-passes c =
     let s = c.columns.result in
     let b = (begins-up c.before.before.before.before.before.before.before).0 in
     let p = c.put_columns in
-    let all = all-added c.before.before.before.before.before.before.before.before.before.before.before.before.before.before.before.before.before.before.before.before (start_with s.a (pos 1)) (start_with s.b (pos 1)) (start_with s.c (pos 1)) (start_with s.d (pos 1))
+    let all = all-added
+    c.before.before.before.before.before.before.before.before.before.before.before.before.before.before.before.before.before.before.before.before
+    (start_with s.a (pos 1)) (start_with s.b (pos 1)) (start_with s.c (pos 1)) (start_with s.d (pos 1))
     b.0 b.1 b.2 b.3 p.new.scratch p.new.cover p.ensures.scratch_after p.ensures.cover_after in
     record { scratch_after = all.0; marked_2 = all.1; grouped = p.ensures.grouped }
 
@@ -203,7 +249,13 @@ rise-requires-then-passes-2 c =
     let asks = rise_asks c.args.y (turned e) (sym (down c) ∙ c.if-passes-2.true) (small_turned e p) c.requires.i_lt_n.1 in
     record {
       y0_lt_y1 = rw (clean e.y0 p.y0, clean e.y1 p.y1) asks.0;
-      x0_bound = rw (clean e.x0 p.x0, clean e.y0 p.y0, clean e.x1 p.x1, clean e.y1 p.y1, first c.before.before.before.before.before.before.before.before.before.before.before.before.before) asks.1;
+      x0_bound = rw (
+        clean e.x0 p.x0,
+        clean e.y0 p.y0,
+        clean e.x1 p.x1,
+        clean e.y1 p.y1,
+        first c.before.before.before.before.before.before.before.before.before.before.before.before.before,
+      ) asks.1;
     }
 
 pub columns-requires-then-passes-2 : goal.columns-requires-then-passes-2
@@ -216,7 +268,8 @@ put_columns-requires-then-passes-2 c =
     let b = begins-down c in
     record {
       cover_in_bounds = (c.requires.edges.0.room, c.requires.i_lt_n.3, b.1);
-      fit_rows = fit_all c.before.before.before.before.before.before.before.before.before.before.before.before.before.before.before (start_with s.a (negsuc 0)) (start_with s.b (negsuc 0)) (start_with s.c (negsuc 0)) (start_with s.d (negsuc 0))
+      fit_rows = fit_all c.before.before.before.before.before.before.before.before.before.before.before.before.before.before.before (start_with s.a
+          (negsuc 0)) (start_with s.b (negsuc 0)) (start_with s.c (negsuc 0)) (start_with s.d (negsuc 0))
           b.0.0 b.0.1 b.0.2 b.0.3;
     }
 
@@ -225,17 +278,29 @@ returns-then-passes-2 c =
     let s = c.columns-then-passes-2.result in
     let b = (begins-down c.before.before.before.before.before.before.before).0 in
     let p = c.put_columns-then-passes-2 in
-    let all = all-added c.before.before.before.before.before.before.before.before.before.before.before.before.before.before.before.before.before.before.before.before.before.before (start_with s.a (negsuc 0)) (start_with s.b (negsuc 0)) (start_with s.c (negsuc 0)) (start_with s.d (negsuc 0))
+    let all = all-added
+    c.before.before.before.before.before.before.before.before.before.before.before.before.before.before.before.before.before.before.before.before.before.before
+    (start_with s.a (negsuc 0)) (start_with s.b (negsuc 0)) (start_with s.c (negsuc 0)) (start_with s.d (negsuc 0))
     b.0 b.1 b.2 b.3 p.new.scratch p.new.cover p.ensures.scratch_after p.ensures.cover_after in
     record { scratch_after = all.0; marked_2 = all.1; grouped = p.ensures.grouped }
 
 pub start-s-requires : goal.start-s-requires
 start-s-requires c =
-    record { small = (asks c.before.before.before.before.before.before.before.before.before.before.before 0 (256 * c.args.y + 32) (omega arith) (omega arith)).0; y_bound = (asks c.before.before.before.before.before.before.before.before.before.before.before 0 (256 * c.args.y + 32) (omega arith) (omega arith)).1 }
+    record {
+      small = (asks c.before.before.before.before.before.before.before.before.before.before.before 0 (256 * c.args.y + 32) (omega arith)
+          (omega arith)).0;
+      y_bound = (asks c.before.before.before.before.before.before.before.before.before.before.before 0 (256 * c.args.y + 32)
+          (omega arith) (omega arith)).1;
+    }
 
 pub start-t-requires : goal.start-t-requires
 start-t-requires c =
-    record { small = (asks c.before.before.before.before.before.before.before.before.before.before.before.before 3 (256 * c.args.y + 224) (omega arith) (omega arith)).0; y_bound = (asks c.before.before.before.before.before.before.before.before.before.before.before.before 3 (256 * c.args.y + 224) (omega arith) (omega arith)).1 }
+    record {
+      small = (asks c.before.before.before.before.before.before.before.before.before.before.before.before 3 (256 * c.args.y + 224) (omega arith)
+          (omega arith)).0;
+      y_bound = (asks c.before.before.before.before.before.before.before.before.before.before.before.before 3 (256 * c.args.y + 224)
+          (omega arith) (omega arith)).1;
+    }
 
 pub overflow_mul-y : goal.overflow_mul-y
 overflow_mul-y c =
@@ -251,7 +316,12 @@ overflow_cast-y c =
 
 pub start-u-requires : goal.start-u-requires
 start-u-requires c =
-    record { small = (asks c.before.before.before.before.before.before.before.before.before.before.before.before.before 1 (256 * c.args.y + 96) (omega arith) (omega arith)).0; y_bound = (asks c.before.before.before.before.before.before.before.before.before.before.before.before.before 1 (256 * c.args.y + 96) (omega arith) (omega arith)).1 }
+    record {
+      small = (asks c.before.before.before.before.before.before.before.before.before.before.before.before.before 1 (256 * c.args.y + 96)
+          (omega arith) (omega arith)).0;
+      y_bound = (asks c.before.before.before.before.before.before.before.before.before.before.before.before.before 1
+          (256 * c.args.y + 96) (omega arith) (omega arith)).1;
+    }
 
 pub overflow_mul-y-2 : goal.overflow_mul-y-2
 overflow_mul-y-2 c =
@@ -267,20 +337,30 @@ overflow_cast-y-2 c =
 
 pub start-v-requires : goal.start-v-requires
 start-v-requires c =
-    record { small = (asks c.before.before.before.before.before.before.before.before.before.before.before.before.before.before 2 (256 * c.args.y + 160) (omega arith) (omega arith)).0; y_bound = (asks c.before.before.before.before.before.before.before.before.before.before.before.before.before.before 2 (256 * c.args.y + 160) (omega arith) (omega arith)).1 }
+    record {
+      small = (asks c.before.before.before.before.before.before.before.before.before.before.before.before.before.before 2 (256 * c.args.y + 160)
+          (omega arith) (omega arith)).0;
+      y_bound = (asks c.before.before.before.before.before.before.before.before.before.before.before.before.before.before
+          2 (256 * c.args.y + 160) (omega arith) (omega arith)).1;
+    }
 
 pub put_rows-requires : goal.put_rows-requires
 put_rows-requires c =
     record {
       cover_in_bounds = (c.requires.edges.0.room, c.requires.i_lt_n.3);
-      fit_rows = fit_all c.before.before.before.before.before.before.before.before.before.before.before.before.before.before.before.before.before c.start-s.result c.start-u.result c.start-v.result c.start-t.result
+      fit_rows = fit_all c.before.before.before.before.before.before.before.before.before.before.before.before.before.before.before.before.before
+          c.start-s.result c.start-u.result c.start-v.result c.start-t.result
           (first_at c) (second_at c) (third_at c) (last-at c);
     }
 
 pub returns : goal.returns
 returns c =
+    let half = c.before.before.before.before.before.before.before.before.before.before.before.before in
     let p = c.put_rows in
-    let all = all-added c.before.before.before.before.before.before.before.before.before.before.before.before.before.before.before.before.before.before.before.before.before.before.before.before c.start-s.result c.start-u.result c.start-v.result
-    c.start-t.result (first_at c.before.before.before.before.before.before.before) (second_at c.before.before.before.before.before.before.before) (third_at c.before.before.before.before.before.before.before) (last-at c.before.before.before.before.before.before.before) p.new.scratch
+    let all = all-added
+    half.before.before.before.before.before.before.before.before.before.before.before.before
+    c.start-s.result c.start-u.result c.start-v.result
+    c.start-t.result (first_at c.before.before.before.before.before.before.before) (second_at c.before.before.before.before.before.before.before)
+    (third_at c.before.before.before.before.before.before.before) (last-at c.before.before.before.before.before.before.before) p.new.scratch
     p.new.cover p.ensures.scratch_after p.ensures.cover_after in
     record { scratch_after = all.0; marked_2 = all.1; grouped = p.ensures.grouped }

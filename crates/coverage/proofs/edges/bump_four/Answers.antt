@@ -71,5 +71,6 @@ returns c =
     (c.bump-3.ensures
     ∙ ap₂ (λ (l : List ℤ) (v : ℤ). bumped l (i + 2) v)
     (c.bump-2.ensures
-    ∙ ap₂ (λ (l : List ℤ) (v : ℤ). bumped l (i + 1) v) (c.bump.ensures ∙ ap (bumped a.scratch.now i) (by_read (goal.at.returns c).Start)) (by_read (goal.at.returns c).Start))
+    ∙ ap₂ (λ (l : List ℤ) (v : ℤ). bumped l (i + 1) v) (c.bump.ensures ∙ ap (bumped a.scratch.now i) (by_read (goal.at.returns c).Start))
+    (by_read (goal.at.returns c).Start))
     (by_read (goal.at.returns c).Start)) (by_read (goal.at.returns c).Start)

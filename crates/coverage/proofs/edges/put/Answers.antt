@@ -25,4 +25,9 @@ pub returns : goal.returns
 returns c =
     let a = c.args in
     let p = c.put_inside.ensures in
-    record { scratch_after = p.scratch_after; cover_after = p.cover_after; grouped = one_grouped a.cover.now a.groups.now (a.s.at / 4) p.cover_after c.touch.ensures (omega (arith, c.if-cover-p.false)) c.requires.r_bound.2 }
+    record {
+      scratch_after = p.scratch_after;
+      cover_after = p.cover_after;
+      grouped = one_grouped a.cover.now a.groups.now (a.s.at / 4) p.cover_after
+          c.touch.ensures (omega (arith, c.if-cover-p.false)) c.requires.r_bound.2;
+    }

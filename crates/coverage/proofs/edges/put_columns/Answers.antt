@@ -54,7 +54,8 @@ returns-then-p-q c =
     record {
       scratch_after = rw (o.0, o.1, sym c.if-p-q.true) (
           p.scratch_after
-          ∙ ap (λ (z : ℤ). cond (ltb (a.s.a / 4) w) (bumped_four a.scratch.now (a.base + a.s.a * 4) z) a.scratch.now) (by_read c.before.before.before.before.before.before.before.before.before.before.before.before.before)
+          ∙ ap (λ (z : ℤ). cond (ltb (a.s.a / 4) w) (bumped_four a.scratch.now (a.base + a.s.a * 4) z) a.scratch.now)
+          (by_read c.before.before.before.before.before.before.before.before.before.before.before.before.before)
           ∙ as_rows a.base a.s.a a.by w a.scratch.now
           );
       cover_after = rw (o.0, o.1, sym c.if-p-q.true) (p.cover_after ∙ as_marks (a.s.a / 4) a.cover.now);
@@ -69,7 +70,8 @@ touch-requires c =
 pub put_near-requires : goal.put_near-requires
 put_near-requires c =
     record {
-      cover_in_bounds = rw (by_read c.before.before.before.before.before.before.before.before.before.before.before.before.before.before) (c.requires.cover_in_bounds.0, c.requires.fit_rows);
+      cover_in_bounds = rw (by_read c.before.before.before.before.before.before.before.before.before.before.before.before.before.before)
+          (c.requires.cover_in_bounds.0, c.requires.fit_rows);
       at_in_bounds = rw (straight_ends c.args.s c.requires.cover_in_bounds.2).1
           (omega (arith, (near c.before.before.before.before.before.before.before).0, c.most-hi.ensures));
     }
@@ -81,7 +83,8 @@ returns-then-is_near c =
     let both = near c.before.before.before.before.before.before.before.before.before.before.before in
     let p = c.put_near.ensures in
     record {
-      scratch_after = rw (by_read c.before.before.before.before.before.before.before.before.before.before.before.before.before.before.before.before.before.before) at p.scratch_after;
+      scratch_after = rw (by_read
+          c.before.before.before.before.before.before.before.before.before.before.before.before.before.before.before.before.before.before) at p.scratch_after;
       cover_after = p.cover_after;
       grouped = four_grouped a.cover.now a.groups.now a.s.a a.s.b a.s.c a.s.d (c.least-lo.result / 4)
           (c.most-hi.result / 4) (ap (λ (n : ℕ). n / 4) (c.least-lo.ensures ∙ sym ends.0))
@@ -101,7 +104,8 @@ pub returns : goal.returns
 returns c =
     let p = c.put_far.ensures in
     record {
-      scratch_after = rw (by_read c.before.before.before.before.before.before.before.before.before.before.before.before.before.before.before.before.before) at p.scratch_after;
+      scratch_after = rw (by_read c.before.before.before.before.before.before.before.before.before.before.before.before.before.before.before.before.before)
+          at p.scratch_after;
       cover_after = p.cover_after;
       grouped = p.grouped;
     }

@@ -27,8 +27,11 @@ mark-requires c =
 pub bump_four-requires : goal.bump_four-requires
 bump_four-requires c =
     let by = c.args.by in
-    let inside = c.if-cover-p.false in
-    (omega (arith, c.requires.cover_in_bounds, inside), c.requires.low_four (omega (arith, inside)), rw (clean by (omega (arith, c.requires.cover_in_bounds.1))) c.requires.cover_in_bounds.1)
+    let inside = c.if-cover-p.false in (
+      omega (arith, c.requires.cover_in_bounds, inside),
+      c.requires.low_four (omega (arith, inside)),
+      rw (clean by (omega (arith, c.requires.cover_in_bounds.1))) c.requires.cover_in_bounds.1,
+    )
 
 pub returns : goal.returns
 returns c =

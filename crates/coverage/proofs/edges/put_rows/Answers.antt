@@ -25,7 +25,14 @@ touch-requires c =
 
 pub put_near-requires : goal.put_near-requires
 put_near-requires c =
-    record { cover_in_bounds = (c.requires.cover_in_bounds.0, c.requires.fit_rows); at_in_bounds = omega (arith, (near c.before.before.before.before.before.before.before).0, c.last_pixel-hi.ensures) }
+    record {
+      cover_in_bounds = (c.requires.cover_in_bounds.0, c.requires.fit_rows);
+      at_in_bounds = omega (
+        arith,
+        (near c.before.before.before.before.before.before.before).0,
+        c.last_pixel-hi.ensures,
+      );
+    }
 
 pub returns-then-is_near : goal.returns-then-is_near
 returns-then-is_near c =

@@ -26,7 +26,11 @@ returns-then-x-start c =
     let start_fits : SFits w64 c.args.s.start = sfits_of c.struct_told-1.given.0.1 in
     let a = c.args in
     let n = c.nearer in
-    record { lower_bound = (n.ensures.0, n.ensures.1); by_index = all_left a.s a.x n.result n.ensures.0 (ap (le_z (pos n.result)) (sym (to_z-of_z start_fits)) ∙ n.ensures.2) }
+    record {
+      lower_bound = (n.ensures.0, n.ensures.1);
+      by_index = all_left a.s a.x n.result n.ensures.0 (ap (le_z (pos n.result))
+          (sym (to_z-of_z start_fits)) ∙ n.ensures.2);
+    }
 
 pub nearer-requires-then-x-stop : goal.nearer-requires-then-x-stop
 nearer-requires-then-x-stop c =
@@ -56,4 +60,8 @@ returns c =
     let stop_fits : SFits w64 c.args.s.end = sfits_of c.struct_told-1.given.1.0.1 in
     let column_small : c.args.x < 2 ^ 31 = omega (arith, c.requires) in
     let a = c.args in
-    record { lower_bound = (c.requires.0, omega arith); by_index = all_right a.s a.x a.end c.requires.0 (lt_column a.x a.s.end stop_fits column_small c.if-x-stop.false) }
+    record {
+      lower_bound = (c.requires.0, omega arith);
+      by_index = all_right a.s a.x a.end c.requires.0 (lt_column a.x a.s.end stop_fits column_small
+          c.if-x-stop.false);
+    }

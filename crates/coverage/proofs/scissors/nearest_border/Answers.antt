@@ -12,6 +12,10 @@ returns c =
     record {
       lower_bound = (of-a.lower_bound.0, omega (arith, of-a.lower_bound, of-b.lower_bound, of_c.lower_bound, of-d.lower_bound));
       by_index = λ j g l.
-          four (of-a.by_index j g l) (of-b.by_index j g (omega (arith, of-a.lower_bound))) (of_c.by_index j g (omega (arith, of-a.lower_bound, of-b.lower_bound)))
+          four (of-a.by_index j g l) (of-b.by_index j g (omega (arith, of-a.lower_bound))) (of_c.by_index j g (omega (
+            arith,
+            of-a.lower_bound,
+            of-b.lower_bound,
+          )))
           (of-d.by_index j g (omega (arith, of-a.lower_bound, of-b.lower_bound, of_c.lower_bound)));
     }

@@ -15,12 +15,14 @@ use Rattle.coverage.proofs.scissors.scissor_row.Tie as tie
 use Rattle.coverage.proofs.scissors.scissor_row.Lts as lts
 use Rattle.coverage.proofs.scissors.scissor_row.Reads as reads
 
-abbrev columns-held : (c : lts.After-span4 tie.the-claims reads.Pre reads.Post goal.the-invariant-loop-i goal.the-decreases-loop-i tie.handed_clauses) → ℕ → Bool
+abbrev columns-held : (c : lts.After-span4 tie.the-claims reads.Pre reads.Post goal.the-invariant-loop-i goal.the-decreases-loop-i tie.handed_clauses) → ℕ
+    → Bool
 columns-held c x =
     in_span c.span-a.result x || in_span c.span-b.result x
     || in_span c.span-c.result x || in_span c.span-d.result x
 
-held : (c : lts.After-span4 tie.the-claims reads.Pre reads.Post goal.the-invariant-loop-i goal.the-decreases-loop-i tie.handed_clauses) → (x : ℕ) → (columns-held c) x ≡ in_scissors c.args.scissors.now c.args.n x c.args.y
+held : (c : lts.After-span4 tie.the-claims reads.Pre reads.Post goal.the-invariant-loop-i goal.the-decreases-loop-i tie.handed_clauses) → (x : ℕ)
+    → (columns-held c) x ≡ in_scissors c.args.scissors.now c.args.n x c.args.y
 held c x =
     four_same x c.span-a.ensures c.span-b.ensures c.span-c.ensures c.span-d.ensures
     ∙ spans_are c.args.scissors.now c.args.n x c.args.y c.requires.n_bound.0
@@ -31,10 +33,12 @@ x c = c.args.x
 abbrev e : (c : lts.After-nearest_border tie.the-claims reads.Pre reads.Post goal.the-invariant-loop-i goal.the-decreases-loop-i tie.handed_clauses) → ℕ
 e c = c.nearest_border.result - (x c)
 
-within : (c : lts.After-nearest_border tie.the-claims reads.Pre reads.Post goal.the-invariant-loop-i goal.the-decreases-loop-i tie.handed_clauses) → (c.loop-i.i < (e c)) × ((e c) ≤ length c.args.cover.now)
+within : (c : lts.After-nearest_border tie.the-claims reads.Pre reads.Post goal.the-invariant-loop-i goal.the-decreases-loop-i tie.handed_clauses)
+    → (c.loop-i.i < (e c)) × ((e c) ≤ length c.args.cover.now)
 within c = (omega (arith, c.nearest_border.ensures.lower_bound), omega (arith, c.nearest_border.ensures.lower_bound, c.loop-i.invariant.1))
 
-alike : (c : lts.After-nearest_border tie.the-claims reads.Pre reads.Post goal.the-invariant-loop-i goal.the-decreases-loop-i tie.handed_clauses) → (keep : Bool) → keep ≡ columns-held c.before.before.before ((x c) + c.loop-i.i) → (m : ℕ) → c.loop-i.i ≤ m → m < (e c)
+alike : (c : lts.After-nearest_border tie.the-claims reads.Pre reads.Post goal.the-invariant-loop-i goal.the-decreases-loop-i tie.handed_clauses)
+    → (keep : Bool) → keep ≡ columns-held c.before.before.before ((x c) + c.loop-i.i) → (m : ℕ) → c.loop-i.i ≤ m → m < (e c)
     → keep ≡ in_scissors c.args.scissors.now c.args.n ((x c) + m) c.args.y
 alike c keep q m g l = q ∙ sym (c.nearest_border.ensures.by_index ((x c) + m) (omega (arith, g)) (omega (arith, l))) ∙ held c.before.before.before ((x c) + m)
 
@@ -55,13 +59,15 @@ loop-i-preserved c =
     let a = c.args in
     let laid =
     stretch_cut a.scissors.now a.n a.x a.y a.cover.now c.loop-i.cover c.cut.new.part c.loop-i.i (e c.before.before.before.before.before.before)
-    c.kept-keep.result (omega (arith, within c.before.before.before.before.before.before)) (within c.before.before.before.before.before.before).1 c.loop-i.invariant.1 c.loop-i.invariant.2
+    c.kept-keep.result (omega (arith, within c.before.before.before.before.before.before)) (within c.before.before.before.before.before.before).1
+    c.loop-i.invariant.1 c.loop-i.invariant.2
     (alike c.before.before.before.before.before.before c.kept-keep.result c.kept-keep.ensures) c.cut.ensures
     in (
       (within c.before.before.before.before.before.before).1,
       ap length laid
           ∙ over_length (tab (e c.before.before.before.before.before.before) (pixel a.scissors.now a.n a.x a.y a.cover.now)) a.cover.now
-          (subst (λ (m : ℕ). m ≤ length a.cover.now) (sym (tab_length (e c.before.before.before.before.before.before) (pixel a.scissors.now a.n a.x a.y a.cover.now)))
+          (subst (λ (m : ℕ). m ≤ length a.cover.now) (sym (tab_length (e c.before.before.before.before.before.before) (pixel a.scissors.now a.n a.x a.y
+          a.cover.now)))
           (within c.before.before.before.before.before.before).1),
       laid,
     )

@@ -9,7 +9,8 @@ use Rattle.coverage.proofs.scissors.scissor_row.Given as goal
 -- `coverage::scissors::scissor_row` meets its contract. Assumes nothing.
 abbrev pub invariant-loop-i : goal.invariant-loop-i
 invariant-loop-i l =
-    (l.i ≤ length l.initial.cover) × (length l.cover ≡ length l.initial.cover) × (l.cover ≡ over (tab l.i (pixel l.scissors l.n l.x l.y l.initial.cover)) l.initial.cover)
+    (l.i ≤ length l.initial.cover) × (length l.cover ≡ length l.initial.cover)
+    × (l.cover ≡ over (tab l.i (pixel l.scissors l.n l.x l.y l.initial.cover)) l.initial.cover)
 
 abbrev pub decreases-loop-i : goal.decreases-loop-i
 decreases-loop-i l = length l.initial.cover - l.i

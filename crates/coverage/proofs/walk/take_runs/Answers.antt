@@ -76,7 +76,10 @@ take_cell-z-requires c =
     let l = c.loop-e in
     let w = l.invariant.3 in
     let m = c.requires.sums_len.2 in
-    record { p_in_bounds = (omega (arith, l.invariant.1, c.requires.sums_len.0), stands_bounded (length a.marks.now * 4) w.stands m (omega arith)); by_index = λ j. subst (λ (z : ℤ). nat_abs z ≤ 1000000) (sym (numbers_stand a.sums.now l.sums l.e w.zeroed j)) (m.each (l.e * 16 + j)) }
+    record {
+      p_in_bounds = (omega (arith, l.invariant.1, c.requires.sums_len.0), stands_bounded (length a.marks.now * 4) w.stands m (omega arith));
+      by_index = λ j. subst (λ (z : ℤ). nat_abs z ≤ 1000000) (sym (numbers_stand a.sums.now l.sums l.e w.zeroed j)) (m.each (l.e * 16 + j));
+    }
 
 pub overflow_add-from-in-loop-e : goal.overflow_add-from-in-loop-e
 overflow_add-from-in-loop-e c =
@@ -165,4 +168,8 @@ returns c =
     let e : l.e ≡ length a.marks.now = omega (arith, l.invariant.0) in
     let h = expand a.runs.now a.n in
     let f = pixel_of a.nonzero a.sums.now in
-    record { sums_after = walked_sums a.nonzero a.sums.now a.marks.now a.from l.e l.m l.z l.sums l.runs w c.requires.sums_len.0 e; runs_2 = (subst (λ (p : ℕ). Runs l.runs l.m (a.from + p)) e w.runs, l.invariant.2 ∙ c.push-m.ensures.runs_2.1); result_after = l.invariant.4 h ((first_run c.before.before.before.before.before).1 h (sym (append-nil h))) ∙ ap (λ (p : ℕ). h ++ tab p f) e }
+    record {
+      sums_after = walked_sums a.nonzero a.sums.now a.marks.now a.from l.e l.m l.z l.sums l.runs w c.requires.sums_len.0 e;
+      runs_2 = (subst (λ (p : ℕ). Runs l.runs l.m (a.from + p)) e w.runs, l.invariant.2 ∙ c.push-m.ensures.runs_2.1);
+      result_after = l.invariant.4 h ((first_run c.before.before.before.before.before).1 h (sym (append-nil h))) ∙ ap (λ (p : ℕ). h ++ tab p f) e;
+    }

@@ -26,7 +26,10 @@ b c = plain c.args.b c.ranges.b (is_positive c.requires)
 -- b - 1
 abbrev last : goal.Then-a-lt0 → Num
 last c =
-    tight (2 ^ 63 - 1) (said (sub (b c.before) (lit 1)) (pos (d c.before - 1)) (P.eq (P.num (d c.before) ⊖ P.num 1) (P.num (d c.before - 1)) (omega (arith, above_zero c.requires))))
+    tight (2 ^ 63 - 1) (said (sub (b c.before) (lit 1)) (pos (d c.before - 1)) (P.eq (P.num (d c.before) ⊖ P.num 1) (P.num (d c.before - 1)) (omega (
+      arith,
+      above_zero c.requires,
+    ))))
     (record { size = omega (arith, (b c.before).size.size) })
 
 -- a is negative

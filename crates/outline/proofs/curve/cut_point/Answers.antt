@@ -15,11 +15,13 @@ kept : (z : ℤ) → nat_abs z ≤ 8388608 → nat_abs (to_z w32 (of_z w32 z)) �
 kept z h = rw (clean w32 8388608 z tt h) h
 
 -- one axis: its four numbers, as the locals hold them, and what is blended from them
-asked : (a b c d : ℤ) → (i : nat_abs a ≤ 8388608) → (j : nat_abs b ≤ 8388608) → (k : nat_abs c ≤ 8388608) → (l : nat_abs d ≤ 8388608) → (nat_abs (to_z w32 (of_z w32 a)) ≤ 8388608) × (nat_abs (to_z w32 (of_z w32 b)) ≤ 8388608)
+asked : (a b c d : ℤ) → (i : nat_abs a ≤ 8388608) → (j : nat_abs b ≤ 8388608) → (k : nat_abs c ≤ 8388608) → (l : nat_abs d ≤ 8388608)
+    → (nat_abs (to_z w32 (of_z w32 a)) ≤ 8388608) × (nat_abs (to_z w32 (of_z w32 b)) ≤ 8388608)
     × (nat_abs (to_z w32 (of_z w32 c)) ≤ 8388608) × (nat_abs (to_z w32 (of_z w32 d)) ≤ 8388608)
 asked a b c d i j k l = (kept a i, kept b j, kept c k, kept d l)
 
-told : (a b c d : ℤ) → (i : nat_abs a ≤ 8388608) → (j : nat_abs b ≤ 8388608) → (k : nat_abs c ≤ 8388608) → (l : nat_abs d ≤ 8388608) → (degree : ℕ) (w v : Weights) (r : ℤ) → mag r < 2 ^ 31 → w ≡ v
+told : (a b c d : ℤ) → (i : nat_abs a ≤ 8388608) → (j : nat_abs b ≤ 8388608) → (k : nat_abs c ≤ 8388608) → (l : nat_abs d ≤ 8388608)
+    → (degree : ℕ) (w v : Weights) (r : ℤ) → mag r < 2 ^ 31 → w ≡ v
     → r ≡ blended degree w (to_z w32 (of_z w32 a)) (to_z w32 (of_z w32 b)) (to_z w32 (of_z w32 c)) (to_z w32 (of_z w32 d))
     → to_z w32 (of_z w32 r) ≡ blended degree v a b c d
 told a b c d i j k l degree w v r h f e =

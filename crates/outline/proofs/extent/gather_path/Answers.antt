@@ -95,7 +95,13 @@ returns c =
     let pen = l.walk.pen in
     let drawn = drawn_edges a.m pen (line_to pen.start) in
     let few = curve_count (transform a.m pen.current) (transform_curve a.m (line_to pen.start)) in
-    let stored = stored_alike l.ends _ l.count drawn e.result e.ensures.edges_after e.ensures.value (omega (arith, few, l.invariant.1, l.invariant.3, c.requires)) in
+    let stored = stored_alike l.ends _ l.count drawn e.result e.ensures.edges_after e.ensures.value (omega (
+      arith,
+      few,
+      l.invariant.1,
+      l.invariant.3,
+      c.requires,
+    )) in
     record {
       alike = alike_trans stored (alike_trans (alike_more (edges_of l.ends l.count) (edges_to a.m ss cs l.i) drawn l.invariant.4)
           (alike_same (edges_all a.m ss cs l.i l.walk l.invariant.2 a.n last)));

@@ -10,7 +10,14 @@ room m n e = omega arith
 
 pub row_line-l-requires : goal.row_line-l-requires
 row_line-l-requires c =
-    record { limited_points = (c.requires.limited_points.0, c.requires.limited_points.2); x_bound = (omega (arith, c.requires.n_bound.0), c.requires.n_bound.1, c.requires.n_bound.3) }
+    record {
+      limited_points = (c.requires.limited_points.0, c.requires.limited_points.2);
+      x_bound = (
+        omega (arith, c.requires.n_bound.0),
+        c.requires.n_bound.1,
+        c.requires.n_bound.3,
+      );
+    }
 
 pub has_ends_only-requires : goal.has_ends_only-requires
 has_ends_only-requires c =

@@ -49,4 +49,5 @@ returns c =
     let a = c.args in
     let e = placed c.before.before.before.before.before.before.before.before.before.before in
     c.color_row.ensures ∙ rw (ap length e ∙ tab_length a.n _)
-    (colored a.n a.g.spread (t c.before.before.before.before.before.before.before.before.before.before.before.before.before.before.before) _ e a.g.premultiply (stops_in a.ramp.now a.g.count))
+    (colored a.n a.g.spread (t c.before.before.before.before.before.before.before.before.before.before.before.before.before.before.before) _ e
+    a.g.premultiply (stops_in a.ramp.now a.g.count))

@@ -7,7 +7,8 @@ use Rattle.paint.proofs.block.segment_words.Given as goal
 
 -- `block::segment_words` meets its contract: the colours before i are written, and the segment has the ramp's colours.
 abbrev pub invariant-loop-i : goal.invariant-loop-i
-invariant-loop-i l = (l.i ≤ length l.initial.ks) × Serves l.ramp l.count l.s × Begun (λ j. ramp_at (stops_in l.ramp l.count) (t_at (get_or l.initial.ks j 0))) l.initial.ks l.i l.ks
+invariant-loop-i l = (l.i ≤ length l.initial.ks) × Serves l.ramp l.count l.s
+    × Begun (λ j. ramp_at (stops_in l.ramp l.count) (t_at (get_or l.initial.ks j 0))) l.initial.ks l.i l.ks
 
 abbrev pub decreases-loop-i : goal.decreases-loop-i
 decreases-loop-i l = length l.initial.ks - l.i

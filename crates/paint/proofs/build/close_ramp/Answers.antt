@@ -20,7 +20,13 @@ pub returns-then-count-eq0 : goal.returns-then-count-eq0
 returns-then-count-eq0 c =
     let a = c.args in
     let both = ap₂ (λ (p q : Pixel). stop 0 p ∷ stop ramp_unit q ∷ []) c.gray.ensures c.gray-then-count-eq0.ensures in
-    record { written = so_written c.two_stops.ensures (both ∙ sym (closed_none a.ramp.now a.count c.if-count-eq0.true)); lower_bound = (omega arith, omega arith) }
+    record {
+      written = so_written c.two_stops.ensures (both ∙ sym (closed_none a.ramp.now a.count c.if-count-eq0.true));
+      lower_bound = (
+        omega arith,
+        omega arith,
+      );
+    }
 
 pub returns-then-ramp-last-eq-END : goal.returns-then-ramp-last-eq-END
 returns-then-ramp-last-eq-END c =

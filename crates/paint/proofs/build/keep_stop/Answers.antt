@@ -37,7 +37,10 @@ returns-in_default c =
     let r = c.offset_at-o in
     let before = stops_in a.ramp.now a.count in
     let none = kept_none a.stops.now a.i r.result r.ensures (no_offset r.result c.in_default.not-At) in
-    record { written = so_written (none_written a.ramp.now a.count) (sym (ap (λ (l : List Stop). grown before (map (prepared a.premultiply) l)) none)); lower_bound = (omega arith, omega arith) }
+    record {
+      written = so_written (none_written a.ramp.now a.count) (sym (ap (λ (l : List Stop). grown before (map (prepared a.premultiply) l)) none));
+      lower_bound = (omega arith, omega arith);
+    }
 
 pub first_stop-requires : goal.first_stop-requires
 first_stop-requires c =
@@ -48,7 +51,8 @@ returns-then-count-eq0 c =
     let a = c.args in
     let before = stops_in a.ramp.now a.count in
     let call = c.first_stop.ensures in
-    let first = ap (grown before) (kept_is c.before.before.before.before.before.before) ∙ grown_first a.ramp.now a.count (kept c.before.before.before.before.before.before) c.if-count-eq0.true in
+    let first = ap (grown before) (kept_is c.before.before.before.before.before.before)
+    ∙ grown_first a.ramp.now a.count (kept c.before.before.before.before.before.before) c.if-count-eq0.true in
     record { written = so_written call.written (sym first); lower_bound = (omega (arith, c.if-count-eq0.true), omega (arith, call.upper_bound)) }
 
 pub push-requires : goal.push-requires

@@ -26,8 +26,13 @@ loop-i-preserved c =
     let kept = upto l.i (kept_at a.stops.now) in
     let more = ap (λ (r : List Stop). grown r (map (prepared a.premultiply) (kept_at a.stops.now l.i))) l.invariant.3.stops
     ∙ kept_turn a.premultiply a.stops.now l.i kept
-    ∙ ap (λ (r : List Stop). with_first (map (prepared a.premultiply) r)) (sym (upto_more l.i (kept_at a.stops.now))) in
-    (omega arith, omega (arith, k.ensures.lower_bound.1), k.auto.ramp ∙ l.invariant.2, then_written l.invariant.3 k.ensures.lower_bound.0 k.ensures.written more)
+    ∙ ap (λ (r : List Stop). with_first (map (prepared a.premultiply) r)) (sym (upto_more l.i (kept_at a.stops.now))) in (
+      omega arith,
+      omega (arith, k.ensures.lower_bound.1),
+      k.auto.ramp ∙ l.invariant.2,
+      then_written l.invariant.3 k.ensures.lower_bound.0 k.ensures.written
+          more,
+    )
 
 pub shape_of-ramp : goal.shape_of-ramp
 shape_of-ramp c =
@@ -38,4 +43,7 @@ returns c =
     let l = c.loop-i in
     let a = c.args in
     let e : l.i ≡ a.n = omega arith in
-    record { written = so_written l.invariant.3 (ap (λ (k : ℕ). with_first (map (prepared a.premultiply) (upto k (kept_at a.stops.now)))) e); upper_bound = omega arith }
+    record {
+      written = so_written l.invariant.3 (ap (λ (k : ℕ). with_first (map (prepared a.premultiply) (upto k (kept_at a.stops.now)))) e);
+      upper_bound = omega arith;
+    }

@@ -8,7 +8,8 @@ use Rattle.paint.proofs.build.keep_stops.Given as goal
 -- `build::keep_stops` meets its contract: what is kept of the stops before i is written.
 abbrev pub invariant-loop-i : goal.invariant-loop-i
 invariant-loop-i l =
-    (l.i ≤ l.n) × (l.count ≤ l.i + 1) × (length l.ramp ≡ length l.initial.ramp) × Written l.initial.ramp l.ramp l.count (with_first (map (prepared l.premultiply) (upto l.i (kept_at l.stops))))
+    (l.i ≤ l.n) × (l.count ≤ l.i + 1) × (length l.ramp ≡ length l.initial.ramp)
+    × Written l.initial.ramp l.ramp l.count (with_first (map (prepared l.premultiply) (upto l.i (kept_at l.stops))))
 
 abbrev pub decreases-loop-i : goal.decreases-loop-i
 decreases-loop-i l = l.n - l.i

@@ -19,7 +19,8 @@ read : (c : lts.After-less_squared tie.the-claims reads.Pre reads.Post) → to_z
 read c = back w64 c.less_squared-rest.result c.less_squared-rest.type_inv
 
 -- what the test tells of it
-told : (c : lts.After-less_squared tie.the-claims reads.Pre reads.Post) {t : Bool} → le_z (to_z w64 (of_z w64 c.less_squared-rest.result)) (pos 0) ≡ t → le_z c.less_squared-rest.result (pos 0) ≡ t
+told : (c : lts.After-less_squared tie.the-claims reads.Pre reads.Post) {t : Bool} → le_z (to_z w64 (of_z w64 c.less_squared-rest.result)) (pos 0) ≡ t
+    → le_z c.less_squared-rest.result (pos 0) ≡ t
 told c e = rw (read c) at e
 
 above : (c : goal.Else-rest-le0) → pos 0 <ℤ c.less_squared-rest.result

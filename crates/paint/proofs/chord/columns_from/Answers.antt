@@ -52,4 +52,5 @@ pub returns : goal.returns
 returns c =
     let at : ℤ → ℕ = λ z. first_from z c.args.n in
     let columns : ℕ → ℕ → Columns = λ i j. record { from = i; to = j } in
-    ap₂ columns (c.first_from.ensures ∙ ap at (keep w64 (left c.before.before) tt).same) (c.first_from-2.ensures ∙ ap at (keep w64 (right c.before.before) tt).same)
+    ap₂ columns (c.first_from.ensures ∙ ap at (keep w64 (left c.before.before) tt).same) (c.first_from-2.ensures
+    ∙ ap at (keep w64 (right c.before.before) tt).same)

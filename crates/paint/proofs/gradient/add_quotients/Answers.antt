@@ -46,7 +46,10 @@ overflow_sub-result c =
 
 pub returns-then-rest-d : goal.returns-then-rest-d
 returns-then-rest-d c =
-    rw (below c) (λ i. record { whole = (keep w64 (whole c.before.before.before.before.before.before.before.before.before) tt).same i; rest = (keep w64 (rest c.before) tt).same i })
+    rw (below c) (λ i. record {
+      whole = (keep w64 (whole c.before.before.before.before.before.before.before.before.before) tt).same i;
+      rest = (keep w64 (rest c.before) tt).same i;
+    })
 
 pub returns-else-rest-d : goal.returns-else-rest-d
 returns-else-rest-d c =

@@ -19,11 +19,13 @@ rest : (c : lts.After-floor_mod3 tie.the-claims reads.Pre reads.Post) → c.floo
 rest c =
     c.floor_mod-rest.ensures ∙ rw (to_z-of_z c.ranges.t)
 
-odd : (c : lts.After-floor_mod3 tie.the-claims reads.Pre reads.Post) → of_z w64 c.floor_mod-then-mode-eq-REFLECT.result ≡ nat_abs (floor_div (t c) ramp_unit) % 2
+odd : (c : lts.After-floor_mod3 tie.the-claims reads.Pre reads.Post)
+    → of_z w64 c.floor_mod-then-mode-eq-REFLECT.result ≡ nat_abs (floor_div (t c) ramp_unit) % 2
 odd c =
     let q = c.floor_div in
     let e : q.result ≡ floor_div (t c) ramp_unit = q.ensures ∙ rw (to_z-of_z c.ranges.t) in
-    ap (of_z w64) c.floor_mod-then-mode-eq-REFLECT.ensures ∙ ap (λ (z : ℤ). floor_mod z 2) (back w64 q.result q.type_inv ∙ e) ∙ parity (floor_div (t c) ramp_unit)
+    ap (of_z w64) c.floor_mod-then-mode-eq-REFLECT.ensures ∙ ap (λ (z : ℤ). floor_mod z 2) (back w64 q.result q.type_inv ∙ e)
+    ∙ parity (floor_div (t c) ramp_unit)
 
 abbrev back_again : goal.Then-floor_mod-eq1 → Num
 back_again c =

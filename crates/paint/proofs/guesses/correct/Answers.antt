@@ -5,7 +5,8 @@ use Rattle.paint.proofs.guesses.correct.Tie as tie
 use Rattle.paint.proofs.guesses.correct.Lts as lts
 use Rattle.paint.proofs.guesses.correct.Reads as reads
 
-inside : (c : lts.In-loop tie.the-claims reads.Pre reads.Post goal.the-invariant-loop-i goal.the-decreases-loop-i) → let n = length c.args.ks.now in (c.loop-i.i < n) × (n ≤ 256)
+inside : (c : lts.In-loop tie.the-claims reads.Pre reads.Post goal.the-invariant-loop-i goal.the-decreases-loop-i) → let n = length c.args.ks.now in
+    (c.loop-i.i < n) × (n ≤ 256)
 inside c = (omega (arith, c.loop-i-test.true, c.loop-i.invariant), c.requires.2)
 
 pub loop-i-init : goal.loop-i-init

@@ -32,7 +32,8 @@ placed c =
     ∙ whole_is_t a.g.points c.requires.limited_points.1 (a.x + l.i) a.y)
 
 -- what the local holds
-length-is : (c : lts.Start tie.the-claims reads.Pre reads.Post goal.the-invariant-loop-i goal.the-decreases-loop-i tie.handed_clauses) → to_z w64 (of_z w64 c.args.d) ≡ squared_length c.args.g.points
+length-is : (c : lts.Start tie.the-claims reads.Pre reads.Post goal.the-invariant-loop-i goal.the-decreases-loop-i tie.handed_clauses)
+    → to_z w64 (of_z w64 c.args.d) ≡ squared_length c.args.g.points
 length-is c = to_z-of_z c.ranges.d ∙ c.requires.first_value.2
 
 pub loop-i-init : goal.loop-i-init

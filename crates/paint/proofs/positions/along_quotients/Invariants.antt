@@ -13,7 +13,8 @@ place g x y i = position_of (mapped g.spread (linear_t g.points (x + i) y))
 
 abbrev pub invariant-loop-i : goal.invariant-loop-i
 invariant-loop-i l =
-    (l.i ≤ length l.initial.ks) × (length l.ks ≡ length l.initial.ks) × (l.q ≡ quotient_at l.g.points (l.x + l.i) l.y) × (l.ks ≡ over (tab l.i (place l.g l.x l.y)) l.initial.ks)
+    (l.i ≤ length l.initial.ks) × (length l.ks ≡ length l.initial.ks) × (l.q ≡ quotient_at l.g.points (l.x + l.i) l.y)
+    × (l.ks ≡ over (tab l.i (place l.g l.x l.y)) l.initial.ks)
 
 abbrev pub decreases-loop-i : goal.decreases-loop-i
 decreases-loop-i l = length l.initial.ks - l.i

@@ -47,7 +47,15 @@ quotient_at-q-requires c =
 
 pub along_quotients-requires : goal.along_quotients-requires
 along_quotients-requires c =
-    record { limited_points = c.requires.limited_points; ks_bound = (c.requires.ks_bound.0, c.requires.ks_bound.1); first_value = (c.quotient_at-q.ensures, c.row_step-step.ensures, length-is c) }
+    record {
+      limited_points = c.requires.limited_points;
+      ks_bound = (c.requires.ks_bound.0, c.requires.ks_bound.1);
+      first_value = (
+        c.quotient_at-q.ensures,
+        c.row_step-step.ensures,
+        length-is c,
+      );
+    }
 
 pub returns : goal.returns
 returns c =

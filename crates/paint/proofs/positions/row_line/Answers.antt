@@ -29,7 +29,8 @@ step_is : (c : goal.After-in_parts-then-has_line)
     → let a = c.args in
     to_z w64 (of_z w64 c.in_parts-then-has_line.result) ≡ in_parts (row_step a.g.points) (squared_length a.g.points)
 step_is c =
-    back w64 c.in_parts-then-has_line.result c.in_parts-then-has_line.type_inv ∙ c.in_parts-then-has_line.ensures ∙ ap₂ in_parts c.row_step-step.ensures (length-is c.before.before.before.before)
+    back w64 c.in_parts-then-has_line.result c.in_parts-then-has_line.type_inv ∙ c.in_parts-then-has_line.ensures
+    ∙ ap₂ in_parts c.row_step-step.ensures (length-is c.before.before.before.before)
 
 pub no_line-requires : goal.no_line-requires
 no_line-requires c =

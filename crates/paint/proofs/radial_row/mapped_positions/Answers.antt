@@ -12,10 +12,12 @@ use Rattle.paint.proofs.radial_row.mapped_positions.Lts as lts
 use Rattle.paint.proofs.radial_row.mapped_positions.Reads as reads
 
 -- ---- D
-d-is : (s : lts.Start tie.the-claims reads.Pre reads.Post goal.the-invariant-loop-i goal.the-decreases-loop-i tie.handed_clauses) → to_z w64 (of_z w64 s.args.d) ≡ radial_d s.args.g.circle
+d-is : (s : lts.Start tie.the-claims reads.Pre reads.Post goal.the-invariant-loop-i goal.the-decreases-loop-i tie.handed_clauses)
+    → to_z w64 (of_z w64 s.args.d) ≡ radial_d s.args.g.circle
 d-is s = to_z-of_z s.ranges.d ∙ s.requires.limited_circle.3
 
-d-fits : (s : lts.Start tie.the-claims reads.Pre reads.Post goal.the-invariant-loop-i goal.the-decreases-loop-i tie.handed_clauses) → let d = to_z w64 (of_z w64 s.args.d) in (pos 0 <ℤ d) × (nat_abs d ≤ 268435456)
+d-fits : (s : lts.Start tie.the-claims reads.Pre reads.Post goal.the-invariant-loop-i goal.the-decreases-loop-i tie.handed_clauses)
+    → let d = to_z w64 (of_z w64 s.args.d) in (pos 0 <ℤ d) × (nat_abs d ≤ 268435456)
 d-fits s =
     let c = s.args.g.circle in
     let h = focal_inside c s.requires.limited_circle.1 s.requires.limited_circle.2 in
@@ -25,13 +27,15 @@ abbrev block : lts.At-loop tie.the-claims reads.Pre reads.Post goal.the-invarian
 block c = length c.args.ks.now
 
 -- the guesses are as many
-long : (c : lts.At-loop tie.the-claims reads.Pre reads.Post goal.the-invariant-loop-i goal.the-decreases-loop-i tie.handed_clauses) → length c.guess_roots.new.ks ≡ block c
+long : (c : lts.At-loop tie.the-claims reads.Pre reads.Post goal.the-invariant-loop-i goal.the-decreases-loop-i tie.handed_clauses)
+    → length c.guess_roots.new.ks ≡ block c
 long c = c.guess_roots.auto.ks
 
 held : (c : goal.In-loop-i) → Held c.loop-i.p
 held c =
     let first = c.place_at-p in
-    held_on c.args.g.circle c.requires.limited_circle.0 c.requires.limited_circle.1 c.requires.limited_circle.2 c.args.y c.requires.ks_bound.1 c.args.x first.result c.loop-i.p c.loop-i.i
+    held_on c.args.g.circle c.requires.limited_circle.0 c.requires.limited_circle.1 c.requires.limited_circle.2 c.args.y c.requires.ks_bound.1 c.args.x
+    first.result c.loop-i.p c.loop-i.i
     (omega (arith, c.loop-i.invariant.few, long c.before, c.requires.ks_bound.0))
     first.ensures
     c.loop-i.invariant.place
@@ -39,8 +43,11 @@ held c =
 placed : (c : goal.After-next_place-p)
     → let g = c.args.g in c.position_of.result ≡ position g (place_t c.loop-i.p (size g))
 placed c =
+    let half = c.before.before.before.before.before.before.before.before.before.before.before.before in
     let t = sum_t c.loop-i.p (held c.before.before.before.before.before.before.before) c.root_near-q.result c.root_near-q.ensures (size c.args.g) in
-    c.position_of.ensures ∙ ap (position c.args.g) (c.t_of.ensures.0 ∙ rw (d-is c.before.before.before.before.before.before.before.before.before.before.before.before.before.before.before.before.before.before.before.before.before.before) t)
+    c.position_of.ensures ∙ ap (position c.args.g) (c.t_of.ensures.0
+    ∙ rw (d-is
+    half.before.before.before.before.before.before.before.before.before.before) t)
 
 -- ---- the loop
 -- the pixel is one of the block
@@ -66,7 +73,8 @@ pub guess_roots-requires : goal.guess_roots-requires
 guess_roots-requires c =
     let first = c.place_at-p in
     let h =
-    held_at c.args.g.circle c.requires.limited_circle.0 c.requires.limited_circle.1 c.requires.limited_circle.2 c.args.y c.requires.ks_bound.1 c.args.x first.result
+    held_at c.args.g.circle c.requires.limited_circle.0 c.requires.limited_circle.1 c.requires.limited_circle.2 c.args.y c.requires.ks_bound.1 c.args.x
+    first.result
     (omega (arith, c.requires.ks_bound.0))
     first.ensures
     in
@@ -90,7 +98,8 @@ root_near-q-requires c =
 
 pub t_of-requires : goal.t_of-requires
 t_of-requires c =
-    let d = d-fits c.before.before.before.before.before.before.before.before.before.before.before.before.before.before.before.before.before.before.before.before in
+    let d = d-fits
+    c.before.before.before.before.before.before.before.before.before.before.before.before.before.before.before.before.before.before.before.before in
     let r = asks_sum c.loop-i.p (held c.before.before.before.before.before) c.root_near-q.result c.root_near-q.ensures in
     (r.0, r.1, d.0, d.1, c.reciprocal-reciprocal.ensures)
 

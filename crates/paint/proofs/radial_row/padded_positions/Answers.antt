@@ -22,13 +22,15 @@ abbrev block : lts.At-loop tie.the-claims reads.Pre reads.Post goal.the-invarian
 block c = length c.args.ks.now
 
 -- the guesses are as many
-long : (c : lts.At-loop tie.the-claims reads.Pre reads.Post goal.the-invariant-loop-i goal.the-decreases-loop-i tie.handed_clauses) → length c.guess_roots.new.ks ≡ block c
+long : (c : lts.At-loop tie.the-claims reads.Pre reads.Post goal.the-invariant-loop-i goal.the-decreases-loop-i tie.handed_clauses)
+    → length c.guess_roots.new.ks ≡ block c
 long c = c.guess_roots.auto.ks
 
 held : (c : goal.In-loop-i) → Held c.loop-i.p
 held c =
     let first = c.place_at-p in
-    held_on c.args.c c.requires.limited_circle.0 c.requires.limited_circle.1 c.requires.limited_circle.2 c.args.y c.requires.ks_bound.1 c.args.x first.result c.loop-i.p c.loop-i.i
+    held_on c.args.c c.requires.limited_circle.0 c.requires.limited_circle.1 c.requires.limited_circle.2 c.args.y c.requires.ks_bound.1 c.args.x
+    first.result c.loop-i.p c.loop-i.i
     (omega (arith, c.loop-i.invariant.few, long c.before, c.requires.ks_bound.0))
     first.ensures
     c.loop-i.invariant.place
@@ -68,7 +70,8 @@ pub guess_roots-requires : goal.guess_roots-requires
 guess_roots-requires c =
     let first = c.place_at-p in
     let h =
-    held_at c.args.c c.requires.limited_circle.0 c.requires.limited_circle.1 c.requires.limited_circle.2 c.args.y c.requires.ks_bound.1 c.args.x first.result (omega (arith, c.requires.ks_bound.0))
+    held_at c.args.c c.requires.limited_circle.0 c.requires.limited_circle.1 c.requires.limited_circle.2 c.args.y c.requires.ks_bound.1 c.args.x
+    first.result (omega (arith, c.requires.ks_bound.0))
     first.ensures
     in
     record { q_bound = asks_guess first.result h; t = (c.most_root.ensures, c.requires.ks_bound.2) }
@@ -94,8 +97,11 @@ numerator-requires c =
     asks_sum c.loop-i.p (held c.before.before.before.before.before) c.root_near-q.result c.root_near-q.ensures
 
 pub padded_position-requires : goal.padded_position-requires
-padded_position-requires c =
-    (some c.before.before.before.before.before.before.before.before.before.before.before.before.before.before.before.before.before.before.before, c.requires.limited_circle.4, refl)
+padded_position-requires c = (
+  some c.before.before.before.before.before.before.before.before.before.before.before.before.before.before.before.before.before.before.before,
+  c.requires.limited_circle.4,
+  refl,
+)
 
 pub offset_bounds-ks-i-in-loop-i : goal.offset_bounds-ks-i-in-loop-i
 offset_bounds-ks-i-in-loop-i c =

@@ -38,7 +38,8 @@ g c =
     back w64 o.result o.type_inv ∙ o.ensures.0
     ∙ ap₂ ◌-ℤ◌ (clean w64 16384 c.args.c.fy tt c.requires.0.fy) (clean w64 16384 c.args.c.cy tt c.requires.0.cy)
 
-inner : (c : lts.After-struct_told7 tie.the-claims reads.Pre reads.Post tie.handed_clauses) → pos 0 <ℤ inside (circle c).r ((circle c).fx -ℤ (circle c).cx) ((circle c).fy -ℤ (circle c).cy)
+inner : (c : lts.After-struct_told7 tie.the-claims reads.Pre reads.Post tie.handed_clauses)
+    → pos 0 <ℤ inside (circle c).r ((circle c).fx -ℤ (circle c).cx) ((circle c).fy -ℤ (circle c).cy)
 unfolding radial_d
 inner c = focal_inside c.args.c c.requires.1 c.requires.2
 

@@ -46,7 +46,13 @@ next-is : (c : goal.After-under_root)
     ≡ q-at c.before.before.before (c.args.dx +ℤ pos 16)
 next-is c =
     let q = c.under_root in
-    back w64 q.result q.type_inv ∙ q.ensures ∙ rw ((r c.before.before.before).same, (keep w64 (next c.before.before.before) tt).same, (dy c.before.before.before).same, (f c.before.before.before).same, (g c.before.before.before).same)
+    back w64 q.result q.type_inv ∙ q.ensures ∙ rw (
+      (r c.before.before.before).same,
+      (keep w64 (next c.before.before.before) tt).same,
+      (dy c.before.before.before).same,
+      (f c.before.before.before).same,
+      (g c.before.before.before).same,
+    )
 
 along-is : (c : goal.After-along) → let a = c.args in to_z w64 (of_z w64 c.along.result) ≡ along a.dx a.dy a.f a.g
 along-is c =
@@ -76,7 +82,8 @@ overflow_add-dx c =
 pub under_root-requires : goal.under_root-requires
 under_root-requires c =
     let p = c.requires.r_bound in
-    rw ((r c.before.before).same, (keep w64 (next c.before.before) tt).same, (dy c.before.before).same, (f c.before.before).same, (g c.before.before).same) (p.0, (next c.before.before).size.size, omega arith, p.3, p.4)
+    rw ((r c.before.before).same, (keep w64 (next c.before.before) tt).same, (dy c.before.before).same, (f c.before.before).same, (g c.before.before).same)
+    (p.0, (next c.before.before).size.size, omega arith, p.3, p.4)
 
 pub less-requires : goal.less-requires
 less-requires c =

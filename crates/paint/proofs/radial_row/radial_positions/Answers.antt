@@ -21,13 +21,31 @@ d-above c = focal_inside c.args.g.circle c.requires.limited_circle.1 c.requires.
 
 pub overflow_cast-size : goal.overflow_cast-size
 overflow_cast-size c =
-    rw (d-is c.before) (natural_cast _ (is_positive (d-above c.before)), record { fits = omega (arith, d_small c.args.g.circle c.requires.limited_circle.0.r (d-above c.before)) })
+    rw (d-is c.before) (
+      natural_cast _ (is_positive (d-above c.before)),
+      record {
+        fits = omega (
+          arith,
+          d_small c.args.g.circle c.requires.limited_circle.0.r (d-above c.before),
+        );
+      },
+    )
 
 pub padded_positions-requires : goal.padded_positions-requires
 padded_positions-requires c =
     let p = c.requires in
     let product = c.has_product.ensures c.if-has_product.true in
-    record { limited_circle = (p.limited_circle.0, p.limited_circle.1, p.limited_circle.2, rw (d-is c.before.before.before.before.before) (sym (is_positive (d-above c.before.before.before.before.before))), product); ks_bound = p.ks_bound }
+    record {
+      limited_circle = (
+        p.limited_circle.0,
+        p.limited_circle.1,
+        p.limited_circle.2,
+        rw (d-is c.before.before.before.before.before)
+            (sym (is_positive (d-above c.before.before.before.before.before))),
+        product,
+      );
+      ks_bound = p.ks_bound;
+    }
 
 pub returns-then-has_product : goal.returns-then-has_product
 returns-then-has_product c =

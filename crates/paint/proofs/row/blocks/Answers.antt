@@ -19,7 +19,8 @@ ends c =
     let p = c.requires.held_gradient in
     (omega (arith, e, t, p.2), omega (arith, e, p.3), omega (arith, e))
 
-row-long : (c : lts.At-loop tie.the-claims reads.Pre reads.Post goal.the-invariant-loop-i goal.the-decreases-loop-i tie.handed_clauses) → length c.loop-i.row ≡ c.args.n * 4
+row-long : (c : lts.At-loop tie.the-claims reads.Pre reads.Post goal.the-invariant-loop-i goal.the-decreases-loop-i tie.handed_clauses)
+    → length c.loop-i.row ≡ c.args.n * 4
 row-long c = c.loop-i.invariant.1.long ∙ c.requires.n_bound.2
 
 pub loop-i-init : goal.loop-i-init
@@ -68,7 +69,15 @@ block-requires c =
     let i = c.loop-i.i in
     let e = c.least-e.result in
     let row = part_length c.loop-i.row (i * 4) (e * 4) (omega (arith, h.0)) (omega (arith, h.2, row-long c.before.before.before.before)) in
-    record { held_gradient = (c.requires.held_gradient.0, c.requires.held_gradient.1); n_bound = (omega (arith, h.0, h.2, c.requires.n_bound.0), c.requires.n_bound.1, omega (arith, row, h.0), omega (arith, h.1)) }
+    record {
+      held_gradient = (c.requires.held_gradient.0, c.requires.held_gradient.1);
+      n_bound = (
+        omega (arith, h.0, h.2, c.requires.n_bound.0),
+        c.requires.n_bound.1,
+        omega (arith, row, h.0),
+        omega (arith, h.1),
+      );
+    }
 
 pub loop-i-smaller : goal.loop-i-smaller
 loop-i-smaller c =

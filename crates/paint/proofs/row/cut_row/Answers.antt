@@ -17,13 +17,15 @@ abbrev paint : lts.Start tie.the-claims reads.Pre reads.Post tie.handed_clauses 
 paint s k = radial_at s.args.g (stops_in s.args.ramp.now s.args.g.count) (s.args.x + k) s.args.y
 
 -- how the columns lie
-order : (s : lts.Start tie.the-claims reads.Pre reads.Post tie.handed_clauses) → let a = s.args in (a.from ≤ a.to) × (a.to ≤ a.n) × (a.x + a.n ≤ 1024) × (length a.row.now ≡ a.n * 4)
+order : (s : lts.Start tie.the-claims reads.Pre reads.Post tie.handed_clauses) → let a = s.args in (a.from ≤ a.to) × (a.to ≤ a.n) × (a.x + a.n ≤ 1024)
+    × (length a.row.now ≡ a.n * 4)
 order s = (s.requires.held_gradient.3.order, s.requires.held_gradient.3.few, s.requires.n_bound.0, s.requires.n_bound.2)
 
 abbrev first : lts.After-fill_row tie.the-claims reads.Pre reads.Post tie.handed_clauses → List ℕ
 first c = let a = c.args in c.fill_row.new.s ++ drop (a.from * 4 - 0) a.row.now
 
-first-stored : (c : lts.After-fill_row tie.the-claims reads.Pre reads.Post tie.handed_clauses) → Stored (paint c.before.before.before.before.before) c.args.row.now c.args.from (first c)
+first-stored : (c : lts.After-fill_row tie.the-claims reads.Pre reads.Post tie.handed_clauses)
+    → Stored (paint c.before.before.before.before.before) c.args.row.now c.args.from (first c)
 first-stored c =
     let a = c.args in
     let h = order c.before.before.before.before.before in
@@ -40,25 +42,29 @@ second c =
     let a = c.args in
     take (a.from * 4) l ++ (c.sloped_row.new.row ++ drop (a.to * 4 - a.from * 4) (drop (a.from * 4) l))
 
-second-stored : (c : lts.After-sloped_row tie.the-claims reads.Pre reads.Post tie.handed_clauses) → Stored (paint c.before.before.before.before.before.before.before.before.before) c.args.row.now c.args.to (second c)
+second-stored : (c : lts.After-sloped_row tie.the-claims reads.Pre reads.Post tie.handed_clauses)
+    → Stored (paint c.before.before.before.before.before.before.before.before.before) c.args.row.now c.args.to (second c)
 second-stored c =
     let a = c.args in
     let h = order c.before.before.before.before.before.before.before.before.before in
     let same : c.sloped_row.new.row ≡ run (a.to - a.from) (λ j. paint c.before.before.before.before.before.before.before.before.before (a.from + j)) =
     c.sloped_row.ensures
-    ∙ run_same (a.to - a.from) (λ j. radial_at a.g (stops_in a.ramp.now a.g.count) (a.x + a.from + j) a.y) (λ j. paint c.before.before.before.before.before.before.before.before.before (a.from + j))
+    ∙ run_same (a.to - a.from) (λ j. radial_at a.g (stops_in a.ramp.now a.g.count) (a.x + a.from + j) a.y)
+    (λ j. paint c.before.before.before.before.before.before.before.before.before (a.from + j))
     (λ j m. let w : a.x + a.from + j ≡ a.x + (a.from + j) = omega arith in rw w) in
     stored_part (first-stored c.before.before.before.before) c.sloped_row.new.row a.to h.0 (omega (arith, h)) same
 
 third-stored : (c : lts.After-fill_row2 tie.the-claims reads.Pre reads.Post tie.handed_clauses)
     → let l = second c.before.before.before.before in
     let a = c.args in
-    Stored (paint c.before.before.before.before.before.before.before.before.before.before.before.before.before) a.row.now a.n (take (a.to * 4) l ++ (c.fill_row-2.new.s ++ drop (a.n * 4 - a.to * 4) (drop (a.to * 4) l)))
+    Stored (paint c.before.before.before.before.before.before.before.before.before.before.before.before.before) a.row.now a.n (take (a.to * 4) l ++
+    (c.fill_row-2.new.s ++ drop (a.n * 4 - a.to * 4) (drop (a.to * 4) l)))
 third-stored c =
     let a = c.args in
     let h = order c.before.before.before.before.before.before.before.before.before.before.before.before.before in
     let p = c.gradient_color-p in
-    let same : c.fill_row-2.new.s ≡ run (a.n - a.to) (λ j. paint c.before.before.before.before.before.before.before.before.before.before.before.before.before (a.to + j)) =
+    let same : c.fill_row-2.new.s ≡ run (a.n - a.to)
+    (λ j. paint c.before.before.before.before.before.before.before.before.before.before.before.before.before (a.to + j)) =
     c.fill_row-2.ensures ∙ last_run a.g (stops_in a.ramp.now a.g.count) a.x a.y a.to (a.n - a.to) p.result c.requires.held_gradient.2 p.ensures
     (λ j l. c.requires.held_gradient.3.behind (a.to + j) (omega arith) (omega arith)) in
     stored_part (second-stored c.before.before.before.before) c.fill_row-2.new.s a.n h.1 (omega (arith, h)) same
@@ -128,7 +134,11 @@ pub sloped_row-requires : goal.sloped_row-requires
 sloped_row-requires c =
     let a = c.args in
     let h = order c.before.before.before.before.before.before.before.before.before in
-    let part = part_length (first c.before.before.before.before) (a.from * 4) (a.to * 4) (omega (arith, h)) (omega (arith, h, first_long c.before.before.before.before)) in
+    let part = part_length (first c.before.before.before.before) (a.from * 4) (a.to * 4) (omega (arith, h)) (omega (
+      arith,
+      h,
+      first_long c.before.before.before.before,
+    )) in
     record { held_gradient = (c.requires.held_gradient.0, c.requires.held_gradient.1); n_bound = (omega (arith, h), c.requires.n_bound.1, part ∙ omega arith) }
 
 pub slice_bounds-fill_row-count-2 : goal.slice_bounds-fill_row-count-2
@@ -151,7 +161,8 @@ pub fill_row-requires-2 : goal.fill_row-requires-2
 fill_row-requires-2 c =
     let a = c.args in
     let h = order c.before.before.before.before.before.before.before.before.before.before.before.before.before in
-    part_length (second c.before.before.before.before) (a.to * 4) (a.n * 4) (omega (arith, h)) (omega (arith, second-long c.before.before.before.before)) ∙ omega arith
+    part_length (second c.before.before.before.before) (a.to * 4) (a.n * 4) (omega (arith, h)) (omega (arith, second-long c.before.before.before.before))
+    ∙ omega arith
 
 pub shape_of-row : goal.shape_of-row
 shape_of-row c =

@@ -11,7 +11,8 @@ use Rattle.paint.proofs.row.radial_row.Lts as lts
 use Rattle.paint.proofs.row.radial_row.Reads as reads
 
 -- what the test tells of the radius
-told : (s : lts.Start tie.the-claims reads.Pre reads.Post tie.handed_clauses) {t : Bool} → le_z (to_z w64 (of_z w64 s.args.g.circle.r)) (pos 0) ≡ t → le_z s.args.g.circle.r (pos 0) ≡ t
+told : (s : lts.Start tie.the-claims reads.Pre reads.Post tie.handed_clauses) {t : Bool} → le_z (to_z w64 (of_z w64 s.args.g.circle.r)) (pos 0) ≡ t
+    → le_z s.args.g.circle.r (pos 0) ≡ t
 told s e = rw (clean w64 16384 s.args.g.circle.r tt s.requires.limited_circle.0.r) at e
 
 -- a radius above 0
@@ -31,7 +32,8 @@ returns-then-c-le0 c =
     let a = c.args in
     let p = c.gradient_color-p in
     c.fill_row.ensures
-    ∙ without_run a.g (stops_in a.ramp.now a.g.count) a.x a.y a.n p.result (told c.before.before.before.before.before.before.before.before.before.before.before.before c.if-c-le0.true) p.ensures
+    ∙ without_run a.g (stops_in a.ramp.now a.g.count) a.x a.y a.n p.result
+    (told c.before.before.before.before.before.before.before.before.before.before.before.before c.if-c-le0.true) p.ensures
 
 pub pads-requires : goal.pads-requires
 pads-requires c =
@@ -39,7 +41,15 @@ pads-requires c =
 
 pub padded_row-requires : goal.padded_row-requires
 padded_row-requires c =
-    record { held_gradient = (c.requires.limited_circle, some c.before.before.before.before, leaves_t c.args.g.spread (sym c.pads.ensures ∙ c.if-pads.true)); n_bound = c.requires.n_bound }
+    record {
+      held_gradient = (
+        c.requires.limited_circle,
+        some c.before.before.before.before,
+        leaves_t c.args.g.spread (sym c.pads.ensures
+            ∙ c.if-pads.true),
+      );
+      n_bound = c.requires.n_bound;
+    }
 
 pub returns-then-pads : goal.returns-then-pads
 returns-then-pads c =

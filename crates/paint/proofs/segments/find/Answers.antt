@@ -22,7 +22,8 @@ returns-then-k-eq-BEHIND c =
     let a = c.args in
     let low = ap (λ (s : Segment). s.low) c.between-then-k-eq-BEHIND.ensures in
     let to = ap (λ (s : Segment). s.to) c.between-then-k-eq-BEHIND.ensures in (
-      serves_last a.ramp.now a.count c.requires.0 c.between-then-k-eq-BEHIND.result _ c.stop_color-c-then-k-eq-BEHIND.ensures c.between-then-k-eq-BEHIND.ensures,
+      serves_last a.ramp.now a.count c.requires.0 c.between-then-k-eq-BEHIND.result _ c.stop_color-c-then-k-eq-BEHIND.ensures
+          c.between-then-k-eq-BEHIND.ensures,
       omega (arith, low, c.if-k-eq-BEHIND.true),
       omega (arith, to, c.if-k-eq-BEHIND.true),
     )

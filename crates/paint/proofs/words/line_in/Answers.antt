@@ -5,10 +5,12 @@ use Rattle.paint.proofs.words.line_in.Goals as goal
 
 -- as much of the planes as there are pixels
 left-long : (c : goal.After-line_planes-arg-3-1) → let n = length c.args.row.now / 4 in length (take (n - 0) (drop 0 c.args.left.now)) ≡ n
-left-long c = part_length c.args.left.now 0 (length c.args.row.now / 4) (omega arith) (omega (arith, c.requires.first_bound.2, c.requires.row_len.1)) ∙ omega arith
+left-long c = part_length c.args.left.now 0 (length c.args.row.now / 4) (omega arith) (omega (arith, c.requires.first_bound.2, c.requires.row_len.1))
+    ∙ omega arith
 
 right-long : (c : goal.After-line_planes-arg-3-1) → let n = length c.args.row.now / 4 in length (take (n - 0) (drop 0 c.args.right.now)) ≡ n
-right-long c = part_length c.args.right.now 0 (length c.args.row.now / 4) (omega arith) (omega (arith, c.requires.first_bound.3, c.requires.row_len.1)) ∙ omega arith
+right-long c = part_length c.args.right.now 0 (length c.args.row.now / 4) (omega arith) (omega (arith, c.requires.first_bound.3, c.requires.row_len.1))
+    ∙ omega arith
 
 pub slice_bounds-line_planes-end : goal.slice_bounds-line_planes-end
 slice_bounds-line_planes-end c =

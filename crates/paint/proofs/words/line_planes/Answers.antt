@@ -28,7 +28,8 @@ pub mix_finished-requires : goal.mix_finished-requires
 mix_finished-requires c =
     let call = c.line_ts in
     let a = c.args in
-    let on = cut_on_ramp (length a.left.now) (t a.first a.step) _ (written (length a.left.now) _ c.line_ts.ensures.left_after (to_z-of_z c.ranges.first) (to_z-of_z c.ranges.step)) in
+    let on = cut_on_ramp (length a.left.now) (t a.first a.step) _ (written (length a.left.now) _ c.line_ts.ensures.left_after (to_z-of_z c.ranges.first)
+    (to_z-of_z c.ranges.step)) in
     (on, call.ensures.right_after, omega (arith, call.auto.left, c.requires.row_len.2))
 
 pub put_planes-requires : goal.put_planes-requires
@@ -44,5 +45,6 @@ returns c =
     let a = c.args in
     c.put_planes.ensures
     ∙ joined_run c.mix_finished.ensures
-    ∙ cut_run (length a.left.now) (t a.first a.step) _ (written (length a.left.now) _ c.line_ts.ensures.left_after (to_z-of_z c.ranges.first) (to_z-of_z c.ranges.step))
+    ∙ cut_run (length a.left.now) (t a.first a.step) _ (written (length a.left.now) _ c.line_ts.ensures.left_after (to_z-of_z c.ranges.first)
+    (to_z-of_z c.ranges.step))
     (λ t. finished a.premultiply (mix_pixel 0 65536 t a.c a.d))

@@ -27,4 +27,5 @@ returns c =
     subst
     (λ (ts : List ℕ). with-alpha.new.ts ≡ tab (length ts) (λ i. mix_pair a.c.b a.d.b a.c.a a.d.a (get_or ts i 0)))
     c.requires.1 with-alpha.ensures in
-    mixed_planes a.c a.d a.left.now _ _ c.requires.0 (first-bytes c.before.before.before.before.before.before.before.before.before.before.before) (last-bytes c.before.before.before.before.before.before.before.before.before.before.before) pairs.ensures second
+    mixed_planes a.c a.d a.left.now _ _ c.requires.0 (first-bytes c.before.before.before.before.before.before.before.before.before.before.before)
+    (last-bytes c.before.before.before.before.before.before.before.before.before.before.before) pairs.ensures second

@@ -41,5 +41,6 @@ returns c =
     (λ (ts : List ℕ). right.new.ts ≡ tab (length ts) (λ i. mix_pair a.c.b a.d.b a.c.a a.d.a (get_or ts i 0)))
     c.requires.1 right.ensures in
     joined_words
-    (mixed_planes a.c a.d a.left.now _ _ c.requires.0 (first-bytes c.before.before.before.before) (last-bytes c.before.before.before.before) left.ensures second)
+    (mixed_planes a.c a.d a.left.now _ _ c.requires.0 (first-bytes c.before.before.before.before) (last-bytes c.before.before.before.before) left.ensures
+    second)
     (length a.ws.now) _ c.requires.2 c.join.ensures

@@ -37,4 +37,8 @@ returns c =
     let a = c.args in
     let n = length a.left.now in
     let e : l.i ≡ n = omega (arith, c.loop-i-test.false, l.invariant.0, l.invariant.1) in
-    record { left_after = tab_all _ l.left a.left.now l.i n l.invariant.3 e refl; right_after = tab_all _ l.right a.right.now l.i n l.invariant.4 e (sym c.requires.0) }
+    record {
+      left_after = tab_all _ l.left a.left.now l.i n l.invariant.3 e refl;
+      right_after = tab_all _ l.right a.right.now l.i n l.invariant.4 e
+          (sym c.requires.0);
+    }

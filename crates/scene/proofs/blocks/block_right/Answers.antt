@@ -12,13 +12,15 @@ use borrow.Author.Rules.{rules}
 use Rattle.scene.proofs.blocks.block_right.Goals as goal
 
 -- the first number as it should be: the second decides
-right : (s : List ℕ) → (b : ℕ) → (k : Checksum) → (p q : ℕ) → k ≡ checksum_of b s (block_bytes * b) → p ≡ u16_at s (block_bytes * b + payload_bytes) → q ≡ u16_at s (block_bytes * b + payload_bytes + 2)
+right : (s : List ℕ) → (b : ℕ) → (k : Checksum) → (p q : ℕ) → k ≡ checksum_of b s (block_bytes * b) → p ≡ u16_at s (block_bytes * b + payload_bytes)
+    → q ≡ u16_at s (block_bytes * b + payload_bytes + 2)
     → p ≡ k.plain
     → eqb q k.weighted ≡ block_right s b
 unfolding block_right_from
 right s b k p q e f g h = rw (← e, ← f, ← g, eq-eqb p k.plain h)
 
-wrong : (s : List ℕ) → (b : ℕ) → (k : Checksum) → (p : ℕ) → k ≡ checksum_of b s (block_bytes * b) → p ≡ u16_at s (block_bytes * b + payload_bytes) → (p ≡ k.plain → ⊥) → eqb p k.plain ≡ block_right s b
+wrong : (s : List ℕ) → (b : ℕ) → (k : Checksum) → (p : ℕ) → k ≡ checksum_of b s (block_bytes * b) → p ≡ u16_at s (block_bytes * b + payload_bytes)
+    → (p ≡ k.plain → ⊥) → eqb p k.plain ≡ block_right s b
 unfolding block_right_from
 wrong s b k p e f h = rw (← e, ← f, ne_eqb p k.plain h)
 

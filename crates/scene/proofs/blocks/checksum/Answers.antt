@@ -15,7 +15,8 @@ use Rattle.scene.proofs.blocks.checksum.Lts as lts
 use Rattle.scene.proofs.blocks.checksum.Reads as reads
 
 -- a column's share of the second sum
-product : (c : lts.After-column tie.the-claims reads.Pre reads.Post goal.the-invariant-loop-l goal.the-decreases-loop-l) → (c.loop-l.l + 1) * c.column-c.result.all ≤ 36 * 458745
+product : (c : lts.After-column tie.the-claims reads.Pre reads.Post goal.the-invariant-loop-l goal.the-decreases-loop-l)
+    → (c.loop-l.l + 1) * c.column-c.result.all ≤ 36 * 458745
 product c =
     mul-le-mul {n₁ = c.loop-l.l + 1} {m₁ = c.column-c.result.all} {n₂ = 36} {m₂ = 458745} (omega arith) c.column-c.ensures.1
 

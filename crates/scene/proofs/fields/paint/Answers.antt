@@ -43,6 +43,12 @@ pub returns-else-kind-eq-PAINT_LINEAR : goal.returns-else-kind-eq-PAINT_LINEAR
 unfolding paint_of
 returns-else-kind-eq-PAINT_LINEAR c =
     let type = c.paint_type-kind in (
-      rw (← type.ensures, ne_eqb type.result paint_radial c.if-kind-eq-PAINT_RADIAL.false, ne_eqb type.result paint_linear c.if-kind-eq-PAINT_LINEAR.false, c.color.ensures),
-      other (paint_type_of c.args.d.now) c.requires.1 (λ e. c.if-kind-eq-PAINT_RADIAL.false (type.ensures ∙ e)) (λ e. c.if-kind-eq-PAINT_LINEAR.false (type.ensures ∙ e)),
+      rw (
+        ← type.ensures,
+        ne_eqb type.result paint_radial c.if-kind-eq-PAINT_RADIAL.false,
+        ne_eqb type.result paint_linear c.if-kind-eq-PAINT_LINEAR.false,
+        c.color.ensures,
+      ),
+      other (paint_type_of c.args.d.now) c.requires.1 (λ e. c.if-kind-eq-PAINT_RADIAL.false (type.ensures
+          ∙ e)) (λ e. c.if-kind-eq-PAINT_LINEAR.false (type.ensures ∙ e)),
     )

@@ -38,17 +38,20 @@ to-transform entry rest = (to-lists entry) (or_else (transform_rules entry.args.
 abbrev to-flat : (entry : lts.Start tie.the-claims reads.Pre reads.Post tie.handed_clauses) → FieldFault → FieldFault
 to-flat entry rest = (to-transform entry) (or_else (flat_rule (draw entry)) rest)
 
-past_head : (headed : lts.Else1 tie.the-claims reads.Pre reads.Post tie.handed_clauses) (f rest : FieldFault) → f ≡ rest → f ≡ from-head headed.before.before.before.before rest
+past_head : (headed : lts.Else1 tie.the-claims reads.Pre reads.Post tie.handed_clauses) (f rest : FieldFault) → f ≡ rest
+    → f ≡ from-head headed.before.before.before.before rest
 past_head headed f rest e =
     let head = headed.head_rules-head in
     sooner_second code head.result _ f rest head.ensures headed.if-head-ne-ACCEPTED.false e
 
-past-floats : (measured : lts.Else2 tie.the-claims reads.Pre reads.Post tie.handed_clauses) (f rest : FieldFault) → f ≡ rest → f ≡ to-floats measured.before.before.before.before.before.before.before rest
+past-floats : (measured : lts.Else2 tie.the-claims reads.Pre reads.Post tie.handed_clauses) (f rest : FieldFault) → f ≡ rest
+    → f ≡ to-floats measured.before.before.before.before.before.before.before rest
 past-floats measured f rest e =
     let floats = measured.float_rules-floats in
     past_head measured.before.before.before f _ (sooner_second code floats.result _ f rest floats.ensures measured.if-floats-ne-ACCEPTED.false e)
 
-past-lists : (listed : lts.Else3 tie.the-claims reads.Pre reads.Post tie.handed_clauses) (f rest : FieldFault) → f ≡ rest → f ≡ to-lists listed.before.before.before.before.before.before.before.before.before.before rest
+past-lists : (listed : lts.Else3 tie.the-claims reads.Pre reads.Post tie.handed_clauses) (f rest : FieldFault) → f ≡ rest
+    → f ≡ to-lists listed.before.before.before.before.before.before.before.before.before.before rest
 past-lists listed f rest e =
     let lists = listed.list_rules-lists in
     past-floats listed.before.before.before f _ (sooner_second code lists.result _ f rest lists.ensures listed.if-lists-ne-ACCEPTED.false e)
@@ -71,9 +74,11 @@ counted headed =
     head_counted (draw headed.before.before.before.before) headed.args.lent headed.args.edition
     (sym (ap code headed.head_rules-head.ensures) ∙ headed.if-head-ne-ACCEPTED.false)
 
-within : (measured : lts.Else2 tie.the-claims reads.Pre reads.Post tie.handed_clauses) → matrix_in_limits (matrix_of (draw measured.before.before.before.before.before.before.before)) ≡ true
+within : (measured : lts.Else2 tie.the-claims reads.Pre reads.Post tie.handed_clauses)
+    → matrix_in_limits (matrix_of (draw measured.before.before.before.before.before.before.before)) ≡ true
 within measured =
-    matrix_within (draw measured.before.before.before.before.before.before.before) (sym (ap code measured.float_rules-floats.ensures) ∙ measured.if-floats-ne-ACCEPTED.false)
+    matrix_within (draw measured.before.before.before.before.before.before.before) (sym (ap code measured.float_rules-floats.ensures)
+    ∙ measured.if-floats-ne-ACCEPTED.false)
 
 -- ---- the stage that is met
 pub returns-then-head-ne-ACCEPTED : goal.returns-then-head-ne-ACCEPTED

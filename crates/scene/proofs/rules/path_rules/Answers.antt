@@ -22,7 +22,9 @@ draw walked = walked.args.d.now
 abbrev edition : (walked : lts.After-check tie.the-claims reads.Pre reads.Post tie.handed_clauses) → ℕ
 edition walked = walked.args.edition
 
-answer : (walked : lts.After-check tie.the-claims reads.Pre reads.Post tie.handed_clauses) → walked.check-checked.result ≡ checked_to (fixed_matrix (matrix_of (draw walked))) (segments_of (draw walked)) (coordinates_of (edition walked) (draw walked)) (segment_count (draw walked))
+answer : (walked : lts.After-check tie.the-claims reads.Pre reads.Post tie.handed_clauses)
+    → walked.check-checked.result ≡ checked_to (fixed_matrix (matrix_of (draw walked))) (segments_of (draw walked)) (coordinates_of (edition walked)
+    (draw walked)) (segment_count (draw walked))
 answer walked =
     checked_of (edition walked) (draw walked) _ _ _ _ walked.check-checked.result
     walked.fixed_matrix.ensures walked.segments.ensures walked.coordinates.ensures walked.segment_count-n.ensures.0
@@ -33,12 +35,14 @@ segment : (walked : lts.After-check tie.the-claims reads.Pre reads.Post tie.hand
 segment walked = omega (arith, path_segment (edition walked) (draw walked) walked.check-checked.result (answer walked), walked.requires.d_len.1)
 
 -- the coordinates used, where there is none
-used : (c : lts.After-struct_known3 tie.the-claims reads.Pre reads.Post tie.handed_clauses) → c.coordinates_at.result + 2 * c.check-checked.result.used ≤ draw_bytes
+used : (c : lts.After-struct_known3 tie.the-claims reads.Pre reads.Post tie.handed_clauses)
+    → c.coordinates_at.result + 2 * c.check-checked.result.used ≤ draw_bytes
 used c =
     omega (
       arith,
       c.coordinates_at.ensures.0,
-      path_used (edition c.before.before.before.before.before) (draw c.before.before.before.before.before) c.check-checked.result (answer c.before.before.before.before.before) c.if-fault-ne-ACCEPTED.false c.requires.d_len.0,
+      path_used (edition c.before.before.before.before.before) (draw c.before.before.before.before.before) c.check-checked.result
+          (answer c.before.before.before.before.before) c.if-fault-ne-ACCEPTED.false c.requires.d_len.0,
     )
 
 pub check-checked-requires : goal.check-checked-requires
@@ -59,7 +63,8 @@ overflow_cast-result c =
 
 pub returns-then-fault-ne-ACCEPTED : goal.returns-then-fault-ne-ACCEPTED
 returns-then-fault-ne-ACCEPTED c =
-    path_refused (edition c.before.before.before.before.before) (draw c.before.before.before.before.before) c.check-checked.result (answer c.before.before.before.before.before) c.if-fault-ne-ACCEPTED.true
+    path_refused (edition c.before.before.before.before.before) (draw c.before.before.before.before.before) c.check-checked.result
+    (answer c.before.before.before.before.before) c.if-fault-ne-ACCEPTED.true
 
 pub overflow_mul-past_used : goal.overflow_mul-past_used
 overflow_mul-past_used c =
@@ -74,4 +79,6 @@ returns c =
     let count = c.segment_count-n in
     c.or_else.ensures
     ∙ rw (c.unused.ensures, c.unused-past_coordinates.ensures, c.coordinates_at.ensures.0, count.ensures.0)
-    (path_accepted (edition c.before.before.before.before.before.before.before.before.before) (draw c.before.before.before.before.before.before.before.before.before) c.check-checked.result (answer c.before.before.before.before.before.before.before.before.before) c.if-fault-ne-ACCEPTED.false)
+    (path_accepted (edition c.before.before.before.before.before.before.before.before.before)
+    (draw c.before.before.before.before.before.before.before.before.before) c.check-checked.result
+    (answer c.before.before.before.before.before.before.before.before.before) c.if-fault-ne-ACCEPTED.false)

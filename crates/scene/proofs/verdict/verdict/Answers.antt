@@ -48,7 +48,9 @@ block_right-requires c =
 
 pub returns-then-not-block_right : goal.returns-then-not-block_right
 returns-then-not-block_right c =
-    c.fault-then-not-block_right.ensures ∙ sym (bad_check (lent c.before.before.before.before) (scene c.before.before.before.before) (is_whole c.before.before.before.before) (sym c.block_right.ensures ∙ not-true _ c.if-not-block_right.true-raw))
+    c.fault-then-not-block_right.ensures
+    ∙ sym (bad_check (lent c.before.before.before.before) (scene c.before.before.before.before) (is_whole c.before.before.before.before)
+    (sym c.block_right.ensures ∙ not-true _ c.if-not-block_right.true-raw))
 
 pub header_rules-header-requires : goal.header_rules-header-requires
 header_rules-header-requires c =
@@ -58,7 +60,9 @@ pub returns-then-header-ne-ACCEPTED : goal.returns-then-header-ne-ACCEPTED
 returns-then-header-ne-ACCEPTED c =
     let header = c.header_rules-header in
     c.in_header.ensures ∙ ap in_header header.ensures
-    ∙ sym (bad_header (lent c.before.before.before.before.before.before.before) (scene c.before.before.before.before.before.before.before) (is_whole c.before.before.before.before.before.before.before) (is_right c.before.before.before.before.before) (rw (← header.ensures) c.if-header-ne-ACCEPTED.true))
+    ∙ sym (bad_header (lent c.before.before.before.before.before.before.before) (scene c.before.before.before.before.before.before.before)
+    (is_whole c.before.before.before.before.before.before.before) (is_right c.before.before.before.before.before) (rw (← header.ensures)
+    c.if-header-ne-ACCEPTED.true))
 
 pub count-n-requires : goal.count-n-requires
 count-n-requires c =
@@ -67,7 +71,10 @@ count-n-requires c =
 pub returns-then-s-n : goal.returns-then-s-n
 returns-then-s-n c =
     c.fault-then-s-n.ensures
-    ∙ sym (bad_count (lent c.before.before.before.before.before.before.before.before.before) (scene c.before.before.before.before.before.before.before.before.before) (is_whole c.before.before.before.before.before.before.before.before.before) (is_right c.before.before.before.before.before.before.before) (calm c.before.before.before.before) (rw (← c.count-n.ensures.0) c.if-s-n.true))
+    ∙ sym (bad_count (lent c.before.before.before.before.before.before.before.before.before)
+    (scene c.before.before.before.before.before.before.before.before.before)
+    (is_whole c.before.before.before.before.before.before.before.before.before) (is_right c.before.before.before.before.before.before.before)
+    (calm c.before.before.before.before) (rw (← c.count-n.ensures.0) c.if-s-n.true))
 
 pub draw_faults-requires : goal.draw_faults-requires
 draw_faults-requires c =
@@ -76,5 +83,9 @@ draw_faults-requires c =
 pub returns : goal.returns
 returns c =
     let n = c.count-n in
-    c.draw_faults.ensures ∙ ap (λ (k : ℕ). first_fault k (draw_fault (lent c.before.before.before.before.before.before.before.before.before) (scene c.before.before.before.before.before.before.before.before.before))) n.ensures.0
-    ∙ sym (by_draws (lent c.before.before.before.before.before.before.before.before.before) (scene c.before.before.before.before.before.before.before.before.before) (is_whole c.before.before.before.before.before.before.before.before.before) (is_right c.before.before.before.before.before.before.before) (calm c.before.before.before.before) (rw (← n.ensures.0) c.if-s-n.false))
+    c.draw_faults.ensures ∙ ap (λ (k : ℕ). first_fault k (draw_fault (lent c.before.before.before.before.before.before.before.before.before)
+    (scene c.before.before.before.before.before.before.before.before.before))) n.ensures.0
+    ∙ sym (by_draws (lent c.before.before.before.before.before.before.before.before.before)
+    (scene c.before.before.before.before.before.before.before.before.before)
+    (is_whole c.before.before.before.before.before.before.before.before.before) (is_right c.before.before.before.before.before.before.before)
+    (calm c.before.before.before.before) (rw (← n.ensures.0) c.if-s-n.false))

@@ -29,7 +29,8 @@ loop-i-preserved c =
     let l = c.loop-i in (
       search rules,
       simp length-set (omega arith),
-      emit_four (four (to_z w32 (of_z w32 c.args.r)) (to_z w32 (of_z w32 c.args.g)) (to_z w32 (of_z w32 c.args.b)) (to_z w32 (of_z w32 c.args.a))) l.s c.args.s.now l.i (l.i * 4) (l.i + 1) _ _ _ _ (λ n. refl) refl l.invariant.2 refl refl
+      emit_four (four (to_z w32 (of_z w32 c.args.r)) (to_z w32 (of_z w32 c.args.g)) (to_z w32 (of_z w32 c.args.b)) (to_z w32 (of_z w32 c.args.a))) l.s
+          c.args.s.now l.i (l.i * 4) (l.i + 1) _ _ _ _ (λ n. refl) refl l.invariant.2 refl refl
           (omega (arith, c.requires)),
     )
 
@@ -39,4 +40,5 @@ returns c =
     let f = c.ranges in
     let l = c.loop-i in
     rw (to_z-of_z f.r, to_z-of_z f.g, to_z-of_z f.b, to_z-of_z f.a) at
-    (emit_all 4 (four (to_z w32 (of_z w32 c.args.r)) (to_z w32 (of_z w32 c.args.g)) (to_z w32 (of_z w32 c.args.b)) (to_z w32 (of_z w32 c.args.a))) l.s c.args.s.now l.i 16 (λ k. refl) l.invariant.2 (omega arith) (omega (arith, c.requires)))
+    (emit_all 4 (four (to_z w32 (of_z w32 c.args.r)) (to_z w32 (of_z w32 c.args.g)) (to_z w32 (of_z w32 c.args.b)) (to_z w32 (of_z w32 c.args.a))) l.s
+    c.args.s.now l.i 16 (λ k. refl) l.invariant.2 (omega arith) (omega (arith, c.requires)))

@@ -18,13 +18,16 @@ use Rattle.transform.proofs.bytewise.transform_block.Tie as tie
 use Rattle.transform.proofs.bytewise.transform_block.Lts as lts
 use Rattle.transform.proofs.bytewise.transform_block.Reads as reads
 
-scales-length : (c : lts.Start tie.the-claims reads.Pre reads.Post goal.the-invariant-loop-i goal.the-decreases-loop-i tie.handed_clauses) → length c.args.scales.now ≡ 64
+scales-length : (c : lts.Start tie.the-claims reads.Pre reads.Post goal.the-invariant-loop-i goal.the-decreases-loop-i tie.handed_clauses)
+    → length c.args.scales.now ≡ 64
 scales-length c = ap length c.requires.narrow.1 ∙ laid_length _ _ _ _
 
-addends-length : (c : lts.Start tie.the-claims reads.Pre reads.Post goal.the-invariant-loop-i goal.the-decreases-loop-i tie.handed_clauses) → length c.args.addends.now ≡ 64
+addends-length : (c : lts.Start tie.the-claims reads.Pre reads.Post goal.the-invariant-loop-i goal.the-decreases-loop-i tie.handed_clauses)
+    → length c.args.addends.now ≡ 64
 addends-length c = ap length c.requires.narrow.2 ∙ laid_length _ _ _ _
 
-addend_small : (c : lts.Start tie.the-claims reads.Pre reads.Post goal.the-invariant-loop-i goal.the-decreases-loop-i tie.handed_clauses) (i : ℕ) → i < 64 → nat_abs (get_or c.args.addends.now i (pos 0)) ≤ 65408
+addend_small : (c : lts.Start tie.the-claims reads.Pre reads.Post goal.the-invariant-loop-i goal.the-decreases-loop-i tie.handed_clauses) (i : ℕ) → i < 64
+    → nat_abs (get_or c.args.addends.now i (pos 0)) ≤ 65408
 addend_small c i h =
     let t = c.args.t in
     let b = c.requires.narrow.0.biases in
