@@ -14,7 +14,7 @@ use Rattle.scene.specs.Layout.{block_bytes, payload_bytes, draw_blocks, draw_byt
 use Rattle.scene.specs.Layout.{width_at, height_at, count_at, edition_at, header_end}
 use Rattle.scene.specs.Blocks.{block_number, block_of, draw_of}
 use Rattle.scene.specs.Header.{width_of, height_of, count_of, edition_of}
-use Rattle.scene.specs.Faults.{must, or_else, first_of, unused, accepted, first_fault}
+use Rattle.scene.specs.Faults.{must, or_else, first_of, unused, first_fault}
 use Rattle.scene.specs.Rules.{is_side, header_rules, draw_rules, draw_fault, scene_fault}
 use Rattle.scene.specs.declared.FieldFault.{FieldFault}
 use Rattle.scene.specs.declared.Fault.{Fault}

@@ -4,7 +4,6 @@ use mathlib.Core.Bool.{true, false}
 use Rattle.coverage.specs.Winding.{spans_up, left_up, turned}
 use Rattle.coverage.proofs.Begin.{clean}
 use Rattle.plain.proofs.Counted.{counted_up, counted_down, counted_none}
-use borrow.Author.Rules.{rules}
 use Rattle.plain.proofs.crossing.count.Goals as goal
 use Rattle.plain.proofs.crossing.count.Tie as tie
 use Rattle.plain.proofs.crossing.count.Lts as lts

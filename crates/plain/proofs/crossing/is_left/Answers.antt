@@ -4,9 +4,6 @@ use lib.Signed.{le_z}
 use mir.Syntax.{w32, w64}
 use Rattle.fixed.proofs.Means.{Num, need, keep, small, sub, mul}
 use Rattle.plain.proofs.crossing.is_left.Goals as goal
-use Rattle.plain.proofs.crossing.is_left.Tie as tie
-use Rattle.plain.proofs.crossing.is_left.Lts as lts
-use Rattle.plain.proofs.crossing.is_left.Reads as reads
 
 abbrev x0 : goal.Start → Num
 x0 c = small w32 8388608 c.args.x0 c.ranges.x0 (record { size = c.requires.0 })

@@ -38,17 +38,17 @@ draw_one-requires c =
     let edition = c.edition-edition in
     let a = c.args in
     let p = c.requires in
-    let there : l.i < count_of a.scene.now = omega (arith, p.0.1.0) in
-    let accepted = p.0.0.draws l.i there in
-    let asked = p.1.1.1 l.i there in
+    let there : l.i < count_of a.scene.now = omega (arith, p.accepted_scene.1.0) in
+    let accepted = p.accepted_scene.0.draws l.i there in
+    let asked = p.mask_for_scene l.i there in
     record {
       d_len = (
-        r.auto.out ∙ l.invariant.3 ∙ p.0.1.1,
+        r.auto.out ∙ l.invariant.3 ∙ p.accepted_scene.1.1,
         subst (λ (z : ℕ). AcceptedDraw z r.new.out) (sym edition.ensures)
             (subst (AcceptedDraw (edition_of a.scene.now)) (sym r.ensures) accepted),
       );
-      blank = subst (λ (z : List ℤ). Blank z) (sym l.invariant.2) p.1.0;
-      surface_len = (l.invariant.1 ∙ p.1.1.0.0, p.1.1.0.1, p.1.1.0.2);
+      blank = subst (λ (z : List ℤ). Blank z) (sym l.invariant.2) p.blank;
+      surface_len = (l.invariant.1 ∙ p.surface_len.0, p.surface_len.1, p.surface_len.2);
       mask_for = subst (λ (z : List ℕ). MaskFor (uses_mask z) (a.height * a.width) a.mask.now) (sym r.ensures) asked;
     }
 

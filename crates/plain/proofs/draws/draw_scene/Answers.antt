@@ -23,8 +23,8 @@ fill_row-requires c =
 pub draw_first-requires : goal.draw_first-requires
 draw_first-requires c =
     let p = c.requires in
-    let size = p.1.1.0 in
-    record { accepted_scene = (p.0.0, (p.0.1, refl)); blank = p.1.0; surface_len = (c.fill_row.auto.s ∙ size.0, size.1, size.2); mask_for_scene = p.1.1.1 }
+    let size = p.surface_len in
+    record { accepted_scene = (p.accepted_scene.0, (p.accepted_scene.1, refl)); blank = p.blank; surface_len = (c.fill_row.auto.s ∙ size.0, size.1, size.2); mask_for_scene = p.mask_for_scene }
 
 pub returns : goal.returns
 returns c =

@@ -47,7 +47,7 @@ step_pixel-p-requires c =
     let p = c.requires in
     let x = column_in_lem a.width a.height c.loop-i.i c.loop-i-test.true in
     let y = row_in a.width a.height c.loop-i.i c.loop-i-test.true in
-    record { outlined = p.0; scissors = p.1.0; x_bound = (omega (arith, x, p.1.1.0.1), omega (arith, y, p.1.1.0.2)) }
+    record { outlined = p.outlined; scissors = p.scissors; x_bound = (omega (arith, x, p.surface_len.1), omega (arith, y, p.surface_len.2)) }
 
 pub put_pixel-requires : goal.put_pixel-requires
 put_pixel-requires c =

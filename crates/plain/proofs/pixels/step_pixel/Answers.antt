@@ -33,12 +33,12 @@ counted c =
 pub count_pixel-covered-requires : goal.count_pixel-covered-requires
 count_pixel-covered-requires c =
     let p = c.requires in
-    record { outlined = p.0; x_bound = p.1.1 }
+    record { outlined = p.outlined; x_bound = p.x_bound }
 
 pub paint_pixel-paint-requires : goal.paint_pixel-paint-requires
 paint_pixel-paint-requires c =
     let p = c.requires in
-    record { shaded = p.1.0.1; x_bound = p.1.1 }
+    record { shaded = p.scissors.1; x_bound = p.x_bound }
 
 pub overflow_cast-k : goal.overflow_cast-k
 overflow_cast-k c =

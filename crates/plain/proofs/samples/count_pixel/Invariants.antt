@@ -1,12 +1,9 @@
 -- `plain::samples::count_pixel` meets its contract. Assumes nothing.
-use mathlib.Core.Path.{◌≡◌, refl, sym, ap₂, ◌∙◌}
-use Prim.Native.Nat.{◌+◌, ◌-◌, ◌*◌, ◌≤◌, ◌<◌}
-use native.Mathlib.Numerals.{add-one}
-use native.Mathlib.Omega.{arith}
+use mathlib.Core.Path.{◌≡◌}
+use Prim.Native.Nat.{◌+◌, ◌-◌, ◌*◌, ◌≤◌}
 use Rattle.lists.specs.Lists.{total}
 use Rattle.path.specs.Stored.{edges_of}
-use Rattle.coverage.specs.Winding.{winding, sample, tally, coverage}
-use borrow.Author.Rules.{rules}
+use Rattle.coverage.specs.Winding.{winding, sample, tally}
 use Rattle.plain.proofs.samples.count_pixel.Given as goal
 
 -- `plain::samples::count_pixel` meets its contract. Assumes nothing.

@@ -1,11 +1,8 @@
 -- `plain::samples::count_row` meets its contract. Assumes nothing.
-use mathlib.Core.Path.{◌≡◌, refl, sym, ap₂, ◌∙◌}
-use Prim.Native.Nat.{◌+◌, ◌-◌, ◌*◌, ◌≤◌, ◌<◌}
+use mathlib.Core.Path.{◌≡◌, refl, ap₂}
+use Prim.Native.Nat.{◌+◌}
 use native.Mathlib.Numerals.{add-one}
 use native.Mathlib.Omega.{arith}
-use Rattle.lists.specs.Lists.{total}
-use Rattle.path.specs.Stored.{edges_of}
-use Rattle.coverage.specs.Winding.{winding, inside_by, one_if, sample}
 use borrow.Author.Rules.{rules}
 use Rattle.plain.proofs.samples.count_row.Goals as goal
 

@@ -9,7 +9,6 @@ use mir.Facts.{to_z_pos}
 use Rattle.fixed.proofs.Signed.{back}
 use Rattle.path.specs.Stored.{edges_of}
 use Rattle.coverage.specs.Winding.{winding, inside_by, one_if, sample}
-use borrow.Author.Rules.{rules}
 use Rattle.plain.proofs.samples.take_sample.Goals as goal
 
 -- a sample's place, as it is handed on

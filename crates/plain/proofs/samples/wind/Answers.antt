@@ -1,21 +1,17 @@
 -- `plain::samples::wind` meets its contract. Assumes nothing.
 use mathlib.Core.Path.{◌≡◌, refl, sym, ap, ap₂, subst, ◌∙◌}
-use Prim.Native.Nat.{◌+◌, ◌-◌, ◌*◌, ◌≤◌, ◌<◌}
+use Prim.Native.Nat.{◌+◌}
 use native.Mathlib.Omega.{arith}
-use lib.IntN.{ℤ, nat_abs, ◌+ℤ◌}
+use lib.IntN.{◌+ℤ◌}
 use mir.Syntax.{w32}
 use mir.Val.{to_z, of_z}
 use mir.Facts.{to_z-of_z}
 use Rattle.fixed.proofs.Signed.{back, abs_fits}
-use Rattle.path.specs.declared.Edge.{Edge}
-use Rattle.path.specs.Stored.{edges_of, edge_at, Small}
+use Rattle.path.specs.Stored.{edges_of, Small}
 use Rattle.coverage.specs.Winding.{winding, counts}
 use Rattle.plain.proofs.Wound.{winding_more, winding_small}
 use borrow.Author.Rules.{rules}
 use Rattle.plain.proofs.samples.wind.Goals as goal
-use Rattle.plain.proofs.samples.wind.Tie as tie
-use Rattle.plain.proofs.samples.wind.Lts as lts
-use Rattle.plain.proofs.samples.wind.Reads as reads
 
 -- the sum with one edge more
 summed : (c : goal.After-count-sum)

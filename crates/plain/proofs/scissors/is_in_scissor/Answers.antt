@@ -1,15 +1,11 @@
 -- `plain::scissors::is_in_scissor` meets its contract. Assumes nothing.
 use mathlib.Core.Path.{◌≡◌, sym, ap₂, ◌∙◌}
-use mathlib.Core.Bool.{false}
 use Prim.Native.Nat.{◌+◌, ◌*◌}
-use native.Mathlib.Omega.{arith}
 use lib.IntN.{ℤ}
 use mir.Syntax.{w32}
 use Rattle.fixed.specs.Little.{i32_at}
 use Rattle.fixed.proofs.Signed.{back}
 use Rattle.coverage.specs.Scissors.{spans_pixel}
-use borrow.Author.Tests.{not-true, not-false}
-use borrow.Author.Rules.{rules}
 use Rattle.plain.proofs.scissors.is_in_scissor.Goals as goal
 use Rattle.plain.proofs.scissors.is_in_scissor.Tie as tie
 use Rattle.plain.proofs.scissors.is_in_scissor.Lts as lts
@@ -28,7 +24,7 @@ column-held c =
 
 pub returns-then-not-is_within : goal.returns-then-not-is_within
 returns-then-not-is_within c =
-    rw (sym (column-held c.before.before) ∙ not-true _ c.if-not-is_within.true-raw)
+    rw (sym (column-held c.before.before) ∙ c.if-not-is_within.true)
 
 pub returns : goal.returns
 returns c =
@@ -37,4 +33,4 @@ returns c =
     let q = c.i32_at-4 in
     c.is_within-2.ensures
     ∙ ap₂ (λ (s z : ℤ). spans_pixel s z a.y) (back w32 p.result p.type_inv ∙ p.ensures) (back w32 q.result q.type_inv ∙ q.ensures)
-    ∙ rw (sym (column-held c.before.before.before.before.before) ∙ not-false _ c.if-not-is_within.false-raw)
+    ∙ rw (sym (column-held c.before.before.before.before.before) ∙ c.if-not-is_within.false)

@@ -1,12 +1,8 @@
 -- `plain::scissors::is_in_scissors` meets its contract. Assumes nothing.
-use mathlib.Core.Path.{◌≡◌, refl, sym, ◌∙◌}
-use mathlib.Core.Bool.{false, ◌||◌}
+use mathlib.Core.Path.{◌≡◌}
+use mathlib.Core.Bool.{false}
 use Prim.Native.Nat.{◌-◌, ◌≤◌}
-use native.Mathlib.Numerals.{add-one}
-use native.Mathlib.Omega.{arith}
 use Rattle.coverage.specs.Scissors.{in_scissors}
-use Rattle.plain.proofs.Cut.{in_one_lem}
-use borrow.Author.Rules.{rules}
 use Rattle.plain.proofs.scissors.is_in_scissors.Given as goal
 
 -- `plain::scissors::is_in_scissors` meets its contract. Assumes nothing.

@@ -1,14 +1,8 @@
 -- `plain::scissors::is_within` meets its contract. Assumes nothing.
-use mathlib.Core.Path.{ap₂, sym, ◌∙◌}
 use native.Mathlib.Omega.{arith}
 use mir.Syntax.{w32, w64}
-use lib.Signed.{le_z, lt_z}
 use Rattle.fixed.proofs.Means.{Num, param, keep, need, add, of_nat}
-use borrow.Author.Rules.{rules}
 use Rattle.plain.proofs.scissors.is_within.Goals as goal
-use Rattle.plain.proofs.scissors.is_within.Tie as tie
-use Rattle.plain.proofs.scissors.is_within.Lts as lts
-use Rattle.plain.proofs.scissors.is_within.Reads as reads
 
 abbrev start : goal.Start → Num
 start c = param w32 c.args.start c.ranges.start

@@ -5,9 +5,6 @@ use lib.ListN.{length, take, drop}
 use lib.Seq.{length-take-le, take_at}
 use Rattle.scene.specs.Layout.{payload_bytes}
 use Rattle.rescue.specs.Fresh.{fresh_block}
-use borrow.Author.Rules.{rules}
-use Rattle.rescue.proofs.fresh.seal.Reads as seal-reads
-use Rattle.scene.proofs.blocks.copy.Reads as copy-reads
 use Rattle.rescue.proofs.fresh.put_block.Goals as goal
 
 pub returns : goal.returns

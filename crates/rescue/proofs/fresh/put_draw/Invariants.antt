@@ -1,16 +1,11 @@
-use mathlib.Core.Path.{◌≡◌, ◌∙◌}
+use mathlib.Core.Path.{◌≡◌}
 use mathlib.Core.List.{List}
 use Prim.Native.Nat.{ℕ, ◌+◌, ◌-◌, ◌*◌, ◌≤◌}
-use native.Mathlib.Omega.{arith}
 use lib.ListN.{length, take, drop}
 use Rattle.lists.specs.Lists.{upto}
-use Rattle.lists.proofs.Laws.{part_length, take_end}
 use Rattle.scene.specs.Layout.{block_bytes, payload_bytes, draw_blocks}
 use Rattle.scene.specs.Blocks.{block_of}
-use Rattle.rescue.specs.Fresh.{fresh_block, fresh_draw}
-use Rattle.scene.proofs.Copies.{part_kept, part_turn}
-use borrow.Author.Rules.{rules}
-use Rattle.rescue.proofs.fresh.put_block.Reads as put-block-reads
+use Rattle.rescue.specs.Fresh.{fresh_block}
 use Rattle.rescue.proofs.fresh.put_draw.Given as goal
 
 -- block k of draw i

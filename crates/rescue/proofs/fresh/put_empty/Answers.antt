@@ -1,8 +1,6 @@
 use mathlib.Core.Path.{ap, ◌∙◌}
 use Rattle.rescue.specs.Fresh.{fresh_draw}
 use Rattle.rescue.proofs.Empty.{empty_stored}
-use borrow.Author.Rules.{rules}
-use Rattle.rescue.proofs.fresh.put_draw.Reads as put-draw-reads
 use Rattle.rescue.proofs.fresh.put_empty.Goals as goal
 
 pub returns : goal.returns

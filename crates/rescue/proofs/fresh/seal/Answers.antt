@@ -1,6 +1,4 @@
 use Rattle.rescue.proofs.Sealed.{sealed}
-use borrow.Author.Rules.{rules}
-use Rattle.scene.proofs.blocks.checksum.Reads as checksum-reads
 use Rattle.rescue.proofs.fresh.seal.Goals as goal
 
 pub returns : goal.returns

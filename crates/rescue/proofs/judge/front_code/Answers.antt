@@ -2,14 +2,9 @@ use mathlib.Core.Path.{◌≡◌, sym, ap, ◌∙◌}
 use mathlib.Core.Bool.{true}
 use mathlib.Core.List.{List}
 use Prim.Native.Nat.{ℕ}
-use borrow.Author.Tests.{not-true, not-false}
 use Rattle.scene.specs.Blocks.{block_right}
 use Rattle.scene.specs.Rules.{header_rules}
 use Rattle.rescue.proofs.Codes.{ragged, short, spoiled, unfit, miscounted, sound}
-use borrow.Author.Rules.{rules}
-use Rattle.scene.proofs.blocks.block_right.Reads as block-right-reads
-use Rattle.scene.proofs.header.count.Reads as count-reads
-use Rattle.scene.proofs.header.header_rules.Reads as header-rules-reads
 use Rattle.rescue.proofs.judge.front_code.Goals as goal
 use Rattle.rescue.proofs.judge.front_code.Tie as tie
 use Rattle.rescue.proofs.judge.front_code.Lts as lts
@@ -20,7 +15,7 @@ scene whole = whole.args.s.now
 
 -- block 0 has its check
 right-first : (right : lts.Else3 tie.the-claims reads.Pre reads.Post) → block_right (scene right.before.before.before) 0 ≡ true
-right-first right = sym right.block_right.ensures ∙ not-false _ right.if-not-block_right.false-raw
+right-first right = sym right.block_right.ensures ∙ right.if-not-block_right.false
 
 calm : (fit : lts.Else4 tie.the-claims reads.Pre reads.Post) → (header_rules (scene fit.before.before.before.before.before.before)).code ≡ 0
 calm fit = sym (ap (λ f. f.code) fit.header_rules-header.ensures) ∙ fit.if-header-ne-ACCEPTED.false
@@ -35,7 +30,7 @@ returns-then-s-lt-BLOCK_BYTES c =
 
 pub returns-then-not-block_right : goal.returns-then-not-block_right
 returns-then-not-block_right c =
-    spoiled (scene c.before.before.before.before) c.if-s-ne0.false c.if-s-lt-BLOCK_BYTES.false (sym c.block_right.ensures ∙ not-true _ c.if-not-block_right.true-raw)
+    spoiled (scene c.before.before.before.before) c.if-s-ne0.false c.if-s-lt-BLOCK_BYTES.false (sym c.block_right.ensures ∙ c.if-not-block_right.true)
 
 pub returns-then-header-ne-ACCEPTED : goal.returns-then-header-ne-ACCEPTED
 returns-then-header-ne-ACCEPTED c =

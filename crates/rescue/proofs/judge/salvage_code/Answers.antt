@@ -1,8 +1,6 @@
 use mathlib.Core.Path.{◌≡◌, sym, ◌∙◌}
 use Rattle.rescue.specs.Salvaged.{front_code}
 use Rattle.rescue.proofs.Codes.{front_first, no_room, allowed}
-use borrow.Author.Rules.{rules}
-use Rattle.rescue.proofs.judge.front_code.Reads as front-code-reads
 use Rattle.rescue.proofs.judge.salvage_code.Goals as goal
 use Rattle.rescue.proofs.judge.salvage_code.Tie as tie
 use Rattle.rescue.proofs.judge.salvage_code.Lts as lts

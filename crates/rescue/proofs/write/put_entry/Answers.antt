@@ -1,7 +1,6 @@
 use Prim.Native.Nat.{◌+◌, ◌*◌}
 use lib.ListN.{length, length-set}
 use borrow.Author.Tests.{lt-ltb, le-ltb}
-use borrow.Author.Rules.{rules}
 use Rattle.rescue.proofs.write.put_entry.Goals as goal
 
 pub bounds-list-at-then-at-list : goal.bounds-list-at-then-at-list

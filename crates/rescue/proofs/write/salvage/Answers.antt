@@ -8,11 +8,6 @@ use Rattle.lists.proofs.Laws.{part_length}
 use Rattle.scene.specs.Header.{count_of}
 use Rattle.rescue.specs.Salvaged.{salvaged_scene, listed_to, replaced_to, fitting}
 use Rattle.rescue.proofs.Parts.{Allowed, call_allowed, refused_answer_lem, salvaged_answer, nothing_written, all_written, front_part}
-use borrow.Author.Rules.{rules}
-use Rattle.rescue.proofs.judge.salvage_code.Reads as salvage-code-reads
-use Rattle.rescue.proofs.write.write_list.Reads as write-list-reads
-use Rattle.rescue.proofs.write.write_scene.Reads as write-scene-reads
-use Rattle.scene.proofs.header.count.Reads as count-reads
 use Rattle.rescue.proofs.write.salvage.Goals as goal
 use Rattle.rescue.proofs.write.salvage.Tie as tie
 use Rattle.rescue.proofs.write.salvage.Lts as lts

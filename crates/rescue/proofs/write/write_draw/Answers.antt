@@ -1,10 +1,6 @@
 use mathlib.Core.Path.{sym, ◌∙◌}
 use lib.ListN.{length}
 use Rattle.rescue.proofs.Parts.{kept_blocks, empty_blocks}
-use borrow.Author.Rules.{rules}
-use Rattle.rescue.proofs.fresh.put_empty.Reads as put-empty-reads
-use Rattle.rescue.proofs.judge.draw_code.Reads as draw-code-reads
-use Rattle.scene.proofs.blocks.copy.Reads as copy-reads
 use Rattle.rescue.proofs.write.write_draw.Goals as goal
 
 pub returns-then-draw_code-eq-ACCEPTED : goal.returns-then-draw_code-eq-ACCEPTED

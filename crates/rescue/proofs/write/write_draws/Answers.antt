@@ -3,12 +3,10 @@ use mathlib.Core.List.{List}
 use Prim.Native.Nat.{ℕ, ◌+◌, ◌-◌, ◌*◌, ◌≤◌}
 use native.Mathlib.Omega.{arith}
 use lib.ListN.{length, take, drop}
-use Rattle.lists.specs.Lists.{upto}
 use Rattle.lists.proofs.Laws.{part_length, take_end}
 use Rattle.rescue.specs.Salvaged.{draw_span, salvaged_draw}
 use Rattle.scene.proofs.Copies.{part_kept, part_turn}
 use borrow.Author.Rules.{rules}
-use Rattle.rescue.proofs.write.write_draw.Reads as write-draw-reads
 use Rattle.rescue.proofs.write.write_draws.Goals as goal
 
 -- the part that is lent has the bytes of four blocks

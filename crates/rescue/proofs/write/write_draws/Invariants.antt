@@ -1,14 +1,8 @@
-use mathlib.Core.Path.{◌≡◌, ◌∙◌}
-use mathlib.Core.List.{List}
-use Prim.Native.Nat.{ℕ, ◌+◌, ◌-◌, ◌*◌, ◌≤◌}
-use native.Mathlib.Omega.{arith}
-use lib.ListN.{length, take, drop}
+use mathlib.Core.Path.{◌≡◌}
+use Prim.Native.Nat.{◌-◌, ◌*◌, ◌≤◌}
+use lib.ListN.{length, take}
 use Rattle.lists.specs.Lists.{upto}
-use Rattle.lists.proofs.Laws.{part_length, take_end}
 use Rattle.rescue.specs.Salvaged.{draw_span, salvaged_draw}
-use Rattle.scene.proofs.Copies.{part_kept, part_turn}
-use borrow.Author.Rules.{rules}
-use Rattle.rescue.proofs.write.write_draw.Reads as write-draw-reads
 use Rattle.rescue.proofs.write.write_draws.Given as goal
 
 abbrev pub invariant-loop-i : goal.invariant-loop-i

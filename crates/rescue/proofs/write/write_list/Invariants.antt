@@ -1,14 +1,8 @@
-use mathlib.Core.Path.{◌≡◌, refl, sym, ap, ◌∙◌}
-use mathlib.Core.Logic.{⊎_elim}
+use mathlib.Core.Path.{◌≡◌}
 use Prim.Native.Nat.{◌-◌, ◌≤◌}
-use native.Mathlib.Omega.{arith}
 use lib.ListN.{length}
 use Rattle.lists.specs.Lists.{over}
-use Rattle.rescue.specs.Salvaged.{draw_code, listed_to, replaced_to, fitting}
-use Rattle.rescue.proofs.Listed.{none_listed, kept_turn, replaced_turn, listed_turn}
-use borrow.Author.Rules.{rules}
-use Rattle.rescue.proofs.judge.draw_code.Reads as draw-code-reads
-use Rattle.rescue.proofs.write.put_entry.Reads as put-entry-reads
+use Rattle.rescue.specs.Salvaged.{listed_to, replaced_to, fitting}
 use Rattle.rescue.proofs.write.write_list.Given as goal
 
 abbrev pub invariant-loop-i : goal.invariant-loop-i

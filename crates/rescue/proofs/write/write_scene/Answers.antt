@@ -7,9 +7,6 @@ use lib.Seq.{length-take-le}
 use Rattle.rescue.specs.Salvaged.{draw_span}
 use Rattle.scene.proofs.Copies.{part_kept}
 use Rattle.rescue.proofs.Parts.{two_parts, scene_parts}
-use borrow.Author.Rules.{rules}
-use Rattle.scene.proofs.blocks.copy.Reads as copy-reads
-use Rattle.rescue.proofs.write.write_draws.Reads as write-draws-reads
 use Rattle.rescue.proofs.write.write_scene.Goals as goal
 
 pub returns : goal.returns
