@@ -79,7 +79,8 @@ module _
     -- the pixel (x, y) is in no box, old or new, of a changed draw
     abbrev pub Untouched : ℕ → ℕ → Type 0
     Untouched x y =
-        (i : ℕ) → i < max (count_of old) (count_of new) → changed_at old new i ≡ true → (Inside (box_at w h old i) x y → ⊥) × (Inside (box_at w h new i) x y → ⊥)
+        (i : ℕ) → i < max (count_of old) (count_of new) → changed_at old new i ≡ true → (Inside (box_at w h old i) x y → ⊥) ×
+        (Inside (box_at w h new i) x y → ⊥)
 
     -- there each draw does the same in both scenes
     step_same : (i x y : ℕ) (p : Pixel) → i < max (count_of old) (count_of new) → x < w → y < h → Untouched x y

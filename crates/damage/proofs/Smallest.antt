@@ -61,7 +61,8 @@ module _ (w h : ℕ) (old new : List ℕ) where
       (mathlib.Core.List.Memᴰ.cases_cons n))
       (λ c. absurd (mathlib.Core.List.Memᴰ.not-nil (rw c at m)))
 
-  of_changes : (P : Rect → Type 0) → ((i : ℕ) → i < max (count_of old) (count_of new) → changed_at old new i ≡ true → P (box_at w h old i) × P (box_at w h new i))
+  of_changes : (P : Rect → Type 0) → ((i : ℕ) → i < max (count_of old) (count_of new) → changed_at old new i ≡ true → P (box_at w h old i) × P
+      (box_at w h new i))
       → (b : Rect) → Memᴰ b (changed_boxes w h old new) → P b
   of_changes P k b m = upto_cases _ (boxes_at w h old new) b (λ i l n. of_draw P b i (k i l) n) m
 
@@ -73,7 +74,8 @@ module _ (w h : ℕ) (old new : List ℕ) where
 
   -- where no changed draw has a box with a pixel, it is 0, 0, 0, 0
   pub damage_none : same_background old new ≡ true
-      → ((i : ℕ) → i < max (count_of old) (count_of new) → changed_at old new i ≡ true → (empty_of (box_at w h old i) ≡ true) × (empty_of (box_at w h new i) ≡ true))
+      → ((i : ℕ) → i < max (count_of old) (count_of new) → changed_at old new i ≡ true → (empty_of (box_at w h old i) ≡ true) ×
+      (empty_of (box_at w h new i) ≡ true))
       → damage_of w h old new ≡ none
   damage_none e k = damage_boxes w h old new e ∙ smallest_none (changed_boxes w h old new) (of_changes (λ b. empty_of b ≡ true) k)
 

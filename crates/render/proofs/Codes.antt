@@ -24,7 +24,18 @@ use Rattle.scene.specs.declared.FieldFault.{FieldFault}
 use Rattle.scene.specs.Layout.{block_bytes, payload_bytes, draw_blocks, width_at, height_at, count_at, edition_at, header_end, side_limit, draw_limit, no_draw}
 use Rattle.scene.specs.Layout.{flags_at, blend_at, paint_type_at, spread_at, segment_count_at, scissor_count_at, stop_count_at, padding_at}
 use Rattle.scene.specs.Layout.{matrix_at, translation_at, color_at, linear_points_at}
-use Rattle.scene.specs.Layout.{scissors_at, stops_at, segments_at, segments_end, transform_at, transform_floats, coordinates_at, draw_bytes, new_edition, is_new}
+use Rattle.scene.specs.Layout.{
+  scissors_at,
+  stops_at,
+  segments_at,
+  segments_end,
+  transform_at,
+  transform_floats,
+  coordinates_at,
+  draw_bytes,
+  new_edition,
+  is_new,
+}
 use Rattle.scene.specs.Layout.{segment_limit, scissor_limit, scissor_bytes, stop_bytes, stop_floats, radial_at, radial_floats}
 use Rattle.scene.specs.Blocks.{block_right, block_of, draw_of, file_offset}
 use Rattle.scene.specs.Header.{width_of, height_of, count_of, edition_of}
@@ -115,7 +126,8 @@ module _ (P : ℕ → Type 0) (none : P accepted_code) (illegal : P illegal_argu
 
     stops_coded : Field (stop_rules d)
     unfolding stop_rules
-    stops_coded = then (numbers_coded d (first_stop_at d) (stop_floats * stop_count d)) (unused_coded d (first_stop_at d + stop_bytes * stop_count d) segments_at)
+    stops_coded = then (numbers_coded d (first_stop_at d) (stop_floats * stop_count d))
+        (unused_coded d (first_stop_at d + stop_bytes * stop_count d) segments_at)
 
     lists_coded : Field (list_rules d)
     unfolding list_rules

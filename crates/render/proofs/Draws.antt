@@ -15,7 +15,18 @@ use Rattle.scene.specs.Layout.{block_bytes, payload_bytes, no_draw}
 use Rattle.scene.specs.Blocks.{block_right, block_of, draw_of}
 use Rattle.scene.specs.Header.{count_of, edition_of}
 use Rattle.scene.specs.Faults.{fault, or_fault, first_fault, demand}
-use Rattle.scene.specs.Rules.{header_rules, draw_rules, in_header, in_draw, check_faults_from, check_faults, draw_fault_from, draw_fault, scene_fault_from, scene_fault}
+use Rattle.scene.specs.Rules.{
+  header_rules,
+  draw_rules,
+  in_header,
+  in_draw,
+  check_faults_from,
+  check_faults,
+  draw_fault_from,
+  draw_fault,
+  scene_fault_from,
+  scene_fault,
+}
 use Rattle.scene.proofs.Accepted.{header_count}
 
 pub sooner_draw : (f g : Fault) → f.draw ≤ 64 → (f.code ≡ 0 → g.draw ≤ 64) → (or_fault f g).draw ≤ 64

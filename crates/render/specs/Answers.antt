@@ -92,7 +92,8 @@ scratch_after f scratch = choose f (replicate (length scratch) (pos 0)) scratch
 -- ---- the full drawing, from the bytes of scene, mask and surface and the scratch
 abbrev pub draw_answer : List ℕ → Mask → ℕ → ℕ → Answer
 draw_answer s m surface_bytes scratch =
-    choose (draw_refusal s m surface_bytes scratch) (accepted_answer (whole (width_of s) (height_of s))) (refused_answer (draw_refusal s m surface_bytes scratch))
+    choose (draw_refusal s m surface_bytes scratch) (accepted_answer (whole (width_of s) (height_of s)))
+    (refused_answer (draw_refusal s m surface_bytes scratch))
 
 abbrev pub draw_surface : List ℕ → Mask → List ℕ → ℕ → List ℕ
 draw_surface s m surface scratch = choose (draw_refusal s m (length surface) scratch) (picture s (mask_bytes m)) surface

@@ -14,7 +14,10 @@ use Rattle.damage.proofs.box_at.Goals as goal
 pub returns-then-n-i : goal.returns-then-n-i
 returns-then-n-i c =
     let a = c.args in
-    record { value = (sym (box_past a.width a.height a.s.now a.i (omega (arith, c.count-n.ensures.0, c.if-n-i.true))), (omega arith, omega arith)); scratch_unchanged = refl }
+    record {
+      value = (sym (box_past a.width a.height a.s.now a.i (omega (arith, c.count-n.ensures.0, c.if-n-i.true))), (omega arith, omega arith));
+      scratch_unchanged = refl;
+    }
 
 pub draw_bounds-requires : goal.draw_bounds-requires
 draw_bounds-requires c =

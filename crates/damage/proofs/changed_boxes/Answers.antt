@@ -38,4 +38,7 @@ returns c =
     let l = c.loop-i in
     let e = c.most_draws-n in
     let k : l.i ≡ e.result = omega arith in
-    record { value = (l.invariant.2 ∙ ap (λ (k : ℕ). smallest (upto k (boxes_at a.width a.height a.old.now a.new.now))) (k ∙ e.ensures), l.invariant.3); scratch_unchanged = l.invariant.1 }
+    record {
+      value = (l.invariant.2 ∙ ap (λ (k : ℕ). smallest (upto k (boxes_at a.width a.height a.old.now a.new.now))) (k ∙ e.ensures), l.invariant.3);
+      scratch_unchanged = l.invariant.1;
+    }

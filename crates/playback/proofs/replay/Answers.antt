@@ -24,5 +24,6 @@ returns c =
     let a = c.args in
     let played = c.play-first in
     let done = replay_done a.run.now a.lengths.now (mask_of c.args.masked c.args.mask.now) a.surface.now a.scratch.now a.answers.now _ played.result _ _ _
-    c.judge-code.ensures c.if-code-ne-ACCEPTED.false played.ensures.value played.ensures.surface_after played.ensures.scratch_after played.ensures.answers_after in
+    c.judge-code.ensures c.if-code-ne-ACCEPTED.false played.ensures.value played.ensures.surface_after played.ensures.scratch_after played.ensures.answers_after
+    in
     record { value = done.0; surface_after = done.1.0; scratch_after = done.1.1.0; answers_after = done.1.1.1 }

@@ -21,7 +21,8 @@ pub returns-then-f-ne-ACCEPTED : goal.returns-then-f-ne-ACCEPTED
 returns-then-f-ne-ACCEPTED c =
     let a = c.args in
     let f = c.judge_draw-f in
-    let done = draw_refused a.scene.now (mask_of c.args.masked c.args.mask.now) a.surface.now a.scratch.now f.result c.refused.result f.ensures c.if-f-ne-ACCEPTED.true
+    let done = draw_refused a.scene.now (mask_of c.args.masked c.args.mask.now) a.surface.now a.scratch.now f.result c.refused.result f.ensures
+    c.if-f-ne-ACCEPTED.true
     c.refused.ensures in
     record { value = done.0; surface_after = done.1.0; scratch_after = done.1.1 }
 
@@ -63,7 +64,8 @@ paint_area-requires c =
 
 pub accepted-requires : goal.accepted-requires
 accepted-requires c =
-    ready_within c.args.scene.now (mask_of c.args.masked c.args.mask.now) _ _ c.width-width.result c.height-height.result (ready c.args.scene.now (mask_of c.args.masked c.args.mask.now) _ _ _ c.judge_draw-f.ensures c.if-f-ne-ACCEPTED.false)
+    ready_within c.args.scene.now (mask_of c.args.masked c.args.mask.now) _ _ c.width-width.result c.height-height.result
+    (ready c.args.scene.now (mask_of c.args.masked c.args.mask.now) _ _ _ c.judge_draw-f.ensures c.if-f-ne-ACCEPTED.false)
     c.width-width.ensures.0
     c.height-height.ensures.0 (whole c.width-width.result c.height-height.result)
     (whole_on c.width-width.result c.height-height.result)
@@ -75,7 +77,9 @@ returns c =
     let w = c.width-width in
     let h = c.height-height in
     let p = c.paint_area in
-    let done = draw_done a.scene.now (mask_of c.args.masked c.args.mask.now) a.surface.now a.scratch.now f.result c.accepted.result p.new.surface _ p.new.scratch w.result
+    let done = draw_done a.scene.now (mask_of c.args.masked c.args.mask.now) a.surface.now a.scratch.now f.result c.accepted.result p.new.surface _
+    p.new.scratch w.result
     h.result f.ensures c.if-f-ne-ACCEPTED.false w.ensures.0 h.ensures.0 c.accepted.ensures
-    (taken_bytes (mask_of c.args.masked c.args.mask.now) c.taken-m.result c.taken-m.ensures) p.ensures.surface_after (p.ensures.scratch_unchanged ∙ c.clear.ensures) in
+    (taken_bytes (mask_of c.args.masked c.args.mask.now) c.taken-m.result c.taken-m.ensures) p.ensures.surface_after
+    (p.ensures.scratch_unchanged ∙ c.clear.ensures) in
     record { value = done.0; surface_after = done.1.0; scratch_after = done.1.1 }

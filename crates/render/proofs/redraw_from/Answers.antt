@@ -28,15 +28,18 @@ returns-then-f-ne-ACCEPTED c =
 
 pub width-width-requires : goal.width-width-requires
 width-width-requires c =
-    accepted_block c.args.masked _ (ready c.args.old.now c.args.new.now (mask_of c.args.masked c.args.mask.now) _ _ _ c.judge_redraw_from-f.ensures c.if-f-ne-ACCEPTED.false).after.scene
+    accepted_block c.args.masked _ (ready c.args.old.now c.args.new.now (mask_of c.args.masked c.args.mask.now) _ _ _ c.judge_redraw_from-f.ensures
+    c.if-f-ne-ACCEPTED.false).after.scene
 
 pub height-height-requires : goal.height-height-requires
 height-height-requires c =
-    accepted_block c.args.masked _ (ready c.args.old.now c.args.new.now (mask_of c.args.masked c.args.mask.now) _ _ _ c.judge_redraw_from-f.ensures c.if-f-ne-ACCEPTED.false).after.scene
+    accepted_block c.args.masked _ (ready c.args.old.now c.args.new.now (mask_of c.args.masked c.args.mask.now) _ _ _ c.judge_redraw_from-f.ensures
+    c.if-f-ne-ACCEPTED.false).after.scene
 
 pub count-n-requires : goal.count-n-requires
 count-n-requires c =
-    accepted_block c.args.masked _ (ready c.args.old.now c.args.new.now (mask_of c.args.masked c.args.mask.now) _ _ _ c.judge_redraw_from-f.ensures c.if-f-ne-ACCEPTED.false).after.scene
+    accepted_block c.args.masked _ (ready c.args.old.now c.args.new.now (mask_of c.args.masked c.args.mask.now) _ _ _ c.judge_redraw_from-f.ensures
+    c.if-f-ne-ACCEPTED.false).after.scene
 
 pub damage-a-requires : goal.damage-a-requires
 damage-a-requires c =
@@ -44,7 +47,8 @@ damage-a-requires c =
     let r = ready c.args.old.now c.args.new.now (mask_of c.args.masked c.args.mask.now) _ _ _ c.judge_redraw_from-f.ensures c.if-f-ne-ACCEPTED.false in
     record {
       accepted_scene = (accepted_scene a.old.now a.masked r.before, accepted_scene a.new.now a.masked r.after.scene);
-      width_bound = ready_limits a.new.now (mask_of c.args.masked c.args.mask.now) _ _ c.width-width.result c.height-height.result r.after c.width-width.ensures.0
+      width_bound = ready_limits a.new.now (mask_of c.args.masked c.args.mask.now) _ _ c.width-width.result c.height-height.result r.after
+          c.width-width.ensures.0
           c.height-height.ensures.0;
       blank = zeroed a.scratch.now c.clear.new.s c.clear.ensures c.clear.auto.s r.after.space;
     }
@@ -77,7 +81,8 @@ paint_area-requires c =
 
 pub accepted-requires : goal.accepted-requires
 accepted-requires c =
-    ready_within c.args.new.now (mask_of c.args.masked c.args.mask.now) _ _ c.width-width.result c.height-height.result (ready c.args.old.now c.args.new.now (mask_of c.args.masked c.args.mask.now) _ _ _ c.judge_redraw_from-f.ensures c.if-f-ne-ACCEPTED.false).after
+    ready_within c.args.new.now (mask_of c.args.masked c.args.mask.now) _ _ c.width-width.result c.height-height.result
+    (ready c.args.old.now c.args.new.now (mask_of c.args.masked c.args.mask.now) _ _ _ c.judge_redraw_from-f.ensures c.if-f-ne-ACCEPTED.false).after
     c.width-width.ensures.0
     c.height-height.ensures.0 c.damage-a.result c.damage-a.ensures.value.1
 
@@ -89,7 +94,8 @@ returns c =
     let h = c.height-height in
     let d = c.damage-a in
     let p = c.paint_area in
-    let done = redraw_done a.old.now a.new.now (mask_of c.args.masked c.args.mask.now) a.surface.now a.scratch.now f.result c.accepted.result p.new.surface _ p.new.scratch
+    let done = redraw_done a.old.now a.new.now (mask_of c.args.masked c.args.mask.now) a.surface.now a.scratch.now f.result c.accepted.result p.new.surface _
+    p.new.scratch
     w.result h.result d.result f.ensures c.if-f-ne-ACCEPTED.false w.ensures.0 h.ensures.0 d.ensures.value.0 c.accepted.ensures
     (taken_bytes (mask_of c.args.masked c.args.mask.now) c.taken-m.result c.taken-m.ensures) p.ensures.surface_after
     (p.ensures.scratch_unchanged ∙ d.ensures.scratch_unchanged ∙ c.clear.ensures) in

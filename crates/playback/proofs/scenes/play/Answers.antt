@@ -52,5 +52,6 @@ returns c =
     let l = c.loop-i in
     let a = c.args in
     let e : l.i ≡ length a.lengths.now = omega (arith, l.invariant.0.count, c.loop-i-test.false) in
-    let done = done_all a.run.now a.lengths.now (mask_of a.masked a.mask.now) a.surface.now a.scratch.now a.answers.now l.i l.carried l.at _ _ _ l.invariant.0 e in
+    let done = done_all a.run.now a.lengths.now (mask_of a.masked a.mask.now) a.surface.now a.scratch.now a.answers.now l.i l.carried l.at _ _ _ l.invariant.0 e
+    in
     record { value = done.0; surface_after = done.1.0; scratch_after = done.1.1.0; answers_after = done.1.1.1 }

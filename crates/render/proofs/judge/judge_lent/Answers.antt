@@ -38,12 +38,14 @@ pub returns-then-scratch-lt-SCRATCH_NUMBERS : goal.returns-then-scratch-lt-SCRAT
 returns-then-scratch-lt-SCRATCH_NUMBERS c =
     let a = c.args in
     c.refusal-then-scratch-lt-SCRATCH_NUMBERS.ensures
-    ∙ sym (lent_short a.width a.height (mask_of a.masked a.mask.now) a.surface a.scratch c.if-surface-pixels.false (sym c.mask_wrong.ensures ∙ c.if-mask_wrong.false)
+    ∙ sym (lent_short a.width a.height (mask_of a.masked a.mask.now) a.surface a.scratch c.if-surface-pixels.false
+    (sym c.mask_wrong.ensures ∙ c.if-mask_wrong.false)
     c.if-scratch-lt-SCRATCH_NUMBERS.true)
 
 pub returns : goal.returns
 returns c =
     let a = c.args in
     c.refusal-2.ensures
-    ∙ sym (lent_passes a.width a.height (mask_of a.masked a.mask.now) a.surface a.scratch c.if-surface-pixels.false (sym c.mask_wrong.ensures ∙ c.if-mask_wrong.false)
+    ∙ sym (lent_passes a.width a.height (mask_of a.masked a.mask.now) a.surface a.scratch c.if-surface-pixels.false
+    (sym c.mask_wrong.ensures ∙ c.if-mask_wrong.false)
     c.if-scratch-lt-SCRATCH_NUMBERS.false)
