@@ -22,12 +22,12 @@ add_boxes-m-requires c =
     let p = c.requires in
     let l = c.loop-i in
     record {
-      accepted_scene = p.0;
+      accepted_scene = p.accepted_scene;
       width_bound = (
-        p.1.0,
+        p.width_bound.0,
         (
           l.invariant.1.1.0,
-          omega (arith, l.invariant.1.0, c.loop-i-test.true, c.most_draws-n.ensures, p.0.0.count, p.0.1.count),
+          omega (arith, l.invariant.1.0, c.loop-i-test.true, c.most_draws-n.ensures, p.accepted_scene.0.count, p.accepted_scene.1.count),
         ),
       );
     }

@@ -8,8 +8,8 @@ use Rattle.regions.specs.Proposals.{proposed_at}
 use Rattle.regions.specs.Runs.{some, in_one}
 use Rattle.regions.proofs.Every.{some_yes, some_turn}
 use borrow.Author.Rules.{rules}
-use Rattle.regions.proofs.cover.in_one_lem.Statement.{statement}
-use Rattle.regions.proofs.cover.in_one_lem.Tie as tie
+use Rattle.regions.proofs.cover.in_one.Statement.{statement}
+use Rattle.regions.proofs.cover.in_one.Tie as tie
 use Rattle.regions.proofs.cover.in_one.Given as goal
 
 abbrev pub invariant-loop-k : goal.invariant-loop-k
