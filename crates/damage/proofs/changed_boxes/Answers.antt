@@ -19,7 +19,7 @@ pub grow-a-requires : goal.grow-a-requires
 grow-a-requires c =
     let p = c.requires in
     let l = c.loop-i in
-    record { accepted_scene = p.0; blank = subst Blank (sym l.invariant.1) p.1.0; on = (l.invariant.3, p.1.1) }
+    record { accepted_scene = p.accepted_scene; blank = subst Blank (sym l.invariant.1) p.blank; on = (l.invariant.3, p.width_bound) }
 
 pub loop-i-preserved : goal.loop-i-preserved
 loop-i-preserved c =

@@ -9,7 +9,7 @@ use Rattle.damage.proofs.damage.Goals as goal
 pub changed_boxes-requires : goal.changed_boxes-requires
 changed_boxes-requires c =
     let p = c.requires in
-    record { accepted_scene = p.0; blank = p.1.1; width_bound = p.1.0 }
+    record { accepted_scene = p.accepted_scene; blank = p.blank; width_bound = p.width_bound }
 
 pub returns-then-same_background : goal.returns-then-same_background
 returns-then-same_background c =

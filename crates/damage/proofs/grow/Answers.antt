@@ -10,12 +10,12 @@ use Rattle.damage.proofs.grow.Goals as goal
 pub box_at-before-requires : goal.box_at-before-requires
 box_at-before-requires c =
     let p = c.requires in
-    record { accepted_scene = p.0.0; blank = p.1.0; width_bound = p.1.1.1 }
+    record { accepted_scene = p.accepted_scene.0; blank = p.blank; width_bound = p.on.1 }
 
 pub box_at-after-requires : goal.box_at-after-requires
 box_at-after-requires c =
     let p = c.requires in
-    record { accepted_scene = p.0.1; blank = subst Blank (sym c.box_at-before.ensures.scratch_unchanged) p.1.0; width_bound = p.1.1.1 }
+    record { accepted_scene = p.accepted_scene.1; blank = subst Blank (sym c.box_at-before.ensures.scratch_unchanged) p.blank; width_bound = p.on.1 }
 
 pub returns-then-is_changed : goal.returns-then-is_changed
 returns-then-is_changed c =

@@ -11,14 +11,9 @@ unfolding redraw_refusal
 returns-then-f-ne-ACCEPTED c =
     let a = c.args in
     let f = c.judge_scene-f in
-    record {
-      value = (redraw_refused a.old.now a.new.now (mask_of a.masked a.mask.now) a.surface.now a.scratch.now f.result c.refused.result
-          (first_refused f.result _ _ f.ensures c.if-f-ne-ACCEPTED.true) c.if-f-ne-ACCEPTED.true c.refused.ensures).0;
-      surface_after = (redraw_refused a.old.now a.new.now (mask_of a.masked a.mask.now) a.surface.now a.scratch.now f.result c.refused.result
-          (first_refused f.result _ _ f.ensures c.if-f-ne-ACCEPTED.true) c.if-f-ne-ACCEPTED.true c.refused.ensures).1.0;
-      scratch_after = (redraw_refused a.old.now a.new.now (mask_of a.masked a.mask.now) a.surface.now a.scratch.now f.result c.refused.result
-          (first_refused f.result _ _ f.ensures c.if-f-ne-ACCEPTED.true) c.if-f-ne-ACCEPTED.true c.refused.ensures).1.1;
-    }
+    let done = redraw_refused a.old.now a.new.now (mask_of a.masked a.mask.now) a.surface.now a.scratch.now f.result c.refused.result
+          (first_refused f.result _ _ f.ensures c.if-f-ne-ACCEPTED.true) c.if-f-ne-ACCEPTED.true c.refused.ensures in
+    record { value = done.0; surface_after = done.1.0; scratch_after = done.1.1 }
 
 pub redraw_from-requires : goal.redraw_from-requires
 redraw_from-requires c =

@@ -7,14 +7,14 @@ use Rattle.engine.proofs.background.gradient_hides.Goals as goal
 
 pub returns-then-hides : goal.returns-then-hides
 returns-then-hides c =
-    let a = c.args in
+    λ t. let a = c.args in
     plain_hides a.mode a.g a.ramp.now c.in-Plain.is (sym c.hides.ensures ∙ c.if-hides.true)
     (c.is_opaque.ensures t)
 
 pub returns-else-hides : goal.returns-else-hides
 returns-else-hides c =
-    absurd (subst T (sym t) tt)
+    λ t. absurd (subst T (sym t) tt)
 
 pub returns-in-Transformed : goal.returns-in-Transformed
 returns-in-Transformed c =
-    absurd (subst T (sym t) tt)
+    λ t. absurd (subst T (sym t) tt)

@@ -22,15 +22,15 @@ hidden_by-requires c =
     let a = c.args in
     let p = c.requires in
     let r = c.read_draw in
-    let some : 0 < count_of a.scene.now = omega (arith, p.0.1.0, c.if-count-eq0.false) in
+    let some : 0 < count_of a.scene.now = omega (arith, c.requires.accepted_scene.1.0, c.if-count-eq0.false) in
     record {
       d_len = (
-        r.auto.out ∙ p.0.1.1,
+        r.auto.out ∙ c.requires.accepted_scene.1.1,
         subst (λ (z : ℕ). AcceptedDraw z r.new.out) (sym c.edition-edition.ensures)
-            (subst (AcceptedDraw (edition_of a.scene.now)) (sym r.ensures) (p.0.0.draws 0 some)),
+            (subst (AcceptedDraw (edition_of a.scene.now)) (sym r.ensures) (c.requires.accepted_scene.0.draws 0 some)),
       );
-      blank = (p.1).0;
-      width_bound = (p.1).1;
+      blank = c.requires.blank;
+      width_bound = c.requires.width_bound;
     }
 
 pub returns : goal.returns

@@ -8,13 +8,12 @@ use Rattle.engine.proofs.background.is_covered.Goals as goal
 
 pub returns-then-is_empty : goal.returns-then-is_empty
 returns-then-is_empty c =
-    absurd (subst T (sym t) tt)
+    λ t. absurd (subst T (sym t) tt)
 
 pub covers-requires : goal.covers-requires
 covers-requires c =
-    let p = c.requires in
     let some = not_empty c.args.a (sym c.is_empty.ensures ∙ c.if-is_empty.false) in
-    record { outlined = p.0; x0_bound = (omega (arith, some.wide, p.1.0), p.1.0, some.high, p.1.1) }
+    record { outlined = c.requires.outlined; x0_bound = (omega (arith, some.wide, c.requires.x1_bound.0), c.requires.x1_bound.0, some.high, c.requires.x1_bound.1) }
 
 pub returns : goal.returns
 returns c =

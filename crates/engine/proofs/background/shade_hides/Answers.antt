@@ -13,9 +13,8 @@ gradient_hides-requires c =
 
 pub returns-in-Solid : goal.returns-in-Solid
 returns-in-Solid c =
-    let arm = c.shade-1.given in
-    let a = c.args in
-    solid_hides a.mode a.shade arm.0.0 a.ramp.now arm.1 (omega arith) (sym c.hides.ensures ∙ t)
+    λ t. let a = c.args in
+    solid_hides a.mode a.shade c.in-Solid.p a.ramp.now c.in-Solid.is (omega arith) (sym c.hides.ensures ∙ t)
 
 pub returns-in-Gradient : goal.returns-in-Gradient
 unfolding shade_at

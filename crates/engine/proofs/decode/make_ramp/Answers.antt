@@ -13,12 +13,11 @@ use Rattle.engine.proofs.decode.make_ramp.Goals as goal
 pub build_ramp-requires : goal.build_ramp-requires
 build_ramp-requires c =
     let d = c.args.d.now in
-    let p = c.requires in
     let n = c.stop_count in
-    let few : n.result ≤ 32 = omega (arith, n.ensures.0, few_stops d p.0.1.stops) in
+    let few : n.result ≤ 32 = omega (arith, n.ensures.0, few_stops d c.requires.d_len.1.stops) in
     let long = subst (λ (z : List ℕ). 20 * n.result ≤ length z) (sym c.stops.ensures)
-    (omega (arith, n.ensures.0, stops_hold d p.0.0 p.0.1.stops)) in
-    record { n_bound = (few, long); ramp_numbers_in_bounds = p.1 }
+    (omega (arith, n.ensures.0, stops_hold d c.requires.d_len.0 c.requires.d_len.1.stops)) in
+    record { n_bound = (few, long); ramp_numbers_in_bounds = c.requires.ramp_numbers_in_bounds }
 
 pub returns : goal.returns
 returns c =

@@ -26,8 +26,7 @@ placed c =
 
 pub hidden_rect-hidden-requires : goal.hidden_rect-hidden-requires
 hidden_rect-hidden-requires c =
-    let p = c.requires in
-    record { accepted_scene = (p.0.0, (p.0.1, refl)); blank = p.1.0; width_bound = p.1.1.0.1.1 }
+    record { accepted_scene = (c.requires.accepted_scene.0, (c.requires.accepted_scene.1, refl)); blank = c.requires.blank; width_bound = c.requires.area.0.1.1 }
 
 pub background-requires : goal.background-requires
 background-requires c =
@@ -40,8 +39,7 @@ fill_around-requires c =
 pub paint_draws-requires : goal.paint_draws-requires
 paint_draws-requires c =
     let hidden = c.hidden_rect-hidden in
-    let p = c.requires in
-    record { accepted_scene = (p.0.0, (p.0.1, hidden.auto.d)); blank = subst (λ (z : List ℤ). Blank z) (sym hidden.ensures.scratch_unchanged) p.1.0; part = (record { placed = placed c.before.before.before.before.before.before.before.before.before.before.before.before.before.before.before.before.before.before; long = c.fill_around.auto.s ∙ p.1.1.0.0 }, p.1.1.1) }
+    record { accepted_scene = (c.requires.accepted_scene.0, (c.requires.accepted_scene.1, hidden.auto.d)); blank = subst (λ (z : List ℤ). Blank z) (sym hidden.ensures.scratch_unchanged) c.requires.blank; part = (record { placed = placed c.before.before.before.before.before.before.before.before.before.before.before.before.before.before.before.before.before.before; long = c.fill_around.auto.s ∙ c.requires.area.0.0 }, c.requires.area.1) }
 
 pub returns : goal.returns
 returns c =

@@ -23,37 +23,33 @@ met c =
 
 pub bounds-requires : goal.bounds-requires
 bounds-requires c =
-    let p = c.requires in
-    let r = p.1.0.0 in
-    (omega (arith, r.few, r.room), (p.1.1.0.placed.wide, p.1.1.0.placed.high))
+    let r = c.requires.outlined.0 in
+    (omega (arith, r.few, r.room), (c.requires.part.0.placed.wide, c.requires.part.0.placed.high))
 
 pub returns-then-is_empty : goal.returns-then-is_empty
 returns-then-is_empty c =
     let a = c.args in
-    let p = c.requires in
     record {
       scratch_unchanged = refl;
-      surface_after = box_none a.target (edges_of a.scratch.now a.n) a.surface.now a.d.now p.1.1.0 (mask_at a.target.width a.mask.now) p.1.0.1
+      surface_after = box_none a.target (edges_of a.scratch.now a.n) a.surface.now a.d.now c.requires.part.0 (mask_at a.target.width a.mask.now) c.requires.outlined.1
           c.meet-b.result (met c.before.before.before) (sym c.is_empty.ensures ∙ c.if-is_empty.true);
     }
 
 pub fill-requires : goal.fill-requires
 fill-requires c =
     let a = c.args in
-    let p = c.requires in
-    let part = box_part a.target (edges_of a.scratch.now a.n) a.surface.now a.d.now p.1.1.0 c.meet-b.result (met c.before.before.before.before.before)
+    let part = box_part a.target (edges_of a.scratch.now a.n) a.surface.now a.d.now c.requires.part.0 c.meet-b.result (met c.before.before.before.before.before)
     (sym c.is_empty.ensures ∙ c.if-is_empty.false) in
-    record { d_len = p.0; outlined = p.1.0.0; part = (part, p.1.1.1) }
+    record { d_len = c.requires.d_len; outlined = c.requires.outlined.0; part = (part, c.requires.part.1) }
 
 pub returns : goal.returns
 returns c =
     let a = c.args in
-    let p = c.requires in
     let r = c.fill in
     let mask = mask_at a.target.width a.mask.now in
     let edges = edges_of a.scratch.now a.n in
     record {
       scratch_unchanged = r.ensures.scratch_unchanged;
-      surface_after = box_enough a.target edges a.surface.now a.d.now p.1.1.0 mask p.1.0.1 c.meet-b.result r.new.surface (met c.before.before.before.before.before.before.before.before.before)
+      surface_after = box_enough a.target edges a.surface.now a.d.now c.requires.part.0 mask c.requires.outlined.1 c.meet-b.result r.new.surface (met c.before.before.before.before.before.before.before.before.before)
           r.ensures.surface_after;
     }

@@ -20,9 +20,8 @@ use Rattle.engine.proofs.draws.paint_draw.Goals as goal
 
 pub misses-requires : goal.misses-requires
 misses-requires c =
-    let p = c.requires in
-    let placed = p.1.1.0.placed in
-    record { d_len = p.0; width_bound = (placed.wide, placed.high) }
+    let placed = c.requires.part.0.placed in
+    record { d_len = c.requires.d_len; width_bound = (placed.wide, placed.high) }
 
 pub returns-then-misses : goal.returns-then-misses
 returns-then-misses c =
@@ -42,9 +41,8 @@ returns-then-misses c =
 pub paint_box-requires : goal.paint_box-requires
 paint_box-requires c =
     let a = c.args in
-    let p = c.requires in
     let laid = c.lay_edges-n.ensures.laid in
-    record { d_len = (p.0.0, p.0.1.fields); outlined = (laid.ready, subst Closed (sym laid.edges) (draw_closed a.edition a.d.now)); part = p.1.1 }
+    record { d_len = (c.requires.d_len.0, c.requires.d_len.1.fields); outlined = (laid.ready, subst Closed (sym laid.edges) (draw_closed a.edition a.d.now)); part = c.requires.part }
 
 pub clear_edges-requires : goal.clear_edges-requires
 clear_edges-requires c =

@@ -35,21 +35,20 @@ read_draw-requires c =
 pub paint_draw-requires : goal.paint_draw-requires
 paint_draw-requires c =
     let a = c.args in
-    let p = c.requires in
     let l = c.loop-i in
     let r = c.read_draw in
-    let there : l.i < count_of a.scene.now = omega (arith, p.0.1.0) in
-    let accepted = p.0.0.draws l.i there in
-    let asked = p.1.1.1 l.i there in
+    let there : l.i < count_of a.scene.now = omega (arith, c.requires.accepted_scene.1.0) in
+    let accepted = c.requires.accepted_scene.0.draws l.i there in
+    let asked = c.requires.part.1 l.i there in
     record {
       d_len = (
-        r.auto.out ∙ l.invariant.3 ∙ p.0.1.1,
+        r.auto.out ∙ l.invariant.3 ∙ c.requires.accepted_scene.1.1,
         subst (λ (z : ℕ). AcceptedDraw z r.new.out) (sym c.edition-edition.ensures)
             (subst (AcceptedDraw (edition_of a.scene.now)) (sym r.ensures) accepted),
       );
-      blank = subst (λ (z : List ℤ). Blank z) (sym l.invariant.2) p.1.0;
+      blank = subst (λ (z : List ℤ). Blank z) (sym l.invariant.2) c.requires.blank;
       part = (
-        record { placed = p.1.1.0.placed; long = l.invariant.1 ∙ p.1.1.0.long },
+        record { placed = c.requires.part.0.placed; long = l.invariant.1 ∙ c.requires.part.0.long },
         subst (λ (z : List ℕ). MaskFor (uses_mask z) (a.target.height * a.target.width) a.mask.now) (sym r.ensures) asked,
       );
     }

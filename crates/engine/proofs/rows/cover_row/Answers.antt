@@ -26,11 +26,10 @@ pub scissor_runs-requires : goal.scissor_runs-requires
 scissor_runs-requires c =
     let call = c.coverage_runs-n in
     let a = c.args in
-    let p = c.requires.1 in
-    let long = p.1.1 in
+    let long = c.requires.on_surface.1 in
     record {
-      count_bound = (p.0.0, omega (arith, p.0));
-      on_surface = (p.1.0, call.auto.marks ∙ long, call.auto.runs ∙ p.1.2);
+      count_bound = (c.requires.scissors.0, omega (arith, c.requires.scissors));
+      on_surface = (c.requires.on_surface.0, call.auto.marks ∙ long, call.auto.runs ∙ c.requires.on_surface.2);
       runs = (
         subst (Runs call.new.runs call.result) long call.ensures.runs,
         coverage_fits (edges_of a.scratch.now a.style.edges) a.style.nonzero a.strip.x a.strip.y (length a.marks.now) _

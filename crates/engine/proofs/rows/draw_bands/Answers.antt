@@ -44,7 +44,7 @@ abbrev edges : (c : lts.After-filter_edges tie.the-claims reads.Pre reads.Post g
 edges c = c.args.fill.style.edges
 
 room : (c : lts.After-filter_edges tie.the-claims reads.Pre reads.Post goal.the-invariant-loop-y goal.the-decreases-loop-y tie.handed_clauses) → ramp_numbers + (edges c) ≤ length (before c)
-room c = omega (arith, c.loop-y.inv.3, c.requires.outlined.1)
+room c = omega (arith, c.loop-y.invariant.3, c.requires.outlined.1)
 
 long : (c : lts.After-filter_edges tie.the-claims reads.Pre reads.Post goal.the-invariant-loop-y goal.the-decreases-loop-y tie.handed_clauses) → length (list c) ≡ (edges c)
 long c = c.filter_edges-listed.auto.list ∙ part_length (before c) ramp_numbers (ramp_numbers + (edges c)) (omega arith) (room c) ∙ omega arith
@@ -53,7 +53,7 @@ abbrev numbers : (c : lts.After-filter_edges tie.the-claims reads.Pre reads.Post
 numbers c = take ramp_numbers (before c) ++ ((list c) ++ drop (ramp_numbers + (edges c) - ramp_numbers) (drop ramp_numbers (before c)))
 
 kept : (c : lts.After-filter_edges tie.the-claims reads.Pre reads.Post goal.the-invariant-loop-y goal.the-decreases-loop-y tie.handed_clauses) → take ramp_numbers (numbers c) ≡ take ramp_numbers c.args.numbers.now
-kept c = ramp_kept (before c) (list c) (edges c) (room c) (long c) ∙ c.loop-y.inv.2
+kept c = ramp_kept (before c) (list c) (edges c) (room c) (long c) ∙ c.loop-y.invariant.2
 
 listed : (c : lts.After-filter_edges tie.the-claims reads.Pre reads.Post goal.the-invariant-loop-y goal.the-decreases-loop-y tie.handed_clauses) → (ramp_numbers + c.filter_edges-listed.result ≤ length (numbers c))
     × Band c.loop-y.scratch (edges c) c.loop-y.y c.least-end.result
@@ -106,23 +106,22 @@ draw_rect-requires c =
     let rows = sym c.rows_of.ensures in
     let l = c.loop-y in
     let a = c.args in
-    let p = c.requires in
     let t = a.fill.target in
-    let band = below c.before.before.before.before.before.before.before.before.before.before.before.before in
+    let band = below c.before.before.before.before.before.before.before.before.before.before in
     let n = a.fill.style.edges in
     let found = c.filter_edges-listed.result in
     record {
       outlined = (
-        subst (λ (z : List ℤ). Outlined z n) (sym l.invariant.1) p.0.0,
-        subst (λ (z : Target). ListedIn l.scratch n (numbers c.before.before.before.before.before.before.before.before.before) found z.area.y0 z.area.y1) rows (listed c.before.before.before.before.before.before.before.before.before),
+        subst (λ (z : List ℤ). Outlined z n) (sym l.invariant.1) c.requires.outlined.0,
+        subst (λ (z : Target). ListedIn l.scratch n (numbers c.before.before.before.before.before.before.before.before) found z.area.y0 z.area.y1) rows (listed c.before.before.before.before.before.before.before.before),
       );
-      scissors = (p.1.0.0, subst (Shaded a.fill.style.shade) (sym (kept c.before.before.before.before.before.before.before.before.before)) p.1.0.1);
+      scissors = (c.requires.scissors.0, subst (Shaded a.fill.style.shade) (sym (kept c.before.before.before.before.before.before.before.before)) c.requires.scissors.1);
       part = (
         subst (λ (z : Target). Part z l.surface) rows
-            (band_part t _ a.surface.now p.1.1.0.0 l.invariant.0 c.least-end.result band.0 band.1),
-        subst (λ (z : Target). RowRoom (z.area.x1 - z.area.x0) l.buffer l.runs) rows (l.invariant.4 ∙ p.1.1.0.1.0, l.invariant.5 ∙ p.1.1.0.1.1),
+            (band_part t _ a.surface.now c.requires.part.0 l.invariant.0 c.least-end.result band.0 band.1),
+        subst (λ (z : Target). RowRoom (z.area.x1 - z.area.x0) l.buffer l.runs) rows (l.invariant.4 ∙ c.requires.part.1.0, l.invariant.5 ∙ c.requires.part.1.1),
       );
-      mask_for = subst (λ (z : Target). MaskFor a.fill.style.masked (z.height * z.width) a.mask.now) rows p.1.1.1;
+      mask_for = subst (λ (z : Target). MaskFor a.fill.style.masked (z.height * z.width) a.mask.now) rows c.requires.mask_for;
     }
 
 pub loop-y-smaller : goal.loop-y-smaller
@@ -134,15 +133,14 @@ loop-y-preserved c =
     let call = c.draw_rect in
     let l = c.loop-y in
     let a = c.args in
-    let p = c.requires in
-    let band = below c.before.before.before.before.before.before.before.before.before.before.before.before.before.before.before.before.before.before.before.before in
+    let band = below c.before.before.before.before.before.before.before.before.before.before.before.before.before.before.before.before.before.before in
     let drawn = same_steps a.fill.style a.fill.style.edges a.scissors.now a.mask.now l.surface call.new.surface
-    c.rows_of.ensures l.invariant.1 (kept c.before.before.before.before.before.before.before.before.before.before.before.before.before.before.before.before.before) call.ensures.surface_after in (
-      rows_band a.fill.target _ a.surface.now p.1.1.0.0 l.invariant.0 c.least-end.result band.0 band.1 call.new.surface drawn,
+    c.rows_of.ensures l.invariant.1 (kept c.before.before.before.before.before.before.before.before.before.before.before.before.before.before.before.before) call.ensures.surface_after in (
+      rows_band a.fill.target _ a.surface.now c.requires.part.0 l.invariant.0 c.least-end.result band.0 band.1 call.new.surface drawn,
       call.ensures.scratch_unchanged ∙ l.invariant.1,
-      kept c.before.before.before.before.before.before.before.before.before.before.before.before.before.before.before.before.before,
-      back_length l.numbers (list c.before.before.before.before.before.before.before.before.before.before.before.before.before.before.before.before.before) ramp_numbers (ramp_numbers + a.fill.style.edges) (omega arith) (room c.before.before.before.before.before.before.before.before.before.before.before.before.before.before.before.before.before)
-          (long c.before.before.before.before.before.before.before.before.before.before.before.before.before.before.before.before.before ∙ omega arith)
+      kept c.before.before.before.before.before.before.before.before.before.before.before.before.before.before.before.before,
+      back_length l.numbers (list c.before.before.before.before.before.before.before.before.before.before.before.before.before.before.before.before) ramp_numbers (ramp_numbers + a.fill.style.edges) (omega arith) (room c.before.before.before.before.before.before.before.before.before.before.before.before.before.before.before.before)
+          (long c.before.before.before.before.before.before.before.before.before.before.before.before.before.before.before.before ∙ omega arith)
           ∙ l.invariant.3,
       call.auto.buffer ∙ l.invariant.4,
       call.auto.runs ∙ l.invariant.5,

@@ -88,17 +88,16 @@ slice_bounds-draw_row-end-in-loop-y c =
 pub draw_row-requires : goal.draw_row-requires
 draw_row-requires c =
     let a = c.args in
-    let p = c.requires in
     let l = c.loop-y in
-    let placed = p.1.1.0.0.placed in
+    let placed = c.requires.part.0.placed in
     let on : OnSurface (record { x = a.fill.target.area.x0; y = l.y; length = a.fill.target.area.x1 - a.fill.target.area.x0 }) =
     (omega (arith, placed.high, placed.on.high, c.loop-y-test.true), omega (arith, placed.wide, placed.on.wide, placed.on.across)) in
     record {
       outlined = subst (λ (z : List ℤ). Outlined z a.fill.style.edges × ListedFor z a.fill.style.edges a.numbers.now a.fill.listed l.y)
           (sym l.invariant.1)
-          (p.0.0, (p.0.1.0, p.0.1.1.row l.y l.invariant.0.low c.loop-y-test.true));
-      scissors = p.1.0;
-      on_surface = (on, (lent c.before.before.before.before.before.before.before).long, (l.invariant.2 ∙ p.1.1.0.1.0, l.invariant.3 ∙ p.1.1.0.1.1));
+          (c.requires.outlined.0, (c.requires.outlined.1.0, c.requires.outlined.1.1.row l.y l.invariant.0.low c.loop-y-test.true));
+      scissors = c.requires.scissors;
+      on_surface = (on, (lent c.before.before.before.before.before.before.before).long, (l.invariant.2 ∙ c.requires.part.1.0, l.invariant.3 ∙ c.requires.part.1.1));
       mask_for = (through c.before.before.before.before.before.before).long;
     }
 

@@ -23,14 +23,13 @@ marked c =
 pub cover_row-count-requires : goal.cover_row-count-requires
 cover_row-count-requires c =
     let a = c.args in
-    let p = c.requires in
-    let o = p.1.1.0 in
+    let o = c.requires.on_surface in
     record {
       outlined = (
-        p.0.0,
-        subst (Needed a.scratch.now a.fill.style.edges a.fill.strip.y) (sym (behind_ramp a.numbers.now a.fill.listed)) p.0.1.1,
+        c.requires.outlined.0,
+        subst (Needed a.scratch.now a.fill.style.edges a.fill.strip.y) (sym (behind_ramp a.numbers.now a.fill.listed)) c.requires.outlined.1.1,
       );
-      scissors = p.1.0.0;
+      scissors = c.requires.scissors.0;
       on_surface = (o.0, marked c.before.before.before.before.before.before.before.before.before.before.before.before.before.before, o.2.1);
     }
 
@@ -38,14 +37,13 @@ pub shade_row-requires : goal.shade_row-requires
 shade_row-requires c =
     let a = c.args in
     let s = a.fill.strip in
-    let p = c.requires in
-    let o = p.1.1.0 in
+    let o = c.requires.on_surface in
     let r = c.cover_row-count in
     let marks = r.auto.marks ∙ marked c.before.before.before.before.before.before.before.before.before.before.before.before.before.before.before.before.before.before.before.before.before.before.before in
     let fits = cover_fits a.fill.style (edges_of a.scratch.now a.fill.style.edges) a.scissors.now s.x s.y s.length _
     r.ensures.result_after in
     let long = first_given a.buffer.now r.new.marks s.length marks (omega (arith, o.2.0)) in
-    record { shaded = p.1.0.1; on_surface = (o.0, o.1, (long ∙ o.2.0, r.auto.runs ∙ o.2.1)); row_coverage = ((r.ensures.runs, fits), p.1.1.1) }
+    record { shaded = c.requires.scissors.1; on_surface = (o.0, o.1, (long ∙ o.2.0, r.auto.runs ∙ o.2.1)); row_coverage = ((r.ensures.runs, fits), c.requires.mask_for) }
 
 pub shape_of-buffer : goal.shape_of-buffer
 shape_of-buffer c =

@@ -55,11 +55,11 @@ style-requires c =
 
 pub slice_bounds-hiding_style-end : goal.slice_bounds-hiding_style-end
 slice_bounds-hiding_style-end c =
-    omega (arith, long c.before.before.before.before.before)
+    omega (arith, long c.before.before.before.before)
 
 pub hiding_style-style-requires : goal.hiding_style-style-requires
 hiding_style-style-requires c =
-    subst (λ (z : Style). Shaded z.shade (take ramp_numbers (numbers c.before.before.before.before.before.before))) (sym c.style.ensures) (shaded c.before.before.before.before.before.before)
+    subst (λ (z : Style). Shaded z.shade (take ramp_numbers (numbers c.before.before.before.before.before))) (sym c.style.ensures) (shaded c.before.before.before.before.before)
 
 pub scissors-requires : goal.scissors-requires
 scissors-requires c =
@@ -68,20 +68,19 @@ scissors-requires c =
 pub fill_style-requires : goal.fill_style-requires
 fill_style-requires c =
     let a = c.args in
-    let p = c.requires in
     let e = sym (styled c.before.before.before.before.before) in
-    let scissors = subst (λ (z : List ℕ). 64 ≤ length z) (sym c.scissors.ensures) (omega (arith, scissors_length a.d.now p.0.0)) in
+    let scissors = subst (λ (z : List ℕ). 64 ≤ length z) (sym c.scissors.ensures) (omega (arith, scissors_length a.d.now c.requires.d_len.0)) in
     record {
       outlined = (
-        subst (λ (z : Style). Outlined a.scratch.now z.edges) e p.1.0,
-        subst (λ (z : Style). ramp_numbers + z.edges ≤ length (numbers c.before.before.before.before.before.before.before.before.before.before.before)) e (omega (arith, p.1.0.few, long c.before.before.before.before.before.before.before.before.before.before.before)),
+        subst (λ (z : Style). Outlined a.scratch.now z.edges) e c.requires.outlined,
+        subst (λ (z : Style). ramp_numbers + z.edges ≤ length (numbers c.before.before.before.before.before.before.before.before.before.before)) e (omega (arith, c.requires.outlined.few, long c.before.before.before.before.before.before.before.before.before.before)),
       );
       scissors = (
-        (subst (λ (z : Style). z.scissors ≤ 4) e p.0.1.scissors, scissors),
-        subst (λ (z : Style). Shaded z.shade (take ramp_numbers (numbers c.before.before.before.before.before.before.before.before.before.before.before))) e (shaded c.before.before.before.before.before.before.before.before.before.before.before),
+        (subst (λ (z : Style). z.scissors ≤ 4) e c.requires.d_len.1.scissors, scissors),
+        subst (λ (z : Style). Shaded z.shade (take ramp_numbers (numbers c.before.before.before.before.before.before.before.before.before.before))) e (shaded c.before.before.before.before.before.before.before.before.before.before),
       );
-      part = p.1.1.0.0;
-      mask_for = subst (λ (z : Style). MaskFor z.masked (a.target.height * a.target.width) a.mask.now) e p.1.1.0.1;
+      part = c.requires.part.0;
+      mask_for = subst (λ (z : Style). MaskFor z.masked (a.target.height * a.target.width) a.mask.now) e c.requires.part.1;
     }
 
 pub returns : goal.returns
@@ -92,10 +91,10 @@ returns c =
     let style = c.style in
     let shade = c.shade-shade in
     let a = c.args in
-    let ramps = take ramp_numbers (numbers c.before.before.before.before.before.before.before.before.before.before.before.before.before.before.before.before.before) in
+    let ramps = take ramp_numbers (numbers c.before.before.before.before.before.before.before.before.before.before.before.before.before.before.before.before) in
     let edges = ap (λ (z : Style). edges_of a.scratch.now z.edges) (styled c.before.before.before.before.before.before.before.before.before.before.before) in
     let paint : (x y : ℕ) → shade_at shade.result ramps x y ≡ draw_paint a.d.now x y =
-    λ x y. ap (λ (z : List ℕ). shade_at shade.result z x y) (ramp c.before.before.before.before.before.before.before.before.before.before.before.before.before.before.before.before.before) ∙ shade.ensures.paint x y in
+    λ x y. ap (λ (z : List ℕ). shade_at shade.result z x y) (ramp c.before.before.before.before.before.before.before.before.before.before.before.before.before.before.before.before) ∙ shade.ensures.paint x y in
     let same = subst (λ (z : Style). SameBlend hiding.result.mode z.mode (shade_at z.shade ramps)) style.ensures hiding.ensures.same_blend in
     record {
       scratch_unchanged = call.ensures.scratch_unchanged;

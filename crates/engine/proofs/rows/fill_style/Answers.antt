@@ -5,9 +5,8 @@ use Rattle.engine.proofs.rows.fill_style.Goals as goal
 
 pub fill_with-requires : goal.fill_with-requires
 fill_with-requires c =
-    let p = c.requires in
-    record { outlined = p.0; scissors = p.1.0; part = (p.1.1.0, omega arith, omega arith); mask_for = p.1.1.1 }
+    record { outlined = c.requires.outlined; scissors = c.requires.scissors; part = (c.requires.part, omega arith, omega arith); mask_for = c.requires.mask_for }
 
 pub returns : goal.returns
 returns c =
-    record { scratch_unchanged = (c.fill_with.ensures).0; surface_after = (c.fill_with.ensures).1 }
+    record { scratch_unchanged = c.fill_with.ensures.scratch_unchanged; surface_after = c.fill_with.ensures.surface_after }

@@ -40,13 +40,12 @@ slice_bounds-draw_bands-end-2 c =
 pub draw_bands-requires : goal.draw_bands-requires
 draw_bands-requires c =
     let a = c.args in
-    let p = c.requires in
-    let o = p.1.1.0 in
+    let o = c.requires.part in
     let n = a.fill.target.area.x1 - a.fill.target.area.x0 in
     let buffer = part_length a.buffer.now 0 (n * 4) (omega arith) (wide_enough c.before.before.before.before.before.before.before.before.before.before.before.before.before).0 in
     let runs = part_length a.runs.now 0 n (omega arith) (wide_enough c.before.before.before.before.before.before.before.before.before.before.before.before.before).1 in
-    record { outlined = p.0; scissors = p.1.0; part = (o.0, (buffer ∙ omega arith, runs ∙ omega arith)); mask_for = p.1.1.1 }
+    record { outlined = c.requires.outlined; scissors = c.requires.scissors; part = (o.0, (buffer ∙ omega arith, runs ∙ omega arith)); mask_for = c.requires.mask_for }
 
 pub returns : goal.returns
 returns c =
-    record { scratch_unchanged = (c.draw_bands.ensures).0; surface_after = (c.draw_bands.ensures).1 }
+    record { scratch_unchanged = c.draw_bands.ensures.scratch_unchanged; surface_after = c.draw_bands.ensures.surface_after }

@@ -9,13 +9,11 @@ use Rattle.engine.proofs.rows.gradient_row.Goals as goal
 
 pub gradient_row-requires : goal.gradient_row-requires
 gradient_row-requires c =
-    let p = c.requires in
-    record { held_gradient = p.0; n_bound = (p.1.0.1, omega (arith, p.1.0.0), p.1.1) }
+    record { held_gradient = c.requires.held_gradient; n_bound = (c.requires.on_surface.0.1, omega (arith, c.requires.on_surface.0.0), c.requires.on_surface.1) }
 
 pub tint_row-requires : goal.tint_row-requires
 tint_row-requires c =
-    let p = c.requires in
-    c.gradient_row.auto.row ∙ p.1.1
+    c.gradient_row.auto.row ∙ c.requires.on_surface.1
 
 pub returns : goal.returns
 returns c =

@@ -8,22 +8,19 @@ use Rattle.engine.proofs.rows.paint_row.Goals as goal
 
 pub gradient_row-requires : goal.gradient_row-requires
 gradient_row-requires c =
-    let p = c.requires in
-    let held = subst (λ (z : Shade). Shaded z c.args.ramp.now) c.in-Gradient.is p.0 in
-    record { held_gradient = held; on_surface = p.1 }
+    let held = subst (λ (z : Shade). Shaded z c.args.ramp.now) c.in-Gradient.is c.requires.shaded in
+    record { held_gradient = held; on_surface = c.requires.on_surface }
 
 pub returns-in-Solid : goal.returns-in-Solid
 returns-in-Solid c =
     let a = c.args in
     let s = a.strip in
-    let arm = c.shade-1.given in
     let call = c.fill_row in
-    solid_pixels s.length s.x s.y a.ramp.now call.new.s a.shade arm.0.0 arm.1 call.ensures
+    solid_pixels s.length s.x s.y a.ramp.now call.new.s a.shade c.in-Solid.p c.in-Solid.is call.ensures
 
 pub returns-in-Gradient : goal.returns-in-Gradient
 returns-in-Gradient c =
     let a = c.args in
     let s = a.strip in
-    let arm = c.shade-in-Gradient-1.given in
     let call = c.gradient_row in
-    gradient_pixels s.length s.x s.y a.ramp.now call.new.paints a.shade arm.0.0 arm.1 call.ensures
+    gradient_pixels s.length s.x s.y a.ramp.now call.new.paints a.shade c.in-Gradient.g c.in-Gradient.is call.ensures

@@ -18,15 +18,14 @@ cut-length c = c.scissor_row.auto.cover ∙ c.expand_row.auto.row ∙ c.requires
 pub expand_row-requires : goal.expand_row-requires
 expand_row-requires c =
     let a = c.args in
-    let p = c.requires.1 in
-    (subst (Runs a.runs.now a.n) (sym p.0.1) p.1.0, omega (arith, runs_few a.runs.now a.n a.strip.length p.1.0, p.0.2))
+    (subst (Runs a.runs.now a.n) (sym c.requires.on_surface.1) c.requires.runs.0, omega (arith, runs_few a.runs.now a.n a.strip.length c.requires.runs.0, c.requires.on_surface.2))
 
 pub collect-requires : goal.collect-requires
 collect-requires c =
     let a = c.args in
     let cut = c.scissor_row in
     let laid = c.expand_row in
-    let long = cut-length c.before.before.before.before.before in
+    let long = cut-length c.before.before.before.before in
     record {
       row_in_bounds = (omega (arith, long, c.requires.on_surface.2), omega (arith, long, c.requires.on_surface.0));
       by_index = cut_small a.scissors.now a.count a.strip.x a.strip.y cut.new.cover laid.new.row cut.ensures
@@ -40,7 +39,7 @@ returns c =
     let cut = c.scissor_row in
     let laid = c.expand_row in
     record {
-      runs_2 = subst (Runs made.new.runs made.result) (cut-length c.before.before.before.before.before.before.before.before) made.ensures.runs.0;
+      runs_2 = subst (Runs made.new.runs made.result) (cut-length c.before.before.before.before.before.before.before) made.ensures.runs.0;
       result_after = made.ensures.result_after
           ∙ cut_row a.scissors.now a.count a.strip.x a.strip.y cut.new.cover laid.new.row cut.ensures
           a.strip.length _

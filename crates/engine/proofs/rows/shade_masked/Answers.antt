@@ -35,20 +35,19 @@ slice_bounds-composite_masked_runs-end c =
     let n = c.args.strip.length in
     subst (λ (k : ℕ). n * 4 ≤ k)
     (sym
-    (first_given c.args.buffer.now c.paint_row.new.paints (n * 4) (painted c.before.before.before.before) (omega (arith, c.requires.on_surface.2.0))))
+    (first_given c.args.buffer.now c.paint_row.new.paints (n * 4) (painted c.before.before.before) (omega (arith, c.requires.on_surface.2.0))))
     (omega (arith, c.requires.on_surface.2.0))
 
 pub composite_masked_runs-requires : goal.composite_masked_runs-requires
 composite_masked_runs-requires c =
     let a = c.args in
-    let p = c.requires.1 in
     let n = a.strip.length in
-    let runs = p.1.0.0 in
+    let runs = c.requires.row_coverage.0.0 in
     let few = runs_few a.runs.now a.count n runs in
     let paint = first_of (c.paint_row.new.paints ++ drop (n * 4 - 0) a.buffer.now) (n * 4)
-    ∙ first_part c.paint_row.new.paints _ (n * 4) (painted c.before.before.before.before.before.before) in
+    ∙ first_part c.paint_row.new.paints _ (n * 4) (painted c.before.before.before.before.before) in
     let times = ap (λ (k : ℕ). k * 4) (sym (width c.before.before.before.before.before.before.before.before.before.before.before.before)) in
-    record { runs = (runs, omega arith, omega arith, omega (arith, few, p.0.2.1)); src_len = (ap length paint ∙ painted c.before.before.before.before.before.before ∙ times, p.0.1 ∙ times); coverage = (p.1.0.1, p.1.1 ∙ sym (width c.before.before.before.before.before.before.before.before.before.before.before.before)) }
+    record { runs = (runs, omega arith, omega arith, omega (arith, few, c.requires.on_surface.2.1)); src_len = (ap length paint ∙ painted c.before.before.before.before.before ∙ times, c.requires.on_surface.1 ∙ times); coverage = (c.requires.row_coverage.0.1, c.requires.row_coverage.1 ∙ sym (width c.before.before.before.before.before.before.before.before.before.before.before.before)) }
 
 pub returns : goal.returns
 returns c =
@@ -58,4 +57,4 @@ returns c =
     let paint = c.paint_row in
     painted_row a.style.mode s.x s.y (λ i. get_or a.mask.now i 0) (expand a.runs.now a.count) a.row.now a.ramp.now
     call.new.row a.style.shade s.length _ (s.length * 4) paint.new.paints _
-    (runs_length a.runs.now a.count s.length c.requires.row_coverage.0.0) (width c.before.before.before.before.before.before.before.before.before.before.before.before.before.before.before) (painted c.before.before.before.before.before.before.before.before.before) paint.ensures call.ensures
+    (runs_length a.runs.now a.count s.length c.requires.row_coverage.0.0) (width c.before.before.before.before.before.before.before.before.before.before.before.before.before.before.before) (painted c.before.before.before.before.before.before.before.before) paint.ensures call.ensures

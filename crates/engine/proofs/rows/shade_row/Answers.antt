@@ -10,13 +10,11 @@ use Rattle.engine.proofs.rows.shade_row.Goals as goal
 
 pub shade_masked-requires : goal.shade_masked-requires
 shade_masked-requires c =
-    let p = c.requires in
-    record { shaded = p.0; on_surface = p.1.0; row_coverage = (p.1.1.0, p.1.1.1 c.if-style.true) }
+    record { shaded = c.requires.shaded; on_surface = c.requires.on_surface; row_coverage = (c.requires.row_coverage.0, c.requires.row_coverage.1 c.if-style.true) }
 
 pub shade_plain-requires : goal.shade_plain-requires
 shade_plain-requires c =
-    let p = c.requires in
-    record { shaded = p.0; on_surface = p.1.0; row_coverage = p.1.1.0 }
+    record { shaded = c.requires.shaded; on_surface = c.requires.on_surface; row_coverage = c.requires.row_coverage.0 }
 
 pub returns-then-style : goal.returns-then-style
 returns-then-style c =

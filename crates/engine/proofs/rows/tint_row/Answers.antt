@@ -10,5 +10,4 @@ returns-in-Plain c =
 pub returns-in-Transformed : goal.returns-in-Transformed
 returns-in-Transformed c =
     let call = c.transform_row in
-    let arm = c.tint-1.given in
-    transformed_row c.args.n c.args.row.now c.args.tint arm.0.0 call.new.row arm.1 call.ensures
+    transformed_row c.args.n c.args.row.now c.args.tint c.in-Transformed.t call.new.row c.in-Transformed.is call.ensures

@@ -8,14 +8,11 @@ use Rattle.engine.proofs.spans.shade_gradient.Goals as goal
 
 pub shade_level-requires : goal.shade_level-requires
 shade_level-requires c =
-    let arm = c.gradient-1.given in
-    let l = arm.0.0 in
-    let p = c.requires.1 in
-    let held = subst (λ (z : AnyGradient). HeldGradient z c.args.ramp.now) arm.1 c.requires.held_gradient in
+    let l = c.in-Linear.l in
+    let held = subst (λ (z : AnyGradient). HeldGradient z c.args.ramp.now) c.in-Linear.is c.requires.held_gradient in
     let level = same_bits 1048576 l.points.x0 l.points.x1 tt held.0.x0 held.0.x1 c.if-p.true in
-    record { limited_points = (held.0, held.1, level); on_surface = (p.0.0, p.0.1, p.0.2.1); row_coverage = p.1 }
+    record { limited_points = (held.0, held.1, level); on_surface = (c.requires.on_surface.0, c.requires.on_surface.1, c.requires.on_surface.2.1); row_coverage = c.requires.row_coverage }
 
 pub returns-then-p : goal.returns-then-p
 returns-then-p c =
-    let arm = c.gradient-1.given in
-    rw arm.1 c.shade_level.ensures
+    rw c.in-Linear.is c.shade_level.ensures

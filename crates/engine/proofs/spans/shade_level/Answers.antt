@@ -9,8 +9,7 @@ use Rattle.engine.proofs.spans.shade_level.Goals as goal
 pub composite_runs-requires : goal.composite_runs-requires
 composite_runs-requires c =
     let a = c.args in
-    let p = c.requires.1 in
-    record { runs = (p.1.0, omega (arith, runs_few a.runs.now a.count a.strip.length p.1.0, p.0.2), p.0.1); coverage = p.1.1 }
+    record { runs = (c.requires.row_coverage.0, omega (arith, runs_few a.runs.now a.count a.strip.length c.requires.row_coverage.0, c.requires.on_surface.2), c.requires.on_surface.1); coverage = c.requires.row_coverage.1 }
 
 pub returns : goal.returns
 returns c =

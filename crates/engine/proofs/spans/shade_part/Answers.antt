@@ -92,13 +92,13 @@ composite_painted_runs-requires c =
     let a = c.args in
     let p = part c.before.before.before.before.before.before.before.before.before.before.before.before.before.before in
     let q = c.gradient_row.new.paints in
-    let given = painted c.before.before.before.before.before.before in
-    let size : long c.before.before.before.before.before.before.before.before.before ≡ (start_of a.runs.now a.part.to - start_of a.runs.now a.part.from) * 4 =
+    let given = painted c.before.before.before.before.before in
+    let size : long c.before.before.before.before.before.before.before.before ≡ (start_of a.runs.now a.part.to - start_of a.runs.now a.part.from) * 4 =
     omega (arith, c.start-e.ensures, c.start-a.ensures) in
     record {
       runs = (subst (Runs a.runs.now a.part.to) (sym c.start-e.ensures) p.0, p.1, omega arith, p.2);
       src_len = (
-        ap length (first_of _ (long c.before.before.before.before.before.before.before.before.before) ∙ first_part q (behind c.before.before.before.before.before.before.before.before.before) (long c.before.before.before.before.before.before.before.before.before) given) ∙ given ∙ size,
+        ap length (first_of _ (long c.before.before.before.before.before.before.before.before) ∙ first_part q (behind c.before.before.before.before.before.before.before.before) (long c.before.before.before.before.before.before.before.before) given) ∙ given ∙ size,
         c.requires.row_len.0,
       );
       coverage = p.4;
@@ -111,6 +111,6 @@ returns c =
     let paint = c.gradient_row in
     let call = c.composite_painted_runs in
     part_row a.mode a.strip.x c.start-a.result c.start-e.result (start_of runs a.part.from) (start_of runs a.part.to)
-    (expand runs a.part.to) paint.new.paints (behind c.before.before.before.before.before.before.before.before.before.before.before.before) a.row.now call.new.row
-    (λ z. gradient_tinted a.g a.ramp.now z a.strip.y) c.start-a.ensures c.start-e.ensures (painted c.before.before.before.before.before.before.before.before.before)
+    (expand runs a.part.to) paint.new.paints (behind c.before.before.before.before.before.before.before.before.before.before.before) a.row.now call.new.row
+    (λ z. gradient_tinted a.g a.ramp.now z a.strip.y) c.start-a.ensures c.start-e.ensures (painted c.before.before.before.before.before.before.before.before)
     paint.ensures call.ensures

@@ -111,25 +111,24 @@ shade_part-requires c =
     let l = c.loop-j in
     let a = c.args in
     let runs = a.runs.now in
-    let p = c.requires.1 in
     let from = c.start-from in
     let to = c.start-to in
     let size : to.result * 4 - from.result * 4 ≡ (start_of runs t.result - start_of runs l.j) * 4 = omega (arith, from.ensures, to.ensures) in
     record {
       held_gradient = c.requires.held_gradient;
       on_surface = (
-        p.0.0,
+        c.requires.on_surface.0,
         (
           first_runs runs a.count a.strip.length (made c.before.before.before.before.before.before.before.before.before.before.before.before.before) t.result t.ensures.1,
           low c.before.before.before.before.before,
           omega (arith, t.ensures.1, few c.before.before.before.before.before.before.before.before.before.before.before.before.before),
           end c.before.before.before.before.before,
-          first_covered runs a.count a.strip.length (made c.before.before.before.before.before.before.before.before.before.before.before.before.before) p.1.1 t.result t.ensures.1,
+          first_covered runs a.count a.strip.length (made c.before.before.before.before.before.before.before.before.before.before.before.before.before) c.requires.row_coverage.1 t.result t.ensures.1,
         ),
       );
       row_len = (
         part_length l.row (from.result * 4) (to.result * 4) (omega (arith, rising c.before.before.before)) (ends c.before.before.before) ∙ size,
-        l.invariant.1 ∙ p.0.2.0,
+        l.invariant.1 ∙ c.requires.on_surface.2.0,
       );
     }
 

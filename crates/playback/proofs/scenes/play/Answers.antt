@@ -1,6 +1,6 @@
 -- `play` meets its contract: after i scenes it holds what the first i calls leave, one by one.
 use mathlib.Core.Path.{◌≡◌, refl, ◌∙◌}
-use Prim.Native.Nat.{◌+◌, ◌-◌}
+use Prim.Native.Nat.{◌+◌, ◌-◌, ◌≤◌}
 use native.Mathlib.Omega.{arith}
 use lib.ListN.{length}
 use Rattle.render.specs.Answers.{Mask, mask_of}
@@ -9,49 +9,42 @@ use Rattle.playback.specs.Carrying.{Lies}
 use Rattle.playback.proofs.Turns.{Done, done_first, lies, done_next, done_all}
 use borrow.Author.Rules.{rules}
 use Rattle.playback.proofs.scenes.play.Goals as goal
-use Rattle.playback.proofs.scenes.play.Tie as tie
-use Rattle.playback.proofs.scenes.play.Lts as lts
-use Rattle.playback.proofs.scenes.play.Reads as reads
-
-abbrev mask : lts.Start tie.the-claims reads.Pre reads.Post goal.the-invariant-loop-i goal.the-decreases-loop-i tie.handed_clauses → Mask
-mask entry = mask_of entry.args.masked entry.args.mask.now
-
--- the scene lies in the run
-there : (c : lts.After-wide tie.the-claims reads.Pre reads.Post goal.the-invariant-loop-i goal.the-decreases-loop-i tie.handed_clauses)
-    → let l = c.loop-i in
-    (p : Place) → p.at ≡ l.at → p.end ≡ l.at + c.wide.result → Lies c.args.run.now p
-there c p ea ee =
-    let l = c.loop-i in
-    let a = c.args in
-    lies a.run.now a.lengths.now (mask c.before.before.before.before.before.before.before.before.before) a.surface.now a.scratch.now a.answers.now l.i l.at c.wide.result l.carried _ _ _
-    p l.invariant.0 c.loop-i-test.true c.requires.lengths_value c.wide.ensures.0 ea ee
 
 pub loop-i-init : goal.loop-i-init
 loop-i-init c =
     let a = c.args in
-    (done_first a.run.now a.lengths.now (mask c.before.before.before.before.before.before) a.surface.now a.scratch.now a.answers.now _ refl, (refl, (refl, refl)))
+    (done_first a.run.now a.lengths.now (mask_of a.masked a.mask.now) a.surface.now a.scratch.now a.answers.now _ refl, (refl, (refl, refl)))
 
 pub overflow_add-end : goal.overflow_add-end
 overflow_add-end c =
     let l = c.loop-i in
-    let in-run = there c.before (record { at = l.at; end = l.at + c.wide.result; answer = 0 }) refl refl in
-    record { fits = omega (arith, in-run.ends, c.well_formed.0.0) }
+    let a = c.args in
+    let ends : l.at + c.wide.result ≤ length a.run.now =
+    (lies a.run.now a.lengths.now (mask_of a.masked a.mask.now) a.surface.now a.scratch.now a.answers.now l.i l.at c.wide.result l.carried _ _ _
+    (record { at = l.at; end = l.at + c.wide.result; answer = 0 }) l.invariant.0 c.loop-i-test.true c.requires.lengths_value c.wide.ensures.0 refl refl).ends in
+    omega arith
 
 pub turn-carried-requires : goal.turn-carried-requires
 turn-carried-requires c =
     let l = c.loop-i in
-    ((l.invariant.0.fits, there c.before.before.before.before _ refl refl), omega (arith, l.invariant.1.1.1, c.requires.lengths_in_bounds))
+    let a = c.args in (
+      (
+        l.invariant.0.fits,
+        lies a.run.now a.lengths.now (mask_of a.masked a.mask.now) a.surface.now a.scratch.now a.answers.now l.i l.at c.wide.result l.carried _ _ _
+            _ l.invariant.0 c.loop-i-test.true c.requires.lengths_value c.wide.ensures.0 refl refl,
+      ),
+      omega (arith, l.invariant.1.1.1, c.requires.lengths_in_bounds),
+    )
 
 pub loop-i-preserved : goal.loop-i-preserved
 loop-i-preserved c =
     let t = c.turn-carried in
-    let lengths = t.auto.surface in
     let l = c.loop-i in
     let a = c.args in (
-      done_next a.run.now a.lengths.now (mask c.before.before.before.before.before.before.before.before.before.before.before.before.before.before.before.before.before.before.before) a.surface.now a.scratch.now a.answers.now l.i l.at c.wide.result
+      done_next a.run.now a.lengths.now (mask_of a.masked a.mask.now) a.surface.now a.scratch.now a.answers.now l.i l.at c.wide.result
           l.carried _ _ _ _ _ _ _ _ l.invariant.0 c.loop-i-test.true c.requires.lengths_value c.requires.lengths_in_bounds c.wide.ensures.0 refl
           (record { carried = t.ensures.value; picture = t.ensures.surface_after; working = t.ensures.scratch_after; out = t.ensures.answers_after }),
-      (lengths.0 ∙ l.invariant.1.0, (lengths.1.0 ∙ l.invariant.1.1.0, lengths.1.1.0 ∙ l.invariant.1.1.1)),
+      (t.auto.surface ∙ l.invariant.1.0, (t.auto.scratch ∙ l.invariant.1.1.0, t.auto.answers ∙ l.invariant.1.1.1)),
     )
 
 pub returns : goal.returns
@@ -59,4 +52,5 @@ returns c =
     let l = c.loop-i in
     let a = c.args in
     let e : l.i ≡ length a.lengths.now = omega (arith, l.invariant.0.count, c.loop-i-test.false) in
-    record { value = (done_all a.run.now a.lengths.now (mask c.before.before.before.before.before.before.before.before) a.surface.now a.scratch.now a.answers.now l.i l.carried l.at _ _ _ l.invariant.0 e).0; surface_after = (done_all a.run.now a.lengths.now (mask c.before.before.before.before.before.before.before.before) a.surface.now a.scratch.now a.answers.now l.i l.carried l.at _ _ _ l.invariant.0 e).1.0; scratch_after = (done_all a.run.now a.lengths.now (mask c.before.before.before.before.before.before.before.before) a.surface.now a.scratch.now a.answers.now l.i l.carried l.at _ _ _ l.invariant.0 e).1.1.0; answers_after = (done_all a.run.now a.lengths.now (mask c.before.before.before.before.before.before.before.before) a.surface.now a.scratch.now a.answers.now l.i l.carried l.at _ _ _ l.invariant.0 e).1.1.1 }
+    let done = done_all a.run.now a.lengths.now (mask_of a.masked a.mask.now) a.surface.now a.scratch.now a.answers.now l.i l.carried l.at _ _ _ l.invariant.0 e in
+    record { value = done.0; surface_after = done.1.0; scratch_after = done.1.1.0; answers_after = done.1.1.1 }

@@ -7,8 +7,8 @@ redraw_from-requires c =
 
 pub returns-then-any : goal.returns-then-any
 returns-then-any c =
-    record { value = (rw c.if-any.true c.redraw_from.ensures).0; surface_after = (rw c.if-any.true c.redraw_from.ensures).1.0; scratch_after = (rw c.if-any.true c.redraw_from.ensures).1.1 }
+    record { value = rw c.if-any.true c.redraw_from.ensures.value; surface_after = rw c.if-any.true c.redraw_from.ensures.surface_after; scratch_after = rw c.if-any.true c.redraw_from.ensures.scratch_after }
 
 pub returns : goal.returns
 returns c =
-    record { value = (rw c.if-any.false c.draw.ensures).0; surface_after = (rw c.if-any.false c.draw.ensures).1.0; scratch_after = (rw c.if-any.false c.draw.ensures).1.1 }
+    record { value = rw c.if-any.false c.draw.ensures.value; surface_after = rw c.if-any.false c.draw.ensures.surface_after; scratch_after = rw c.if-any.false c.draw.ensures.scratch_after }

@@ -1,3 +1,6 @@
+use mathlib.Core.Bool.{Bool}
+use mathlib.Core.List.{List}
+use Rattle.scene.specs.Rules.{scene_fault}
 use Prim.Native.Nat.{ℕ}
 use mathlib.Core.Path.{◌≡◌, refl, sym, ap₂, ◌∙◌}
 use Rattle.render.specs.declared.Refusal.{Refusal}
@@ -5,19 +8,16 @@ use Rattle.render.specs.Answers.{mask_of, nothing, or_else, scene_refusal, lent_
 use Rattle.render.proofs.Refusals.{first_refused, first_passed, scene_passes, scene_passed, accepted_block}
 use borrow.Author.Rules.{rules}
 use Rattle.render.proofs.judge.judge_redraw_from.Goals as goal
-use Rattle.render.proofs.judge.judge_redraw_from.Tie as tie
-use Rattle.render.proofs.judge.judge_redraw_from.Lts as lts
-use Rattle.render.proofs.judge.judge_redraw_from.Reads as reads
 
 -- the old scene's rules, which come first, are kept
-from_old : (entry : lts.Start tie.the-claims reads.Pre reads.Post) (r rest : Refusal) → r ≡ rest → r ≡ or_else (scene_refusal entry.args.masked entry.args.old.now 0) rest
-from_old entry r rest = first_passed nothing _ r rest (sym (scene_passes entry.args.masked entry.args.old.now 0 entry.requires)) refl
+from_old : (masked : Bool) (old : List ℕ) (r rest : Refusal) → (scene_fault masked old).code ≡ 0 → r ≡ rest → r ≡ or_else (scene_refusal masked old 0) rest
+from_old masked old r rest k = first_passed nothing _ r rest (sym (scene_passes masked old 0 k)) refl
 
 pub returns-then-new_broken-ne-ACCEPTED : goal.returns-then-new_broken-ne-ACCEPTED
 unfolding redraw_refusal
 returns-then-new_broken-ne-ACCEPTED c =
     let g = c.judge_scene-new_broken in
-    from_old c.before.before.before.before.before.before.before g.result _ (first_refused g.result _ _ g.ensures c.if-new_broken-ne-ACCEPTED.true)
+    from_old c.args.masked c.args.old.now g.result _ c.requires (first_refused g.result _ _ g.ensures c.if-new_broken-ne-ACCEPTED.true)
 
 pub judge_sizes-unequal-requires : goal.judge_sizes-unequal-requires
 judge_sizes-unequal-requires c =
@@ -32,7 +32,7 @@ unfolding redraw_refusal
 returns-then-unequal-ne-ACCEPTED c =
     let g = c.judge_scene-new_broken in
     let e = c.judge_sizes-unequal in
-    from_old c.before.before.before.before.before.before.before.before.before.before e.result _
+    from_old c.args.masked c.args.old.now e.result _ c.requires
     (first_passed g.result _ e.result _ g.ensures c.if-new_broken-ne-ACCEPTED.false (first_refused e.result _ _ e.ensures c.if-unequal-ne-ACCEPTED.true))
 
 pub width-requires : goal.width-requires
@@ -58,7 +58,7 @@ returns c =
     let g = c.judge_scene-new_broken in
     let e = c.judge_sizes-unequal in
     let r = c.judge_lent in
-    from_old c.before.before.before.before.before.before.before.before.before.before.before.before.before r.result _
+    from_old c.args.masked c.args.old.now r.result _ c.requires
     (first_passed g.result _ r.result _ g.ensures c.if-new_broken-ne-ACCEPTED.false
     (first_passed e.result _ r.result _ e.ensures c.if-unequal-ne-ACCEPTED.false
     (r.ensures ∙ ap₂ (λ (x y : ℕ). lent_refusal x y (mask_of a.masked a.mask.now) a.surface a.scratch) c.width.ensures.0
