@@ -1,9 +1,8 @@
 use mathlib.Core.Path.{sym, ◌∙◌}
-use Rattle.render.specs.Answers.{Mask, mask_of}
-use Rattle.render.proofs.Refusals.{ReadyBoth, redraw_ready, ready_limits, accepted_block}
+use Rattle.render.specs.Answers.{mask_of}
+use Rattle.render.proofs.Refusals.{redraw_ready, ready_limits, accepted_block}
 use Rattle.scene.proofs.Accepted.{accepted_scene}
 use Rattle.regions.proofs.Results.{proposal_passes, proposal_rejects, judged, by_redraw, by_proposal}
-use borrow.Author.Rules.{rules}
 use Rattle.regions.proofs.judge_regions.Goals as goal
 
 pub returns-then-f-ne-ACCEPTED : goal.returns-then-f-ne-ACCEPTED

@@ -1,17 +1,12 @@
 -- `regions::redraw_regions` meets its contract: a refused call changes nothing, an accepted one paints the rectangles.
-use mathlib.Core.Path.{◌≡◌, ◌∙◌}
-use mathlib.Core.Bool.{true}
+use mathlib.Core.Path.{◌∙◌}
 use native.Mathlib.Omega.{arith}
 use lib.ListN.{length}
-use Rattle.scene.specs.Header.{width_of, height_of}
 use Rattle.scene.proofs.Accepted.{accepted_scene}
-use Rattle.render.specs.Answers.{Mask, mask_of}
-use Rattle.render.proofs.Refusals.{ReadyBoth, ready_size, ready_limits, ready_mask, taken_most, accepted_block, zeroed}
+use Rattle.render.specs.Answers.{mask_of}
+use Rattle.render.proofs.Refusals.{ready_size, ready_limits, ready_mask, taken_most, accepted_block, zeroed}
 use Rattle.render.proofs.Results.{taken_bytes}
-use Rattle.regions.specs.Proposals.{acceptable}
-use Rattle.regions.specs.Answers.{changes}
 use Rattle.regions.proofs.Results.{regions_ready, regions_refused, regions_done, accepted_on}
-use borrow.Author.Rules.{rules}
 use Rattle.regions.proofs.redraw_regions.Goals as goal
 
 pub returns-then-f-ne-ACCEPTED : goal.returns-then-f-ne-ACCEPTED

@@ -4,7 +4,6 @@ use Rattle.regions.specs.Pixels.{covers}
 use Rattle.regions.specs.Proposals.{proposed}
 use Rattle.regions.proofs.Every.{of_not, of_not_no}
 use Rattle.regions.proofs.Verdicts.{none_changed, old_uncovered, new_decides}
-use borrow.Author.Rules.{rules}
 use Rattle.regions.proofs.accept.draw_covered.Goals as goal
 
 pub returns-then-not-is_changed : goal.returns-then-not-is_changed
