@@ -1,11 +1,11 @@
 -- `planner::redraw_planned` meets its contract: a refused call changes nothing, an accepted one paints the planned rectangles.
-use mathlib.Core.Path.{◌≡◌, refl, ◌∙◌}
+use mathlib.Core.Path.{refl, ◌∙◌}
 use Prim.Native.Nat.{◌*◌}
 use native.Mathlib.Omega.{arith}
 use lib.ListN.{length}
 use Rattle.scene.proofs.Accepted.{accepted_scene}
-use Rattle.render.specs.Answers.{Mask, mask_of}
-use Rattle.render.proofs.Refusals.{ReadyBoth, redraw_ready, ready_size, ready_limits, ready_mask, taken_most, accepted_block, zeroed}
+use Rattle.render.specs.Answers.{mask_of}
+use Rattle.render.proofs.Refusals.{redraw_ready, ready_size, ready_limits, ready_mask, taken_most, accepted_block, zeroed}
 use Rattle.render.proofs.Results.{taken_bytes}
 use Rattle.planner.proofs.Redrawing.{plan_part, part_on, planned_refused, planned_done}
 use borrow.Author.Rules.{rules}

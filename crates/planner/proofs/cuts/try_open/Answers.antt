@@ -2,10 +2,6 @@ use mathlib.Core.Path.{sym, ap, ◌∙◌}
 use Rattle.planner.specs.Runs.{rect_at}
 use Rattle.planner.specs.Cuts.{opens}
 use Rattle.planner.proofs.Searches.{passed_searched, found_searched}
-use borrow.Author.Rules.{rules}
-use Rattle.planner.proofs.cuts.better.Reads as better-reads
-use Rattle.planner.proofs.cuts.cut_at.Reads as cut-at-reads
-use Rattle.planner.proofs.cuts.is_open.Reads as is-open-reads
 use Rattle.planner.proofs.cuts.try_open.Goals as goal
 
 -- src/cuts.rt:223:9

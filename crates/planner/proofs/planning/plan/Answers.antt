@@ -1,12 +1,9 @@
 use native.Mathlib.Omega.{arith}
 use lib.ListN.{length}
 use Rattle.scene.proofs.Accepted.{accepted_scene}
-use Rattle.render.specs.Answers.{Mask, mask_of, scratch_numbers}
-use Rattle.render.proofs.Refusals.{ReadyBoth, accepted_block}
-use Prim.Native.Nat.{◌≤◌}
-use Rattle.planner.specs.Plannings.{surface_for}
+use Rattle.render.specs.Answers.{mask_of}
+use Rattle.render.proofs.Refusals.{accepted_block}
 use Rattle.planner.proofs.Answering.{plan_ready, plan_refused, plan_done}
-use borrow.Author.Rules.{rules}
 use Rattle.planner.proofs.planning.plan.Goals as goal
 
 pub returns-then-f-ne-ACCEPTED : goal.returns-then-f-ne-ACCEPTED
