@@ -1,8 +1,8 @@
 -- Boxes put into a run, one behind another.
-use mathlib.Core.Path.{◌≡◌, refl, sym, ap, ◌∙◌}
+use mathlib.Core.Path.{◌≡◌, ap, ◌∙◌}
 use mathlib.Core.List.{List, [], ◌∷◌, ◌++◌, append_assoc, append-nil}
-use mathlib.Core.Bool.{true, false, cond}
-use Prim.Native.Nat.{ℕ, ◌+◌, ◌*◌, ◌≤◌, ◌<◌, max}
+use mathlib.Core.Bool.{true, false}
+use Prim.Native.Nat.{ℕ, ◌+◌, ◌*◌, ◌<◌}
 use native.Mathlib.Numerals.{add-one}
 use native.Mathlib.Omega.{arith}
 use lib.ListN.{length}
@@ -10,7 +10,6 @@ use Rattle.lists.specs.Lists.{upto, tab}
 use Rattle.lists.proofs.Laws.{upto_more, upto_same}
 use Rattle.rect.specs.declared.Rect.{Rect}
 use Rattle.rect.specs.Rects.{whole}
-use Rattle.scene.specs.Header.{count_of}
 use Rattle.damage.specs.Damage.{changed_at, box_at, boxes_at, changed_boxes, same_background}
 use Rattle.regions.specs.Proposals.{to_cover}
 use Rattle.planner.specs.Runs.{rect_at, put}

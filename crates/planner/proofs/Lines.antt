@@ -1,6 +1,6 @@
 -- Lines that no box touches. The first line of the area is touched, and what is free begins where a box ends: so where a line of the area is
 -- free, one at which a box ends is.
-use mathlib.Core.Path.{◌≡◌, refl, sym, ap, ◌∙◌}
+use mathlib.Core.Path.{◌≡◌, refl, sym, ◌∙◌}
 use mathlib.Core.Bool.{Bool, true, false, not, ◌&&◌, true≢false}
 use mathlib.Core.Logic.{⊎_elim}
 use Prim.Native.Nat.{ℕ, zero, suc, ◌+◌, ◌-◌, ◌≤◌, ◌<◌}
@@ -8,14 +8,14 @@ use native.Mathlib.Nat.{eq-or-lt_of_le, le_of_suc-le-suc, not-suc-le-zero}
 use native.Mathlib.Numerals.{add-one}
 use native.Mathlib.Omega.{arith}
 use lib.Dec.{leb, ltb}
-use borrow.Author.Tests.{ltb-true, ltb-false, leb-true, leb-false, le-leb, lt-ltb, not-true}
+use borrow.Author.Tests.{ltb-true, leb-true, le-leb, lt-ltb, not-true}
 use Rattle.lists.specs.Lists.{tab}
 use Rattle.rect.specs.declared.Rect.{Rect}
 use Rattle.rect.specs.Rects.{Inside, Holds, empty_of, smallest}
-use Rattle.rect.proofs.Laws.{both, either, not_true_is, empty_out, not_empty, Wide}
+use Rattle.rect.proofs.Laws.{both, not_true_is, empty_out, not_empty, Wide}
 use Rattle.regions.specs.Planned.{along, lowest, past}
 use Rattle.planner.specs.Cuts.{before, beyond, shrunk, touches, free, opens}
-use Rattle.planner.proofs.Parts.{round_each, round_least, in_before, in_beyond, line_before, line_beyond, one_half, shrunk_has, shrunk_in, shrunk_least}
+use Rattle.planner.proofs.Parts.{round_each, round_least, in_beyond, line_before, line_beyond, one_half, shrunk_has, shrunk_in, shrunk_least}
 use Rattle.planner.proofs.Tiling.{same_or}
 
 -- ---- a box and a line

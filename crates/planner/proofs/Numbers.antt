@@ -1,21 +1,19 @@
 -- The numbers of a proposal that names given rectangles.
 use mathlib.Core.Path.{◌≡◌, refl, sym, ap, ◌∙◌}
-use mathlib.Core.Bool.{Bool, true, false, ◌&&◌, ◌||◌, true≢false, false≢true}
-use mathlib.Core.List.{List, [], ◌∷◌, ◌++◌}
+use mathlib.Core.Bool.{true, false}
+use mathlib.Core.List.{List, [], ◌∷◌}
 use mathlib.Core.Logic.{⊎_elim}
-use Prim.Native.Nat.{ℕ, zero, suc, ◌+◌, ◌*◌, ◌-◌, ◌/◌, ◌%◌, ◌≤◌, ◌<◌}
+use Prim.Native.Nat.{ℕ, zero, suc, ◌+◌, ◌*◌, ◌-◌, ◌/◌, ◌≤◌, ◌<◌}
 use native.Mathlib.Nat.{eq-or-lt_of_le, le_of_suc-le-suc, not-suc-le-zero}
 use native.Mathlib.Omega.{arith}
 use lib.ListN.{length, get_or, get_or-append}
 use lib.Seq.{get_or-append-add}
-use lib.IntN.{ℤ, pos, nat_abs, ◌+ℤ◌}
-use lib.Signed.{le_z, lt_z}
-use lib.Dec.{leb, ltb}
+use lib.IntN.{ℤ, pos, nat_abs}
 use borrow.Author.Tests.{le-leb, lt-ltb}
 use Rattle.lists.specs.Lists.{upto, tab, over}
 use Rattle.lists.proofs.Laws.{upto_length, run_fits, upto_same, emit_four}
 use Rattle.rect.specs.declared.Rect.{Rect}
-use Rattle.rect.specs.Rects.{Inside, inside, Holds, On}
+use Rattle.rect.specs.Rects.{Inside, inside}
 use Rattle.rect.proofs.Laws.{not_true_is, inside_true, inside_yes}
 use Rattle.regions.specs.Pixels.{in_any}
 use Rattle.regions.specs.Runs.{in_one}

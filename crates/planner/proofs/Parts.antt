@@ -1,21 +1,19 @@
 -- The two parts of a rectangle that is cut at a line: they lie in it and share no pixel, and what the boxes have of it is in one of them.
-use mathlib.Core.Path.{◌≡◌, refl, sym, ap, ◌∙◌}
-use mathlib.Core.Bool.{Bool, true, false, not, ◌&&◌, true≢false}
+use mathlib.Core.Path.{◌≡◌, refl, ◌∙◌}
+use mathlib.Core.Bool.{Bool, true, false}
 use mathlib.Core.List.Memᴰ
-use mathlib.Core.List.{List, [], ◌∷◌, foldl-append, Memᴰ}
-use mathlib.Core.Logic.{⊎_elim}
-use Prim.Native.Nat.{ℕ, zero, suc, ◌+◌, ◌-◌, ◌≤◌, ◌<◌}
-use native.Mathlib.Nat.{eq-or-lt_of_le, le_of_suc-le-suc, not-suc-le-zero}
+use mathlib.Core.List.{[], ◌∷◌, foldl-append, Memᴰ}
+use Prim.Native.Nat.{ℕ, ◌+◌, ◌≤◌, ◌<◌}
 use native.Mathlib.Numerals.{add-one}
 use native.Mathlib.Omega.{arith}
-use lib.Dec.{leb, ltb}
+use lib.Dec.{ltb}
 use borrow.Author.Tests.{ltb-true, ltb-false}
 use Rattle.lists.specs.Lists.{tab}
 use Rattle.rect.specs.declared.Rect.{Rect}
-use Rattle.rect.specs.Rects.{Inside, Holds, empty_of, meet_of, join_of, smallest}
-use Rattle.rect.proofs.Laws.{either, empty_out, meet_in, meet_left, meet_right, smallest_holds, smallest_least}
+use Rattle.rect.specs.Rects.{Inside, Holds, meet_of, join_of, smallest}
+use Rattle.rect.proofs.Laws.{either, meet_in, meet_left, meet_right, smallest_holds, smallest_least}
 use Rattle.damage.proofs.Members.{upto_has, upto_cases}
-use Rattle.regions.specs.Planned.{along, lowest, past}
+use Rattle.regions.specs.Planned.{along}
 use Rattle.planner.specs.Cuts.{before, beyond, shrunk}
 
 -- ---- the smallest rectangle round m of them

@@ -1,30 +1,30 @@
 -- What the planner proposes keeps to what the paper asks of it.
 use mathlib.Core.Path.{◌≡◌, refl, sym, ap, subst, ◌∙◌}
-use mathlib.Core.Bool.{Bool, true, false, not, cond, ◌&&◌, true≢false, false≢true}
-use mathlib.Core.List.{List, [], ◌∷◌}
-use Prim.Native.Nat.{ℕ, ◌+◌, ◌*◌, ◌-◌, ◌/◌, ◌%◌, ◌≤◌, ◌<◌, max}
+use mathlib.Core.Bool.{Bool, true, false, true≢false, false≢true}
+use mathlib.Core.List.{List, []}
+use Prim.Native.Nat.{ℕ, ◌-◌, ◌/◌, ◌≤◌, ◌<◌}
 use native.Mathlib.Omega.{arith}
 use lib.ListN.{length}
 use lib.IntN.{ℤ}
 use borrow.Author.Tests.{lt-leb}
 use Rattle.lists.specs.Lists.{tab, over}
 use Rattle.rect.specs.declared.Rect.{Rect}
-use Rattle.rect.specs.Rects.{Inside, Holds, On, none, whole, empty_of, smallest}
+use Rattle.rect.specs.Rects.{Inside, Holds, none, empty_of, smallest}
 use Rattle.rect.proofs.Laws.{either, empty_out, not_empty}
-use Rattle.scene.specs.Header.{width_of, height_of, count_of}
+use Rattle.scene.specs.Header.{width_of, height_of}
 use Rattle.scene.specs.Accepted.{AcceptedScene}
-use Rattle.damage.specs.Damage.{changed_at, box_at, changed_boxes, same_background, damage_of, damage}
+use Rattle.damage.specs.Damage.{changed_boxes, same_background, damage}
 use Rattle.damage.proofs.Changes.{damage_boxes, damage_whole}
 use Rattle.damage.proofs.Smallest.{damage_holds, damage_none, damage_on}
 use Rattle.regions.specs.Pixels.{in_any}
-use Rattle.regions.specs.Proposals.{proposed_at, proposed, to_cover, Acceptable}
+use Rattle.regions.specs.Proposals.{proposed, to_cover, Acceptable}
 use Rattle.regions.specs.Answers.{changes}
 use Rattle.regions.proofs.Accepted.{has_accepted}
-use Rattle.regions.specs.Planned.{along, lowest, past, FreeLine, LeftLine, Planned}
+use Rattle.regions.specs.Planned.{past, FreeLine, LeftLine, Planned}
 use Rattle.planner.specs.Runs.{numbers_of, Sized}
 use Rattle.planner.specs.Written.{Written}
 use Rattle.planner.specs.Cuts.{opens}
-use Rattle.planner.specs.Tilings.{Tiling, Spared, Divided}
+use Rattle.planner.specs.Tilings.{Tiling, Divided}
 use Rattle.planner.proofs.Lines.{line_opens, opens_true, untouched}
 use Rattle.planner.proofs.Numbers.{any_yes, any_at, any_no, numbers_length, numbers_count, rect_back, rect_lies, proposed_back}
 

@@ -1,20 +1,19 @@
 -- The rectangles of a run after a cut, and what they keep to from the first to the last.
-use mathlib.Core.Path.{◌≡◌, refl, sym, ap, ◌∙◌}
+use mathlib.Core.Path.{◌≡◌, sym, ap, ◌∙◌}
 use mathlib.Core.List.{List}
-use mathlib.Core.Bool.{Bool, true, false, ◌||◌, true≢false}
-use Prim.Native.Nat.{ℕ, ◌+◌, ◌*◌, ◌≤◌, ◌<◌}
+use mathlib.Core.Bool.{Bool, true, false}
+use Prim.Native.Nat.{ℕ, ◌+◌, ◌*◌, ◌<◌}
 use native.Mathlib.Omega.{arith}
 use lib.ListN.{length}
 use Rattle.lists.specs.Lists.{tab}
 use Rattle.rect.specs.declared.Rect.{Rect}
-use Rattle.rect.specs.Rects.{Inside, Holds, empty_of, smallest}
+use Rattle.rect.specs.Rects.{empty_of, smallest}
 use Rattle.rect.proofs.Laws.{either, neither, not_empty, Wide}
 use Rattle.planner.specs.Runs.{rect_at}
-use Rattle.regions.specs.Planned.{along}
 use Rattle.planner.specs.declared.cuts.Cut.{Cut}
 use Rattle.planner.specs.Runs.{put}
 use Rattle.planner.specs.Cuts.{before, beyond, shrunk, opens, one_empty, split_run, split_count}
-use Rattle.planner.specs.Tilings.{Tiling, Spared, SparesOne, Divided, Refined, Opening}
+use Rattle.planner.specs.Tilings.{Tiling, Spared, Divided, Refined, Opening}
 use Rattle.planner.proofs.Parts.{round_each}
 use Rattle.planner.proofs.Tiling.{last_or, cut_tiling, cut_spares}
 use Rattle.planner.proofs.Lines.{first_there, second_there, first_spared, second_spared}

@@ -1,6 +1,6 @@
 -- For the planner's own functions; a reviewer of the paper need not read it.
 -- A rectangle cut in two by a line: a column, where upright is true, or a row.
-use Rattle.std.specs.Prelude.{ℕ, zero, suc, ◌+◌, min, max, Bool, true, false, cond, not, ◌&&◌, ◌||◌, List, leb, ltb}
+use Rattle.std.specs.Prelude.{ℕ, zero, suc, ◌+◌, min, max, Bool, true, cond, not, ◌&&◌, ◌||◌, List, leb, ltb}
 use Rattle.lists.specs.Lists.{tab}
 use Rattle.rect.specs.declared.Rect.{Rect}
 use Rattle.rect.specs.Rects.{empty_of, meet_of, smallest}

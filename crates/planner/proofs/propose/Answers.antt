@@ -8,7 +8,7 @@ use Rattle.planner.proofs.propose.Goals as goal
 pub collect-m-requires : goal.collect-m-requires
 collect-m-requires c =
     let p = c.requires in
-    record { accepted_scene = p.0; width_bound = ((omega (arith, p.1.0.0, p.0.1.width_most), omega (arith, p.1.0.1, p.0.1.height_most)), search rules) }
+    record { accepted_scene = p.accepted_scene; width_bound = ((omega (arith, p.width_value.0.0, p.accepted_scene.1.width_most), omega (arith, p.width_value.0.1, p.accepted_scene.1.height_most)), search rules) }
 
 pub around-area-requires : goal.around-area-requires
 around-area-requires c =
@@ -18,8 +18,8 @@ pub returns-then-is_empty : goal.returns-then-is_empty
 returns-then-is_empty c =
     let a = c.args in
     let p = c.requires in
-    written_nothing a.old.now a.new.now p.0.1 a.width a.height c.collect-m.result (rect_at c.collect-m.new.boxes) _
-    p.1.0.0 p.1.0.1 c.collect-m.ensures.1 c.around-area.ensures _ (sym c.is_empty.ensures ∙ c.if-is_empty.true)
+    written_nothing a.old.now a.new.now p.accepted_scene.1 a.width a.height c.collect-m.result (rect_at c.collect-m.new.boxes) _
+    p.width_value.0.0 p.width_value.0.1 c.collect-m.ensures.1 c.around-area.ensures _ (sym c.is_empty.ensures ∙ c.if-is_empty.true)
 
 pub divide-n-requires : goal.divide-n-requires
 divide-n-requires c =
@@ -32,9 +32,9 @@ write-requires c =
     record {
       n_in_bounds = (
         omega (arith, c.divide-n.ensures.tiling.few, c.divide-n.auto.rs),
-        omega (arith, c.divide-n.ensures.tiling.few, p.1.1),
+        omega (arith, c.divide-n.ensures.tiling.few, p.width_value.1),
       );
-      sized = parts_sized a.old.now a.new.now p.0.1 a.width a.height _ (rect_at c.collect-m.new.boxes) _ p.1.0.0 p.1.0.1
+      sized = parts_sized a.old.now a.new.now p.accepted_scene.1 a.width a.height _ (rect_at c.collect-m.new.boxes) _ p.width_value.0.0 p.width_value.0.1
           c.collect-m.ensures.1 c.around-area.ensures _ (rect_at c.divide-n.new.rs) c.divide-n.ensures;
     }
 
@@ -42,6 +42,6 @@ pub returns : goal.returns
 returns c =
     let a = c.args in
     let p = c.requires in
-    written_parts a.old.now a.new.now p.0.1 a.width a.height _ (rect_at c.collect-m.new.boxes) _ p.1.0.0 p.1.0.1
+    written_parts a.old.now a.new.now p.accepted_scene.1 a.width a.height _ (rect_at c.collect-m.new.boxes) _ p.width_value.0.0 p.width_value.0.1
     c.collect-m.ensures.1 c.around-area.ensures _ (rect_at c.divide-n.new.rs) c.divide-n.ensures _ _
     (sym c.is_empty.ensures ∙ c.if-is_empty.false) c.write.ensures

@@ -1,45 +1,35 @@
 use mathlib.Core.Path.{sym, ◌∙◌}
-use Rattle.render.specs.Answers.{Mask, mask_of}
-use Rattle.render.proofs.Refusals.{ReadyBoth, redraw_ready, ready_limits, accepted_block}
+use Rattle.render.specs.Answers.{mask_of}
+use Rattle.render.proofs.Refusals.{redraw_ready, ready_limits, accepted_block}
 use Rattle.scene.proofs.Accepted.{accepted_scene}
 use Rattle.regions.proofs.Results.{proposal_passes, proposal_rejects, judged, by_redraw, by_proposal}
-use borrow.Author.Rules.{rules}
 use Rattle.regions.proofs.judge_regions.Goals as goal
-use Rattle.regions.proofs.judge_regions.Tie as tie
-use Rattle.regions.proofs.judge_regions.Lts as lts
-use Rattle.regions.proofs.judge_regions.Reads as reads
-
-abbrev mask : lts.Start tie.the-claims reads.Pre reads.Post tie.handed_clauses → Mask
-mask s = mask_of s.args.masked s.args.mask.now
-
-ready : (c : lts.Else1 tie.the-claims reads.Pre reads.Post tie.handed_clauses)
-    → let a = c.args in
-    ReadyBoth a.old.now a.new.now (mask c.before.before.before.before.before.before) a.surface a.scratch
-ready c =
-    let a = c.args in
-    redraw_ready a.old.now a.new.now (mask c.before.before.before.before.before.before) a.surface a.scratch (rw c.judge_redraw-f.ensures at c.if-f-ne-ACCEPTED.false)
 
 pub returns-then-f-ne-ACCEPTED : goal.returns-then-f-ne-ACCEPTED
 returns-then-f-ne-ACCEPTED c =
     let a = c.args in
     let f = c.judge_redraw-f in
-    by_redraw a.old.now a.new.now (mask c.before.before.before.before.before.before.before) a.rectangles.now a.surface a.scratch f.result f.ensures c.if-f-ne-ACCEPTED.true
+    by_redraw a.old.now a.new.now (mask_of a.masked a.mask.now) a.rectangles.now a.surface a.scratch f.result f.ensures c.if-f-ne-ACCEPTED.true
 
 pub width-requires : goal.width-requires
 width-requires c =
-    accepted_block c.args.masked _ (ready c.before).after.scene
+    let a = c.args in
+    let r = redraw_ready a.old.now a.new.now (mask_of a.masked a.mask.now) a.surface a.scratch (rw c.judge_redraw-f.ensures at c.if-f-ne-ACCEPTED.false) in
+    accepted_block a.masked _ r.after.scene
 
 pub height-requires : goal.height-requires
 height-requires c =
-    accepted_block c.args.masked _ (ready c.before.before).after.scene
+    let a = c.args in
+    let r = redraw_ready a.old.now a.new.now (mask_of a.masked a.mask.now) a.surface a.scratch (rw c.judge_redraw-f.ensures at c.if-f-ne-ACCEPTED.false) in
+    accepted_block a.masked _ r.after.scene
 
 pub accept-requires : goal.accept-requires
 accept-requires c =
     let a = c.args in
-    let r = ready c.before.before.before in
+    let r = redraw_ready a.old.now a.new.now (mask_of a.masked a.mask.now) a.surface a.scratch (rw c.judge_redraw-f.ensures at c.if-f-ne-ACCEPTED.false) in
     record {
       accepted_scene = (accepted_scene a.old.now a.masked r.before, accepted_scene a.new.now a.masked r.after.scene);
-      width_bound = ready_limits a.new.now (mask c.before.before.before.before.before.before.before.before.before) _ _ c.width.result c.height.result r.after c.width.ensures.0
+      width_bound = ready_limits a.new.now (mask_of a.masked a.mask.now) _ _ c.width.result c.height.result r.after c.width.ensures.0
           c.height.ensures.0;
     }
 
@@ -47,7 +37,7 @@ pub returns-then-accept : goal.returns-then-accept
 returns-then-accept c =
     let f = c.judge_redraw-f in
     let a = c.args in
-    by_proposal a.old.now a.new.now (mask c.before.before.before.before.before.before.before.before.before.before.before.before) a.rectangles.now a.surface a.scratch f.result c.verdict.result f.ensures
+    by_proposal a.old.now a.new.now (mask_of a.masked a.mask.now) a.rectangles.now a.surface a.scratch f.result c.verdict.result f.ensures
     c.if-f-ne-ACCEPTED.false
     (c.verdict.ensures
     ∙ sym (proposal_passes a.old.now a.new.now a.rectangles.now
@@ -58,7 +48,7 @@ pub returns : goal.returns
 returns c =
     let f = c.judge_redraw-f in
     let a = c.args in
-    by_proposal a.old.now a.new.now (mask c.before.before.before.before.before.before.before.before.before.before.before.before) a.rectangles.now a.surface a.scratch f.result c.verdict-2.result f.ensures
+    by_proposal a.old.now a.new.now (mask_of a.masked a.mask.now) a.rectangles.now a.surface a.scratch f.result c.verdict-2.result f.ensures
     c.if-f-ne-ACCEPTED.false
     (c.verdict-2.ensures
     ∙ sym (proposal_rejects a.old.now a.new.now a.rectangles.now

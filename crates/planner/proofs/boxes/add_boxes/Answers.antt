@@ -2,10 +2,6 @@ use mathlib.Core.Path.{sym, ◌∙◌}
 use native.Mathlib.Omega.{arith}
 use borrow.Author.Tests.{not-true, not-false}
 use Rattle.planner.proofs.Collected.{none_put, both_put}
-use borrow.Author.Rules.{rules}
-use Rattle.damage.proofs.is_changed.Reads as is-changed-reads
-use Rattle.planner.proofs.runs.put_rect.Reads as put-rect-reads
-use Rattle.regions.proofs.accept.box_of.Reads as box-of-reads
 use Rattle.planner.proofs.boxes.add_boxes.Goals as goal
 
 -- src/boxes.rt:78:9

@@ -1,7 +1,6 @@
 use mathlib.Core.Path.{refl, sym, ◌∙◌}
 use native.Mathlib.Omega.{arith}
 use Rattle.planner.proofs.Collected.{cover_boxes, cover_surface}
-use borrow.Author.Rules.{rules}
 use Rattle.planner.proofs.boxes.collect.Goals as goal
 
 pub returns-then-same_background : goal.returns-then-same_background

@@ -1,14 +1,9 @@
 use mathlib.Core.Path.{◌≡◌, refl, ap, ◌∙◌}
-use Prim.Native.Nat.{ℕ, ◌*◌, ◌-◌, ◌≤◌}
+use Prim.Native.Nat.{ℕ}
 use native.Mathlib.Omega.{arith}
-use lib.ListN.{length}
-use Rattle.lists.specs.Lists.{upto, tab}
+use Rattle.lists.specs.Lists.{upto}
 use Rattle.damage.specs.Damage.{boxes_at}
-use Rattle.planner.specs.Runs.{rect_at}
 use Rattle.planner.proofs.Collected.{boxes_turn}
-use borrow.Author.Rules.{rules}
-use Rattle.damage.proofs.most_draws.Reads as most-draws-reads
-use Rattle.planner.proofs.boxes.add_boxes.Reads as add-boxes-reads
 use Rattle.planner.proofs.boxes.collect_changes.Goals as goal
 
 -- src/boxes.rt:52:5
@@ -22,12 +17,12 @@ add_boxes-m-requires c =
     let p = c.requires in
     let l = c.loop-i in
     record {
-      accepted_scene = p.0;
+      accepted_scene = p.accepted_scene;
       width_bound = (
-        p.1.0,
+        p.width_bound.0,
         (
           l.invariant.1.1.0,
-          omega (arith, l.invariant.1.0, c.loop-i-test.true, c.most_draws-n.ensures, p.0.0.count, p.0.1.count),
+          omega (arith, l.invariant.1.0, c.loop-i-test.true, c.most_draws-n.ensures, p.accepted_scene.0.count, p.accepted_scene.1.count),
         ),
       );
     }

@@ -1,14 +1,9 @@
-use mathlib.Core.Path.{◌≡◌, refl, ap, ◌∙◌}
-use Prim.Native.Nat.{ℕ, ◌*◌, ◌-◌, ◌≤◌}
-use native.Mathlib.Omega.{arith}
+use mathlib.Core.Path.{◌≡◌}
+use Prim.Native.Nat.{◌*◌, ◌-◌, ◌≤◌}
 use lib.ListN.{length}
 use Rattle.lists.specs.Lists.{upto, tab}
 use Rattle.damage.specs.Damage.{boxes_at}
 use Rattle.planner.specs.Runs.{rect_at}
-use Rattle.planner.proofs.Collected.{boxes_turn}
-use borrow.Author.Rules.{rules}
-use Rattle.damage.proofs.most_draws.Reads as most-draws-reads
-use Rattle.planner.proofs.boxes.add_boxes.Reads as add-boxes-reads
 use Rattle.planner.proofs.boxes.collect_changes.Given as goal
 
 abbrev pub invariant-loop-i : goal.invariant-loop-i

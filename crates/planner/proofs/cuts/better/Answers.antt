@@ -1,5 +1,4 @@
 use borrow.Author.Tests.{not-true, not-false, lt-ltb, le-ltb}
-use borrow.Author.Rules.{rules}
 use Rattle.planner.proofs.cuts.better.Goals as goal
 
 -- src/cuts.rt:166:9

@@ -1,7 +1,6 @@
 use mathlib.Core.Path.{ap, ◌∙◌}
 use Rattle.planner.specs.Runs.{rect_at}
 use Rattle.planner.specs.Cuts.{shrunk}
-use borrow.Author.Rules.{rules}
 use Rattle.planner.proofs.cuts.first_part.Goals as goal
 
 pub returns : goal.returns

@@ -1,9 +1,5 @@
 use Rattle.planner.specs.Cuts.{touches}
 use borrow.Author.Tests.{le-leb, lt-leb}
-use borrow.Author.Rules.{rules}
-use Rattle.planner.proofs.cuts.end_line.Reads as end-line-reads
-use Rattle.planner.proofs.cuts.first_line.Reads as first-line-reads
-use Rattle.rect.proofs.is_empty.Reads as is-empty-reads
 use Rattle.planner.proofs.cuts.has_line.Goals as goal
 
 -- src/cuts.rt:179:9

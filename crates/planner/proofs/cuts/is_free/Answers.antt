@@ -1,14 +1,9 @@
 use mathlib.Core.Path.{◌≡◌, refl, sym, ap, ◌∙◌}
-use mathlib.Core.Bool.{true}
-use Prim.Native.Nat.{ℕ, ◌-◌, ◌≤◌}
 use native.Mathlib.Omega.{arith}
 use Rattle.rect.specs.declared.Rect.{Rect}
 use Rattle.planner.specs.Runs.{rect_at}
-use Rattle.planner.specs.Cuts.{touches, free}
+use Rattle.planner.specs.Cuts.{touches}
 use Rattle.planner.proofs.Lines.{free_no, free_turn}
-use borrow.Author.Rules.{rules}
-use Rattle.planner.proofs.cuts.has_line.Reads as has-line-reads
-use Rattle.planner.proofs.runs.rect_at.Reads as rect-at-reads
 use Rattle.planner.proofs.cuts.is_free.Goals as goal
 
 -- src/cuts.rt:193:5

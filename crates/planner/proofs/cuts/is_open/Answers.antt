@@ -1,6 +1,5 @@
 use borrow.Author.Tests.{le-leb, lt-leb, le-ltb, lt-ltb}
 use Rattle.planner.specs.Cuts.{opens}
-use borrow.Author.Rules.{rules}
 use Rattle.planner.proofs.cuts.is_open.Goals as goal
 
 pub returns-then-at-first_line : goal.returns-then-at-first_line

@@ -1,6 +1,4 @@
 use Rattle.planner.specs.Cuts.{before}
-use borrow.Author.Rules.{rules}
-use Rattle.rect.proofs.least.Reads as least-reads
 use Rattle.planner.proofs.cuts.lines_before.Goals as goal
 
 -- src/cuts.rt:34:1

@@ -1,6 +1,4 @@
 use Rattle.planner.specs.Cuts.{beyond}
-use borrow.Author.Rules.{rules}
-use Rattle.rect.proofs.most.Reads as most-reads
 use Rattle.planner.proofs.cuts.lines_from.Goals as goal
 
 -- src/cuts.rt:55:1

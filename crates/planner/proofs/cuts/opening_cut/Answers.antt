@@ -1,7 +1,6 @@
 use Rattle.rect.proofs.Laws.{not_empty}
 use Rattle.planner.specs.Runs.{rect_at}
 use Rattle.planner.proofs.Searches.{opening_found}
-use borrow.Author.Rules.{rules}
 use Rattle.planner.proofs.cuts.opening_cut.Goals as goal
 
 pub returns : goal.returns

@@ -1,7 +1,5 @@
 use native.Mathlib.Nat.{mul-le-mul}
 use native.Mathlib.Omega.{arith}
-use borrow.Author.Rules.{rules}
-use Rattle.planner.proofs.cuts.side.Reads as side-reads
 use Rattle.planner.proofs.cuts.pixels.Goals as goal
 
 -- src/cuts.rt:117:5

@@ -1,16 +1,11 @@
 use mathlib.Core.Path.{◌≡◌, refl, ap, ◌∙◌}
-use Prim.Native.Nat.{ℕ, ◌-◌, ◌≤◌}
+use Prim.Native.Nat.{ℕ}
 use native.Mathlib.Omega.{arith}
-use Rattle.lists.specs.Lists.{tab}
 use Rattle.rect.specs.declared.Rect.{Rect}
-use Rattle.rect.specs.Rects.{meet_of, join_of, smallest}
+use Rattle.rect.specs.Rects.{meet_of, join_of}
 use Rattle.planner.specs.Runs.{rect_at}
 use Rattle.planner.specs.Cuts.{shrunk}
 use Rattle.planner.proofs.Parts.{smallest_turn}
-use borrow.Author.Rules.{rules}
-use Rattle.planner.proofs.runs.rect_at.Reads as rect-at-reads
-use Rattle.rect.proofs.join.Reads as join-reads
-use Rattle.rect.proofs.meet.Reads as meet-reads
 use Rattle.planner.proofs.cuts.shrink.Goals as goal
 
 -- src/cuts.rt:87:5

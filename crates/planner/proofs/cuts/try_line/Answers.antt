@@ -1,10 +1,5 @@
 use mathlib.Core.Path.{◌≡◌, refl}
 use Rattle.planner.proofs.Searches.{of_better}
-use borrow.Author.Rules.{rules}
-use Rattle.planner.proofs.cuts.better.Reads as better-reads
-use Rattle.planner.proofs.cuts.cut_at.Reads as cut-at-reads
-use Rattle.planner.proofs.cuts.end_line.Reads as end-line-reads
-use Rattle.planner.proofs.cuts.first_line.Reads as first-line-reads
 use Rattle.planner.proofs.cuts.try_line.Goals as goal
 
 -- src/cuts.rt:245:1

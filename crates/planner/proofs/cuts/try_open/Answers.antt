@@ -2,15 +2,11 @@ use mathlib.Core.Path.{sym, ap, ◌∙◌}
 use Rattle.planner.specs.Runs.{rect_at}
 use Rattle.planner.specs.Cuts.{opens}
 use Rattle.planner.proofs.Searches.{passed_searched, found_searched}
-use borrow.Author.Rules.{rules}
-use Rattle.planner.proofs.cuts.better.Reads as better-reads
-use Rattle.planner.proofs.cuts.cut_at.Reads as cut-at-reads
-use Rattle.planner.proofs.cuts.is_open.Reads as is-open-reads
 use Rattle.planner.proofs.cuts.try_open.Goals as goal
 
 -- src/cuts.rt:223:9
 pub returns-then-is_open : goal.returns-then-is_open
-returns-then-is_open c =
+returns-then-is_open c k e s =
     let a = c.args in
     let b = c.cut_at in
     found_searched a.m (rect_at a.boxes.now) a.area a.upright k a.best b.result _ s b.ensures.0 b.ensures.1.1.0
@@ -19,7 +15,7 @@ returns-then-is_open c =
 
 -- src/cuts.rt:218:1
 pub returns : goal.returns
-returns c =
+returns c k e s =
     let a = c.args in
     passed_searched a.m (rect_at a.boxes.now) a.area a.upright k a.best s
     (ap (opens a.m (rect_at a.boxes.now) a.area a.upright) (sym e) ∙ sym c.is_open.ensures ∙ c.if-is_open.false)

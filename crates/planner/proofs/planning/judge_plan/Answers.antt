@@ -1,9 +1,7 @@
 use mathlib.Core.Path.{ap, ◌∙◌}
 use Prim.Native.Nat.{ℕ}
-use native.Mathlib.Omega.{arith}
 use Rattle.render.specs.Answers.{mask_of, redraw_refusal}
 use Rattle.planner.proofs.Answering.{plan_first, plan_short, plan_passes}
-use borrow.Author.Rules.{rules}
 use Rattle.planner.proofs.planning.judge_plan.Goals as goal
 
 pub returns-then-f-ne-ACCEPTED : goal.returns-then-f-ne-ACCEPTED

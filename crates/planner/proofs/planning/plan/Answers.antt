@@ -1,46 +1,34 @@
 use native.Mathlib.Omega.{arith}
 use lib.ListN.{length}
 use Rattle.scene.proofs.Accepted.{accepted_scene}
-use Rattle.render.specs.Answers.{Mask, mask_of, scratch_numbers}
-use Rattle.render.proofs.Refusals.{ReadyBoth, accepted_block}
-use Prim.Native.Nat.{◌≤◌}
-use Rattle.planner.specs.Plannings.{surface_for}
+use Rattle.render.specs.Answers.{mask_of}
+use Rattle.render.proofs.Refusals.{accepted_block}
 use Rattle.planner.proofs.Answering.{plan_ready, plan_refused, plan_done}
-use borrow.Author.Rules.{rules}
 use Rattle.planner.proofs.planning.plan.Goals as goal
-use Rattle.planner.proofs.planning.plan.Tie as tie
-use Rattle.planner.proofs.planning.plan.Lts as lts
-use Rattle.planner.proofs.planning.plan.Reads as reads
-
-abbrev mask : lts.Start tie.the-claims reads.Pre reads.Post tie.handed_clauses → Mask
-mask entry = mask_of entry.args.masked entry.args.mask.now
-
-ready : (c : lts.Else1 tie.the-claims reads.Pre reads.Post tie.handed_clauses)
-    → let a = c.args in
-    ReadyBoth a.old.now a.new.now (mask c.before.before.before.before.before.before) (surface_for a.new.now) scratch_numbers × (16 ≤ length a.rectangles.now)
-ready c =
-    let a = c.args in
-    plan_ready a.old.now a.new.now (mask c.before.before.before.before.before.before) (length a.rectangles.now) (rw c.judge_plan-f.ensures at c.if-f-ne-ACCEPTED.false)
 
 pub returns-then-f-ne-ACCEPTED : goal.returns-then-f-ne-ACCEPTED
 returns-then-f-ne-ACCEPTED c =
     let a = c.args in
     let f = c.judge_plan-f in
-    plan_refused a.old.now a.new.now (mask c.before.before.before.before.before.before.before.before) a.rectangles.now f.result c.answer.result f.ensures c.if-f-ne-ACCEPTED.true
+    plan_refused a.old.now a.new.now (mask_of a.masked a.mask.now) a.rectangles.now f.result c.answer.result f.ensures c.if-f-ne-ACCEPTED.true
     c.answer.ensures
 
 pub width-requires : goal.width-requires
 width-requires c =
-    accepted_block c.args.masked _ (ready c.before).0.after.scene
+    let a = c.args in
+    let r = plan_ready a.old.now a.new.now (mask_of a.masked a.mask.now) (length a.rectangles.now) (rw c.judge_plan-f.ensures at c.if-f-ne-ACCEPTED.false) in
+    accepted_block a.masked _ r.0.after.scene
 
 pub height-requires : goal.height-requires
 height-requires c =
-    accepted_block c.args.masked _ (ready c.before.before).0.after.scene
+    let a = c.args in
+    let r = plan_ready a.old.now a.new.now (mask_of a.masked a.mask.now) (length a.rectangles.now) (rw c.judge_plan-f.ensures at c.if-f-ne-ACCEPTED.false) in
+    accepted_block a.masked _ r.0.after.scene
 
 pub propose-n-requires : goal.propose-n-requires
 propose-n-requires c =
     let a = c.args in
-    let r = ready c.before.before.before.before in
+    let r = plan_ready a.old.now a.new.now (mask_of a.masked a.mask.now) (length a.rectangles.now) (rw c.judge_plan-f.ensures at c.if-f-ne-ACCEPTED.false) in
     record { accepted_scene = (accepted_scene a.old.now a.masked r.0.before, accepted_scene a.new.now a.masked r.0.after.scene); width_value = ((c.width.ensures.0, c.height.ensures.0), r.1) }
 
 pub overflow_cast-n : goal.overflow_cast-n
@@ -51,5 +39,5 @@ pub returns : goal.returns
 returns c =
     let a = c.args in
     let f = c.judge_plan-f in
-    plan_done a.old.now a.new.now (mask c.before.before.before.before.before.before.before.before.before.before.before.before.before) a.rectangles.now f.result c.answer-2.result c.propose-n.result
+    plan_done a.old.now a.new.now (mask_of a.masked a.mask.now) a.rectangles.now f.result c.answer-2.result c.propose-n.result
     c.propose-n.new.rectangles f.ensures c.if-f-ne-ACCEPTED.false c.propose-n.ensures c.answer-2.ensures

@@ -2,7 +2,6 @@ use native.Mathlib.Omega.{arith}
 use borrow.Author.Tests.{le-leb, lt-leb}
 use Prim.Native.Nat.{ℕ, ◌*◌, ◌≤◌, ◌<◌}
 use native.Mathlib.Nat.{mul-le-mul}
-use borrow.Author.Rules.{rules}
 use Rattle.planner.proofs.planning.surface_for.Goals as goal
 
 product : (w h : ℕ) → w < 65536 → h < 65536 → w * h ≤ 65535 * 65535

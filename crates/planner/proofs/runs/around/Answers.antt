@@ -1,13 +1,8 @@
 use mathlib.Core.Path.{◌≡◌, refl, ap, ◌∙◌}
-use Prim.Native.Nat.{ℕ, ◌-◌, ◌≤◌}
 use native.Mathlib.Omega.{arith}
-use Rattle.lists.specs.Lists.{tab}
-use Rattle.rect.specs.Rects.{join_of, smallest}
+use Rattle.rect.specs.Rects.{join_of}
 use Rattle.planner.specs.Runs.{rect_at}
 use Rattle.planner.proofs.Parts.{smallest_turn}
-use borrow.Author.Rules.{rules}
-use Rattle.planner.proofs.runs.rect_at.Reads as rect-at-reads
-use Rattle.rect.proofs.join.Reads as join-reads
 use Rattle.planner.proofs.runs.around.Goals as goal
 
 -- src/runs.rt:48:5

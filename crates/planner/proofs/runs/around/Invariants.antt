@@ -1,13 +1,8 @@
-use mathlib.Core.Path.{◌≡◌, refl, ap, ◌∙◌}
-use Prim.Native.Nat.{ℕ, ◌-◌, ◌≤◌}
-use native.Mathlib.Omega.{arith}
+use mathlib.Core.Path.{◌≡◌}
+use Prim.Native.Nat.{◌-◌, ◌≤◌}
 use Rattle.lists.specs.Lists.{tab}
-use Rattle.rect.specs.Rects.{join_of, smallest}
+use Rattle.rect.specs.Rects.{smallest}
 use Rattle.planner.specs.Runs.{rect_at}
-use Rattle.planner.proofs.Parts.{smallest_turn}
-use borrow.Author.Rules.{rules}
-use Rattle.planner.proofs.runs.rect_at.Reads as rect-at-reads
-use Rattle.rect.proofs.join.Reads as join-reads
 use Rattle.planner.proofs.runs.around.Given as goal
 
 abbrev pub invariant-loop-k : goal.invariant-loop-k

@@ -2,7 +2,6 @@ use native.Mathlib.Omega.{arith}
 use lib.ListN.{length-set}
 use mathlib.Core.Path.{refl}
 use Rattle.planner.specs.Runs.{put}
-use borrow.Author.Rules.{rules}
 use Rattle.planner.proofs.runs.put_rect.Goals as goal
 
 -- src/runs.rt:29:5

@@ -1,13 +1,7 @@
 use mathlib.Core.Path.{◌≡◌, refl}
-use Prim.Native.Nat.{ℕ, ◌-◌, ◌≤◌}
 use native.Mathlib.Omega.{arith}
-use lib.ListN.{length}
-use Rattle.lists.specs.Lists.{over}
-use Rattle.planner.specs.Runs.{rect_at, numbers_of}
+use Rattle.planner.specs.Runs.{rect_at}
 use Rattle.planner.proofs.Numbers.{write_none, write_turn}
-use borrow.Author.Rules.{rules}
-use Rattle.planner.proofs.runs.rect_at.Reads as rect-at-reads
-use Rattle.planner.proofs.runs.write_rect.Reads as write-rect-reads
 use Rattle.planner.proofs.runs.write.Goals as goal
 
 -- src/runs.rt:62:5

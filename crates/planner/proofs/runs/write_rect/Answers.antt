@@ -4,7 +4,6 @@ use lib.ListN.{length-set}
 use mir.Syntax.{w32}
 use Rattle.fixed.proofs.Means.{of_nat}
 use Rattle.planner.specs.Runs.{put_four}
-use borrow.Author.Rules.{rules}
 use Rattle.planner.proofs.runs.write_rect.Goals as goal
 
 -- src/runs.rt:75:5

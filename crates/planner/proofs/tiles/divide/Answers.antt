@@ -2,7 +2,6 @@ use native.Mathlib.Omega.{arith}
 use Rattle.rect.proofs.Laws.{not_empty}
 use Rattle.planner.specs.Runs.{rect_at}
 use Rattle.planner.proofs.Splits.{divided_on}
-use borrow.Author.Rules.{rules}
 use Rattle.planner.proofs.tiles.divide.Goals as goal
 
 pub refine-requires : goal.refine-requires

@@ -1,12 +1,6 @@
-use mathlib.Core.Path.{◌≡◌}
-use Prim.Native.Nat.{ℕ, ◌-◌, ◌≤◌}
 use native.Mathlib.Omega.{arith}
-use lib.ListN.{length}
 use Rattle.planner.specs.Runs.{rect_at}
-use Rattle.planner.specs.Tilings.{Refined}
 use Rattle.planner.proofs.Splits.{refined_same, refined_on}
-use borrow.Author.Rules.{rules}
-use Rattle.planner.proofs.tiles.refine_once.Reads as refine-once-reads
 use Rattle.planner.proofs.tiles.refine.Goals as goal
 
 -- src/tiles.rt:55:5

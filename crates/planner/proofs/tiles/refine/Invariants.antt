@@ -1,12 +1,8 @@
 use mathlib.Core.Path.{◌≡◌}
-use Prim.Native.Nat.{ℕ, ◌-◌, ◌≤◌}
-use native.Mathlib.Omega.{arith}
+use Prim.Native.Nat.{◌-◌, ◌≤◌}
 use lib.ListN.{length}
 use Rattle.planner.specs.Runs.{rect_at}
 use Rattle.planner.specs.Tilings.{Refined}
-use Rattle.planner.proofs.Splits.{refined_same, refined_on}
-use borrow.Author.Rules.{rules}
-use Rattle.planner.proofs.tiles.refine_once.Reads as refine-once-reads
 use Rattle.planner.proofs.tiles.refine.Given as goal
 
 abbrev pub invariant-loop-k : goal.invariant-loop-k

@@ -1,9 +1,6 @@
 use native.Mathlib.Omega.{arith}
 use Rattle.planner.specs.Runs.{rect_at}
 use Rattle.planner.proofs.Splits.{refined_same, split_refined}
-use borrow.Author.Rules.{rules}
-use Rattle.planner.proofs.cuts.best_of.Reads as best-of-reads
-use Rattle.planner.proofs.tiles.split.Reads as split-reads
 use Rattle.planner.proofs.tiles.refine_once.Goals as goal
 
 -- src/tiles.rt:72:9

@@ -2,12 +2,6 @@ use mathlib.Core.Path.{sym, ◌∙◌}
 use native.Mathlib.Omega.{arith}
 use Rattle.planner.specs.Runs.{rect_at}
 use Rattle.planner.proofs.Splits.{first_missing, second_missing, none_missing}
-use borrow.Author.Rules.{rules}
-use Rattle.planner.proofs.cuts.first_part.Reads as first-part-reads
-use Rattle.planner.proofs.cuts.second_part.Reads as second-part-reads
-use Rattle.planner.proofs.runs.put_rect.Reads as put-rect-reads
-use Rattle.rect.proofs.is_empty.Reads as is-empty-reads
-use Rattle.planner.proofs.runs.rect_at.Reads as rect-at-reads
 use Rattle.planner.proofs.tiles.split.Goals as goal
 
 -- src/tiles.rt:95:9

@@ -2,10 +2,6 @@ use borrow.Author.Tests.{not-true, not-false}
 use Rattle.rect.proofs.Laws.{not_empty}
 use Rattle.planner.specs.Runs.{rect_at}
 use Rattle.planner.proofs.Splits.{area_put, start_one, start_two}
-use borrow.Author.Rules.{rules}
-use Rattle.planner.proofs.cuts.opening_cut.Reads as opening-cut-reads
-use Rattle.planner.proofs.runs.put_rect.Reads as put-rect-reads
-use Rattle.planner.proofs.tiles.split.Reads as split-reads
 use Rattle.planner.proofs.tiles.start.Goals as goal
 
 -- src/tiles.rt:44:9

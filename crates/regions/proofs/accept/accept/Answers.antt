@@ -1,41 +1,33 @@
 use mathlib.Core.Path.{sym, ◌∙◌}
-use mathlib.Core.List.{List}
 use native.Mathlib.Omega.{arith}
-use Rattle.rect.specs.declared.Rect.{Rect}
 use Rattle.regions.specs.Proposals.{to_cover}
 use Rattle.regions.proofs.Every.{of_not, of_not_no}
 use Rattle.regions.proofs.Verdicts.{in_part, too_few, too_many, not_lying, not_apart, by_cover}
 use Rattle.regions.proofs.accept.accept.Goals as goal
-use Rattle.regions.proofs.accept.accept.Tie as tie
-use Rattle.regions.proofs.accept.accept.Lts as lts
-use Rattle.regions.proofs.accept.accept.Reads as reads
-
-abbrev boxes : lts.Start tie.the-claims reads.Pre reads.Post tie.handed_clauses → List Rect
-boxes s = to_cover s.args.width s.args.height s.args.old.now s.args.new.now
 
 pub returns-then-len-ne0 : goal.returns-then-len-ne0
 returns-then-len-ne0 c =
     let a = c.args in
-    sym (in_part a.width a.height (boxes c.before.before.before.before) a.rectangles.now c.if-len-ne0.true)
+    sym (in_part a.width a.height (to_cover a.width a.height a.old.now a.new.now) a.rectangles.now c.if-len-ne0.true)
 
 pub returns-then-len-lt4 : goal.returns-then-len-lt4
 returns-then-len-lt4 c =
     let a = c.args in
-    sym (too_few a.width a.height (boxes c.before.before.before.before.before) a.rectangles.now c.if-len-ne0.false c.if-len-lt4.true)
+    sym (too_few a.width a.height (to_cover a.width a.height a.old.now a.new.now) a.rectangles.now c.if-len-ne0.false c.if-len-lt4.true)
 
 pub returns-then-len-gt16 : goal.returns-then-len-gt16
 returns-then-len-gt16 c =
     let a = c.args in
-    sym (too_many a.width a.height (boxes c.before.before.before.before.before.before) a.rectangles.now c.if-len-ne0.false c.if-len-lt4.false c.if-len-gt16.true)
+    sym (too_many a.width a.height (to_cover a.width a.height a.old.now a.new.now) a.rectangles.now c.if-len-ne0.false c.if-len-lt4.false c.if-len-gt16.true)
 
 pub all_lie-requires : goal.all_lie-requires
 all_lie-requires c =
-    let p = c.requires in (omega arith, p.1.0, p.1.1)
+    (omega arith, c.requires.width_bound.0, c.requires.width_bound.1)
 
 pub returns-then-not-all_lie : goal.returns-then-not-all_lie
 returns-then-not-all_lie c =
     let a = c.args in
-    sym (not_lying a.width a.height (boxes c.before.before.before.before.before.before.before.before) a.rectangles.now c.if-len-ne0.false c.if-len-lt4.false c.if-len-gt16.false
+    sym (not_lying a.width a.height (to_cover a.width a.height a.old.now a.new.now) a.rectangles.now c.if-len-ne0.false c.if-len-lt4.false c.if-len-gt16.false
     (sym c.all_lie.ensures ∙ of_not _ c.if-not-all_lie.true-raw))
 
 pub all_apart-requires : goal.all_apart-requires
@@ -45,8 +37,8 @@ all_apart-requires c =
 pub returns-then-not-all_apart : goal.returns-then-not-all_apart
 returns-then-not-all_apart c =
     let a = c.args in
-    sym (not_apart a.width a.height (boxes c.before.before.before.before.before.before.before.before.before.before) a.rectangles.now c.if-len-ne0.false c.if-len-lt4.false c.if-len-gt16.false
-    (sym c.all_lie.ensures ∙ of_not_no _ c.if-not-all_lie.false-raw) (sym c.All_apart.ensures ∙ of_not _ c.if-not-all_apart.true-raw))
+    sym (not_apart a.width a.height (to_cover a.width a.height a.old.now a.new.now) a.rectangles.now c.if-len-ne0.false c.if-len-lt4.false c.if-len-gt16.false
+    (sym c.all_lie.ensures ∙ of_not_no _ c.if-not-all_lie.false-raw) (sym c.all_apart.ensures ∙ of_not _ c.if-not-all_apart.true-raw))
 
 pub changes_covered-requires : goal.changes_covered-requires
 changes_covered-requires c =
@@ -55,6 +47,6 @@ changes_covered-requires c =
 pub returns : goal.returns
 returns c =
     let a = c.args in
-    by_cover a.width a.height (boxes c.before.before.before.before.before.before.before.before.before.before.before) a.rectangles.now c.if-len-ne0.false c.if-len-lt4.false c.if-len-gt16.false
-    (sym c.all_lie.ensures ∙ of_not_no _ c.if-not-all_lie.false-raw) (sym c.All_apart.ensures ∙ of_not_no _ c.if-not-all_apart.false-raw)
+    by_cover a.width a.height (to_cover a.width a.height a.old.now a.new.now) a.rectangles.now c.if-len-ne0.false c.if-len-lt4.false c.if-len-gt16.false
+    (sym c.all_lie.ensures ∙ of_not_no _ c.if-not-all_lie.false-raw) (sym c.all_apart.ensures ∙ of_not_no _ c.if-not-all_apart.false-raw)
     c.changes_covered.result c.changes_covered.ensures

@@ -5,7 +5,6 @@ use native.Mathlib.Omega.{arith}
 use mathlib.Core.Path.{sym, subst}
 use Rattle.damage.proofs.Boxes.{box_answer}
 use Rattle.damage.proofs.Changes.{box_past}
-use borrow.Author.Rules.{rules}
 use Rattle.regions.proofs.accept.box_of.Goals as goal
 
 pub returns-then-n-i : goal.returns-then-n-i

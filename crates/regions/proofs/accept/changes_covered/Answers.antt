@@ -3,7 +3,6 @@ use native.Mathlib.Omega.{arith}
 use Rattle.regions.specs.Pixels.{covers}
 use Rattle.regions.specs.Proposals.{proposed}
 use Rattle.regions.proofs.Verdicts.{changes_decide, surface_decides}
-use borrow.Author.Rules.{rules}
 use Rattle.regions.proofs.accept.changes_covered.Goals as goal
 
 pub returns-then-same_background : goal.returns-then-same_background

@@ -4,7 +4,6 @@ use Rattle.regions.specs.Pixels.{covers}
 use Rattle.regions.specs.Proposals.{proposed}
 use Rattle.regions.proofs.Every.{of_not, of_not_no}
 use Rattle.regions.proofs.Verdicts.{none_changed, old_uncovered, new_decides}
-use borrow.Author.Rules.{rules}
 use Rattle.regions.proofs.accept.draw_covered.Goals as goal
 
 pub returns-then-not-is_changed : goal.returns-then-not-is_changed
@@ -15,8 +14,7 @@ returns-then-not-is_changed c =
 
 pub box_of-requires : goal.box_of-requires
 box_of-requires c =
-    let p = c.requires in
-    record { accepted_scene = p.0.0; width_bound = p.1 }
+    record { accepted_scene = c.requires.accepted_scene.0; width_bound = c.requires.width_bound }
 
 pub box_covered-requires : goal.box_covered-requires
 box_covered-requires c =
@@ -31,8 +29,7 @@ returns-then-not-box_covered c =
 
 pub box_of-requires-2 : goal.box_of-requires-2
 box_of-requires-2 c =
-    let p = c.requires in
-    record { accepted_scene = p.0.1; width_bound = p.1 }
+    record { accepted_scene = c.requires.accepted_scene.1; width_bound = c.requires.width_bound }
 
 pub box_covered-requires-2 : goal.box_covered-requires-2
 box_covered-requires-2 c =

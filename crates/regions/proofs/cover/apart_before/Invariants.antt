@@ -1,12 +1,8 @@
-use mathlib.Core.Path.{◌≡◌, sym, ap, ap₂, ◌∙◌}
+use mathlib.Core.Path.{◌≡◌}
 use mathlib.Core.Bool.{true}
 use Prim.Native.Nat.{◌-◌, ◌≤◌}
-use native.Mathlib.Omega.{arith}
-use Rattle.rect.specs.declared.Rect.{Rect}
 use Rattle.regions.specs.Pixels.{every, apart}
 use Rattle.regions.specs.Proposals.{proposed_at}
-use Rattle.regions.proofs.Every.{every_turn, every_no, of_not, of_not_no}
-use borrow.Author.Rules.{rules}
 use Rattle.regions.proofs.cover.apart_before.Given as goal
 
 abbrev pub invariant-loop-j : goal.invariant-loop-j

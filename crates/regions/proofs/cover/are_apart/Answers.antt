@@ -1,7 +1,6 @@
 use mathlib.Core.Path.{ap, ◌∙◌}
 use Rattle.rect.specs.Rects.{empty_of}
 use Rattle.regions.proofs.Every.{apart_is}
-use borrow.Author.Rules.{rules}
 use Rattle.regions.proofs.cover.are_apart.Goals as goal
 
 pub returns : goal.returns

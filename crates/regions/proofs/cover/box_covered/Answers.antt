@@ -1,7 +1,7 @@
 use Rattle.regions.proofs.Every.{of_not, of_not_no}
 use mathlib.Core.Path.{◌≡◌, sym, ap, ◌∙◌}
 use mathlib.Core.Bool.{true}
-use Prim.Native.Nat.{◌-◌, ◌≤◌}
+use Prim.Native.Nat.{◌-◌}
 use native.Mathlib.Omega.{arith}
 use Rattle.rect.specs.declared.Rect.{Rect}
 use Rattle.regions.specs.Pixels.{every, every_pixel}

@@ -1,15 +1,10 @@
-use Rattle.regions.proofs.Every.{of_not, of_not_no}
-use mathlib.Core.Path.{◌≡◌, sym, ap, ◌∙◌}
+use mathlib.Core.Path.{◌≡◌}
 use mathlib.Core.Bool.{true}
 use Prim.Native.Nat.{◌-◌, ◌≤◌}
-use native.Mathlib.Omega.{arith}
-use Rattle.rect.specs.declared.Rect.{Rect}
-use Rattle.regions.specs.Pixels.{every, every_pixel}
+use Rattle.regions.specs.Pixels.{every}
 use Rattle.regions.specs.Proposals.{proposed_at}
 use Rattle.regions.specs.Runs.{column_covered}
-use Rattle.regions.proofs.Every.{every_turn, covers_is}
-use Rattle.regions.proofs.Between.{within, column_goes, ends_enough, end_fails}
-use borrow.Author.Rules.{rules}
+use Rattle.regions.proofs.Between.{within}
 use Rattle.regions.proofs.cover.box_covered.Given as goal
 
 abbrev pub invariant-loop-k : goal.invariant-loop-k

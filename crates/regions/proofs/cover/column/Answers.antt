@@ -1,7 +1,6 @@
 use Rattle.rect.specs.declared.Rect.{Rect}
 use mathlib.Core.Path.{◌≡◌, sym, ap, ◌∙◌}
 use mathlib.Core.Bool.{true}
-use Prim.Native.Nat.{◌-◌, ◌≤◌}
 use native.Mathlib.Omega.{arith}
 use Rattle.regions.specs.Pixels.{every}
 use Rattle.regions.specs.Proposals.{proposed_at}

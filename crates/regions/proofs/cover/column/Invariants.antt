@@ -1,14 +1,10 @@
-use Rattle.rect.specs.declared.Rect.{Rect}
-use mathlib.Core.Path.{◌≡◌, sym, ap, ◌∙◌}
+use mathlib.Core.Path.{◌≡◌}
 use mathlib.Core.Bool.{true}
 use Prim.Native.Nat.{◌-◌, ◌≤◌}
-use native.Mathlib.Omega.{arith}
 use Rattle.regions.specs.Pixels.{every}
 use Rattle.regions.specs.Proposals.{proposed_at}
-use Rattle.regions.specs.Runs.{in_one, column_covered}
-use Rattle.regions.proofs.Every.{every_turn, of_not, of_not_no}
-use Rattle.regions.proofs.Between.{within, row_goes, ends_enough, end_fails}
-use borrow.Author.Rules.{rules}
+use Rattle.regions.specs.Runs.{in_one}
+use Rattle.regions.proofs.Between.{within}
 use Rattle.regions.proofs.cover.column.Given as goal
 
 abbrev pub invariant-loop-k : goal.invariant-loop-k

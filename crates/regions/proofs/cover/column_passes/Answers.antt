@@ -1,6 +1,5 @@
 use mathlib.Core.Path.{◌∙◌}
 use borrow.Author.Tests.{le-leb, lt-leb, lt-ltb, le-ltb}
-use borrow.Author.Rules.{rules}
 use Rattle.regions.proofs.cover.column_passes.Goals as goal
 
 pub returns-then-x-b : goal.returns-then-x-b

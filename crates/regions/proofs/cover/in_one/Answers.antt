@@ -1,15 +1,11 @@
 use Rattle.rect.specs.declared.Rect.{Rect}
 use mathlib.Core.Path.{◌≡◌, sym, ap, ◌∙◌}
-use mathlib.Core.Bool.{false}
-use Prim.Native.Nat.{◌-◌, ◌≤◌}
 use native.Mathlib.Omega.{arith}
 use Rattle.rect.specs.Rects.{inside}
 use Rattle.regions.specs.Proposals.{proposed_at}
-use Rattle.regions.specs.Runs.{some, in_one}
+use Rattle.regions.specs.Runs.{in_one}
 use Rattle.regions.proofs.Every.{some_yes, some_turn}
 use borrow.Author.Rules.{rules}
-use Rattle.regions.proofs.cover.in_one_lem.Statement.{statement}
-use Rattle.regions.proofs.cover.in_one_lem.Tie as tie
 use Rattle.regions.proofs.cover.in_one.Goals as goal
 
 pub returns-then-holds : goal.returns-then-holds

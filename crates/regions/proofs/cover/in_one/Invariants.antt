@@ -1,15 +1,9 @@
-use Rattle.rect.specs.declared.Rect.{Rect}
-use mathlib.Core.Path.{◌≡◌, sym, ap, ◌∙◌}
+use mathlib.Core.Path.{◌≡◌}
 use mathlib.Core.Bool.{false}
 use Prim.Native.Nat.{◌-◌, ◌≤◌}
-use native.Mathlib.Omega.{arith}
 use Rattle.rect.specs.Rects.{inside}
 use Rattle.regions.specs.Proposals.{proposed_at}
-use Rattle.regions.specs.Runs.{some, in_one}
-use Rattle.regions.proofs.Every.{some_yes, some_turn}
-use borrow.Author.Rules.{rules}
-use Rattle.regions.proofs.cover.in_one_lem.Statement.{statement}
-use Rattle.regions.proofs.cover.in_one_lem.Tie as tie
+use Rattle.regions.specs.Runs.{some}
 use Rattle.regions.proofs.cover.in_one.Given as goal
 
 abbrev pub invariant-loop-k : goal.invariant-loop-k

@@ -1,6 +1,5 @@
 use mathlib.Core.Path.{◌∙◌}
 use borrow.Author.Tests.{le-leb, lt-leb, lt-ltb, le-ltb}
-use borrow.Author.Rules.{rules}
 use Rattle.regions.proofs.cover.row_passes.Goals as goal
 
 pub returns-then-y-y0 : goal.returns-then-y-y0

@@ -1,37 +1,27 @@
 use mathlib.Core.Path.{◌≡◌, refl, ap, subst, sym, ◌∙◌}
-use Prim.Native.Nat.{ℕ, ◌-◌, ◌/◌, ◌≤◌}
+use Prim.Native.Nat.{ℕ, ◌/◌}
 use native.Mathlib.Omega.{arith}
 use lib.ListN.{length}
 use Rattle.lists.specs.Lists.{tab}
-use Rattle.color.specs.declared.Pixel.{Pixel}
 use Rattle.engine.specs.Picture.{pixel_at, mask_at}
 use Rattle.engine.specs.Rows.{Blank}
 use Rattle.regions.specs.Pixels.{overlays}
 use Rattle.regions.specs.Proposals.{proposed_at}
 use Rattle.regions.proofs.Overlays.{overlays_none}
 use Rattle.regions.proofs.Turns.{painted_turn}
-use borrow.Author.Rules.{rules}
 use Rattle.regions.proofs.paint.paint_regions.Goals as goal
-use Rattle.regions.proofs.paint.paint_regions.Tie as tie
-use Rattle.regions.proofs.paint.paint_regions.Lts as lts
-use Rattle.regions.proofs.paint.paint_regions.Reads as reads
-
-abbrev drawn : lts.Start tie.the-claims reads.Pre reads.Post goal.the-invariant-loop-i goal.the-decreases-loop-i tie.handed_clauses → ℕ → ℕ → Pixel
-drawn s = pixel_at s.args.scene.now (mask_at s.args.width s.args.mask.now)
 
 pub loop-k-init : goal.loop-k-init
 loop-k-init c =
-    λ c.
-    let entry = c.before.before.before.before in
-    let a = entry.args in
-    (omega arith, refl, refl, overlays_none a.width a.height (drawn entry) a.surface.now entry.requires.1.0.0) c
+    let a = c.args in
+    (omega arith, refl, refl, overlays_none a.width a.height (pixel_at a.scene.now (mask_at a.width a.mask.now)) a.surface.now c.requires.surface_len.0)
 
 pub paint_area-requires : goal.paint_area-requires
 paint_area-requires c =
     let p = c.requires in
     let l = c.loop-k in
-    let on = p.1.1.1 l.k (omega (arith, c.loop-k-test.true)) in
-    record { accepted_scene = (p.0.0, c.count-count.ensures.0); blank = subst Blank (sym l.invariant.2) p.0.1; area = ((l.invariant.1 ∙ p.1.0.0, (rw c.rect_at-a.ensures on, p.1.0.1)), p.1.1.0) }
+    let on = p.all_on l.k (omega (arith, c.loop-k-test.true)) in
+    record { accepted_scene = (p.accepted_scene.0, c.count-count.ensures.0); blank = subst Blank (sym l.invariant.2) p.accepted_scene.1; area = ((l.invariant.1 ∙ p.surface_len.0, (rw c.rect_at-a.ensures on, p.surface_len.1)), p.mask_for_scene) }
 
 pub loop-k-preserved : goal.loop-k-preserved
 loop-k-preserved c =
@@ -41,7 +31,7 @@ loop-k-preserved c =
       omega (arith, c.loop-k-test.true),
       e.auto.surface ∙ l.invariant.1,
       e.ensures.scratch_unchanged ∙ l.invariant.2,
-      painted_turn (proposed_at a.rectangles.now) l.k a.width a.height (drawn c.before.before.before.before.before.before.before.before.before.before.before.before.before.before) a.surface.now l.surface _ c.rect_at-a.result
+      painted_turn (proposed_at a.rectangles.now) l.k a.width a.height (pixel_at a.scene.now (mask_at a.width a.mask.now)) a.surface.now l.surface _ c.rect_at-a.result
           l.invariant.3 c.rect_at-a.ensures e.ensures.surface_after,
     )
 
@@ -58,4 +48,4 @@ returns c =
     let l = c.loop-k in
     let a = c.args in
     let last : l.k ≡ length a.rectangles.now / 4 = omega arith in
-    record { scratch_unchanged = l.invariant.2; surface_after = l.invariant.3 ∙ ap (λ (k : ℕ). overlays a.width a.height (tab k (proposed_at a.rectangles.now)) (drawn c.before.before.before.before.before.before.before) a.surface.now) last }
+    record { scratch_unchanged = l.invariant.2; surface_after = l.invariant.3 ∙ ap (λ (k : ℕ). overlays a.width a.height (tab k (proposed_at a.rectangles.now)) (pixel_at a.scene.now (mask_at a.width a.mask.now)) a.surface.now) last }

@@ -1,16 +1,10 @@
-use mathlib.Core.Path.{◌≡◌, refl, ap, subst, sym, ◌∙◌}
-use Prim.Native.Nat.{ℕ, ◌-◌, ◌/◌, ◌≤◌}
-use native.Mathlib.Omega.{arith}
+use mathlib.Core.Path.{◌≡◌}
+use Prim.Native.Nat.{◌-◌, ◌≤◌}
 use lib.ListN.{length}
 use Rattle.lists.specs.Lists.{tab}
-use Rattle.color.specs.declared.Pixel.{Pixel}
 use Rattle.engine.specs.Picture.{pixel_at, mask_at}
-use Rattle.engine.specs.Rows.{Blank}
 use Rattle.regions.specs.Pixels.{overlays}
 use Rattle.regions.specs.Proposals.{proposed_at}
-use Rattle.regions.proofs.Overlays.{overlays_none}
-use Rattle.regions.proofs.Turns.{painted_turn}
-use borrow.Author.Rules.{rules}
 use Rattle.regions.proofs.paint.paint_regions.Given as goal
 
 abbrev pub invariant-loop-k : goal.invariant-loop-k

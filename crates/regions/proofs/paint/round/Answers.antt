@@ -1,9 +1,9 @@
 use mathlib.Core.Path.{◌≡◌, refl, ap, ◌∙◌}
-use Prim.Native.Nat.{ℕ, ◌-◌, ◌/◌, ◌≤◌}
+use Prim.Native.Nat.{ℕ, ◌/◌}
 use native.Mathlib.Omega.{arith}
 use lib.ListN.{length}
 use Rattle.lists.specs.Lists.{tab}
-use Rattle.rect.specs.Rects.{On, smallest}
+use Rattle.rect.specs.Rects.{smallest}
 use Rattle.regions.specs.Proposals.{proposed_at}
 use Rattle.regions.proofs.Turns.{round_turn, round_on}
 use borrow.Author.Rules.{rules}

@@ -1,12 +1,8 @@
-use mathlib.Core.Path.{◌≡◌, refl, ap, ◌∙◌}
-use Prim.Native.Nat.{ℕ, ◌-◌, ◌/◌, ◌≤◌}
-use native.Mathlib.Omega.{arith}
-use lib.ListN.{length}
+use mathlib.Core.Path.{◌≡◌}
+use Prim.Native.Nat.{◌-◌, ◌≤◌}
 use Rattle.lists.specs.Lists.{tab}
 use Rattle.rect.specs.Rects.{On, smallest}
 use Rattle.regions.specs.Proposals.{proposed_at}
-use Rattle.regions.proofs.Turns.{round_turn, round_on}
-use borrow.Author.Rules.{rules}
 use Rattle.regions.proofs.paint.round.Given as goal
 
 abbrev pub invariant-loop-k : goal.invariant-loop-k

@@ -1,8 +1,5 @@
 use mathlib.Core.Path.{◌≡◌, sym, ◌∙◌}
-use mathlib.Core.Bool.{true}
-use Prim.Native.Nat.{◌-◌, ◌≤◌}
 use native.Mathlib.Omega.{arith}
-use Rattle.regions.specs.Pixels.{every}
 use Rattle.regions.proofs.Every.{every_turn, every_no, of_not, of_not_no}
 use Rattle.regions.specs.Proposals.{lies_in}
 use borrow.Author.Rules.{rules}

@@ -1,11 +1,8 @@
-use mathlib.Core.Path.{◌≡◌, sym, ◌∙◌}
+use mathlib.Core.Path.{◌≡◌}
 use mathlib.Core.Bool.{true}
 use Prim.Native.Nat.{◌-◌, ◌≤◌}
-use native.Mathlib.Omega.{arith}
 use Rattle.regions.specs.Pixels.{every}
-use Rattle.regions.proofs.Every.{every_turn, every_no, of_not, of_not_no}
 use Rattle.regions.specs.Proposals.{lies_in}
-use borrow.Author.Rules.{rules}
 use Rattle.regions.proofs.proposal.all_lie.Given as goal
 
 abbrev pub invariant-loop-k : goal.invariant-loop-k

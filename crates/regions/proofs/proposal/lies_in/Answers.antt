@@ -4,7 +4,6 @@ use mir.Syntax.{w32}
 use Rattle.fixed.proofs.Signed.{back}
 use Rattle.regions.proofs.Lying.{lies_second, lies_not}
 use Rattle.regions.specs.Proposals.{lies, x_at, y_at, width_at, height_at}
-use borrow.Author.Rules.{rules}
 use Rattle.regions.proofs.proposal.lies_in.Goals as goal
 
 pub returns-then-run_lies : goal.returns-then-run_lies

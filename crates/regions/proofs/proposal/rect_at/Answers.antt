@@ -3,7 +3,6 @@ use lib.IntN.{nat_abs}
 use mir.Syntax.{w32}
 use Rattle.fixed.proofs.Signed.{back}
 use Rattle.regions.specs.Proposals.{x_at, y_at, width_at, height_at}
-use borrow.Author.Rules.{rules}
 use Rattle.regions.proofs.proposal.rect_at.Goals as goal
 
 pub returns : goal.returns

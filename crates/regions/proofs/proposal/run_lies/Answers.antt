@@ -3,11 +3,7 @@ use lib.Signed.{le_z}
 use mir.Syntax.{w32, w64}
 use mir.Facts.{to_z-of_z}
 use Rattle.fixed.proofs.Means.{Num, param, keep, need, add, of_nat}
-use borrow.Author.Rules.{rules}
 use Rattle.regions.proofs.proposal.run_lies.Goals as goal
-use Rattle.regions.proofs.proposal.run_lies.Tie as tie
-use Rattle.regions.proofs.proposal.run_lies.Lts as lts
-use Rattle.regions.proofs.proposal.run_lies.Reads as reads
 
 abbrev start : goal.Then-size-gt0 → Num
 start c = param w32 c.args.start c.ranges.start

@@ -11,9 +11,6 @@ use mir.Facts.{to_z-of_z}
 use Rattle.fixed.proofs.Means.{Num, need, keep, param, neglit, said, tight, sub}
 use Rattle.fixed.proofs.Sign.{is_negative, not_negative, flip_negsuc}
 use Rattle.regions.proofs.proposal.size.Goals as goal
-use Rattle.regions.proofs.proposal.size.Tie as tie
-use Rattle.regions.proofs.proposal.size.Lts as lts
-use Rattle.regions.proofs.proposal.size.Reads as reads
 
 negative : (c : goal.Then-z-lt0) → c.args.z ≡ negsuc (mag c.args.z)
 negative c = is_negative c.args.z (rw (to_z-of_z c.ranges.z) at c.if-z-lt0.true)
