@@ -13,7 +13,6 @@ use Rattle.color.specs.Channels.{premultiplied}
 use Rattle.raster.specs.Surface.{run, raster, pixel_in, pixel_of}
 use Rattle.raster.proofs.Pixels.{run_length, run_at, raster_length, raster_at, surface_same}
 use Rattle.raster.proofs.Runs.{run_same, run_is}
-use Rattle.path.specs.declared.Edge.{Edge}
 use Rattle.path.specs.Stored.{edges_of}
 use Rattle.scene.specs.Blocks.{draw_of}
 use Rattle.scene.specs.Header.{count_of, edition_of, background_of}

@@ -4,8 +4,8 @@ use mathlib.Core.List.{List}
 use mathlib.Core.Bool.{Bool, true, false, cond, not, ◌&&◌}
 use Prim.Native.Nat.{ℕ, ◌+◌, ◌*◌, ◌≤◌, ◌<◌}
 use native.Mathlib.Omega.{arith}
-use lib.Dec.{eqb, ltb}
-use lib.ListN.{length, get_or}
+use lib.Dec.{ltb}
+use lib.ListN.{get_or}
 use borrow.Author.Tests.{le-ltb, lt-ltb, ltb-true, eq-eqb, ne_eqb, not-true}
 use Rattle.codes.specs.Codes.{illegal_argument, unsupported_image_format}
 use Rattle.codes.proofs.Refusals.{refuses}
@@ -25,8 +25,6 @@ use Rattle.render.specs.declared.Refusal.{Refusal}
 use Rattle.render.specs.Answers.{Mask, mask_wrong, mask_bytes}
 use Rattle.render.proofs.Refusals.{MaskFits, lent_passes, lent_fine}
 use Rattle.render.proofs.Draws.{sooner_draw, demanded_draw, fault_draw}
-use Rattle.reason.specs.declared.Line.{Line}
-use Rattle.reason.specs.declared.Start.{Start}
 use Rattle.reason.specs.Explanations.{no_line, bare_line, lent_fault, pixel_fault, scene_line, refused_start, accepted_start, start_of, line_answer}
 use Rattle.reason.specs.Lines.{byte_for}
 
@@ -112,6 +110,9 @@ module _ (s : List ℕ) (m : Mask) (x y : ℕ) where
 
   -- ---- answers, where f is the fault that was found
   module _ (f : Fault) (e : f ≡ pixel_fault s m x y) where
+    pub fault_ready : f.code ≡ 0 → Ready s m x y
+    fault_ready z = pixel_ready (sym (ap (λ (g : Fault). g.code) e) ∙ z)
+
     pub start_refused : (f.code ≡ 0 → ⊥) → refused_start f ≡ start_of s m x y
     unfolding start_of
     start_refused n = rw (← e, ne_eqb f.code 0 n)

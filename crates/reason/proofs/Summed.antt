@@ -11,7 +11,7 @@ use Rattle.lists.specs.Lists.{tab, over, total}
 use Rattle.lists.proofs.Laws.{tab_at, tab_all, tab_ext, tab_length, upto_same, total_same}
 use Rattle.fixed.proofs.Within.{Within, within_add}
 use Rattle.path.specs.declared.Edge.{Edge}
-use Rattle.coverage.specs.Winding.{counts, winding, inside_by, one_if, sample, tally, coverage}
+use Rattle.coverage.specs.Winding.{counts, winding, inside_by, one_if, sample, coverage}
 use Rattle.coverage.proofs.Sums.{sum_append, sum_small}
 use Rattle.plain.proofs.Wound.{counts_small}
 use Rattle.reason.specs.Summed.{winding_at, wound, Sums}

@@ -1,28 +1,15 @@
 -- `begin` meets its contract.
 use Prim.Native.Nat.{ℕ}
-use mathlib.Core.Path.{sym, ap, ap₂, ◌∙◌}
+use mathlib.Core.Path.{ap, ap₂, ◌∙◌}
 use native.Mathlib.Omega.{arith}
 use Rattle.color.specs.declared.Pixel.{Pixel}
 use Rattle.color.specs.Channels.{premultiplied}
 use Rattle.scene.specs.declared.Fault.{Fault}
-use Rattle.render.specs.Answers.{Mask, mask_of}
+use Rattle.render.specs.Answers.{mask_of}
 use Rattle.render.proofs.Refusals.{accepted_block}
 use Rattle.reason.specs.declared.Start.{Start}
-use Rattle.reason.proofs.Refusals.{Ready, pixel_ready, fault_number, start_refused, start_accepted}
-use borrow.Author.Rules.{rules}
+use Rattle.reason.proofs.Refusals.{fault_ready, fault_number, start_refused, start_accepted}
 use Rattle.reason.proofs.begin.Goals as goal
-use Rattle.reason.proofs.begin.Tie as tie
-use Rattle.reason.proofs.begin.Lts as lts
-use Rattle.reason.proofs.begin.Reads as reads
-
-abbrev mask : lts.Start tie.the-claims reads.Pre reads.Post → Mask
-mask entry = mask_of entry.args.masked entry.args.mask.now
-
-ready : (c : lts.Else1 tie.the-claims reads.Pre reads.Post)
-    → Ready c.args.scene.now (mask c.before.before.before.before.before) c.args.x c.args.y
-ready c =
-    let a = c.args in
-    pixel_ready a.scene.now (mask c.before.before.before.before.before) a.x a.y (sym (ap (λ (f : Fault). f.code) c.judge_pixel-f.ensures) ∙ c.if-f-ne-ACCEPTED.false)
 
 abbrev begun : ℕ → Pixel → Start
 begun n p = record { code = 0; draw = 64; offset = 0; draws = n; pixel = p }
@@ -31,17 +18,18 @@ begun n p = record { code = 0; draw = 64; offset = 0; draws = n; pixel = p }
 pub overflow_cast-result : goal.overflow_cast-result
 overflow_cast-result c =
     let a = c.args in
-    omega (arith, ap (λ (f : Fault). f.draw) c.judge_pixel-f.ensures, fault_number a.scene.now (mask c.before.before.before.before.before.before.before) a.x a.y)
+    omega (arith, ap (λ (f : Fault). f.draw) c.judge_pixel-f.ensures, fault_number a.scene.now (mask_of a.masked a.mask.now) a.x a.y)
 
 pub returns-then-f-ne-ACCEPTED : goal.returns-then-f-ne-ACCEPTED
 returns-then-f-ne-ACCEPTED c =
     let f = c.judge_pixel-f in
     let a = c.args in
-    start_refused a.scene.now (mask c.before.before.before.before.before.before.before) a.x a.y f.result f.ensures c.if-f-ne-ACCEPTED.true
+    start_refused a.scene.now (mask_of a.masked a.mask.now) a.x a.y f.result f.ensures c.if-f-ne-ACCEPTED.true
 
 pub count-requires : goal.count-requires
 count-requires c =
-    accepted_block c.args.masked _ (ready c.before).scene
+    let a = c.args in
+    accepted_block a.masked _ (fault_ready a.scene.now (mask_of a.masked a.mask.now) a.x a.y _ c.judge_pixel-f.ensures c.if-f-ne-ACCEPTED.false).scene
 
 pub overflow_cast-result-3 : goal.overflow_cast-result-3
 overflow_cast-result-3 c =
@@ -49,11 +37,12 @@ overflow_cast-result-3 c =
 
 pub background-requires : goal.background-requires
 background-requires c =
-    accepted_block c.args.masked _ (ready c.before.before).scene
+    let a = c.args in
+    accepted_block a.masked _ (fault_ready a.scene.now (mask_of a.masked a.mask.now) a.x a.y _ c.judge_pixel-f.ensures c.if-f-ne-ACCEPTED.false).scene
 
 pub returns : goal.returns
 returns c =
     let a = c.args in
     let f = c.judge_pixel-f in
     ap₂ begun c.count.ensures.0 (c.premultiplied.ensures ∙ ap premultiplied c.background.ensures)
-    ∙ start_accepted a.scene.now (mask c.before.before.before.before.before.before.before.before.before) a.x a.y f.result f.ensures c.if-f-ne-ACCEPTED.false
+    ∙ start_accepted a.scene.now (mask_of a.masked a.mask.now) a.x a.y f.result f.ensures c.if-f-ne-ACCEPTED.false

@@ -1,18 +1,15 @@
 -- `plain::draws::draw_first` meets its contract. Assumes nothing.
-use mathlib.Core.Path.{◌≡◌, refl, sym, ap, subst, ◌∙◌}
+use mathlib.Core.Path.{◌≡◌, refl, sym, subst, ◌∙◌}
 use mathlib.Core.List.{List}
-use Prim.Native.Nat.{ℕ, ◌-◌, ◌*◌, ◌≤◌, ◌<◌}
+use Prim.Native.Nat.{ℕ, ◌*◌, ◌<◌}
 use native.Mathlib.Omega.{arith}
 use lib.IntN.{ℤ}
-use lib.ListN.{length}
 use Rattle.scene.specs.Header.{count_of, edition_of}
 use Rattle.scene.specs.Fields.{uses_mask}
 use Rattle.scene.specs.Accepted.{AcceptedDraw}
-use Rattle.engine.specs.Picture.{draw_all, first_draws, mask_at}
+use Rattle.engine.specs.Picture.{mask_at}
 use Rattle.engine.specs.Rows.{Blank, MaskFor}
-use Rattle.plain.specs.Asked.{pixelwise}
 use Rattle.plain.proofs.Pixelwise.{draws_none, draws_turn}
-use borrow.Author.Rules.{rules}
 use Rattle.plain.proofs.draws.draw_first.Goals as goal
 
 pub edition-edition-requires : goal.edition-edition-requires

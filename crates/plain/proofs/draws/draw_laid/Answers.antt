@@ -10,7 +10,6 @@ use Rattle.engine.specs.Picture.{mask_at}
 use Rattle.engine.specs.Rows.{Shaded, MaskFor}
 use Rattle.engine.proofs.Paints.{scissors_length}
 use Rattle.plain.proofs.Pixelwise.{own_steps}
-use borrow.Author.Rules.{rules}
 use Rattle.plain.proofs.draws.draw_laid.Goals as goal
 
 pub draw_pixels-requires : goal.draw_pixels-requires

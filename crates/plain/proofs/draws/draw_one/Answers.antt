@@ -1,11 +1,10 @@
 -- `plain::draws::draw_one` meets its contract. Assumes nothing.
-use mathlib.Core.Path.{sym, ap, ◌∙◌}
+use mathlib.Core.Path.{ap, ◌∙◌}
 use mathlib.Core.List.{List}
 use native.Mathlib.Omega.{arith}
 use Rattle.path.specs.declared.Edge.{Edge}
 use Rattle.engine.specs.Picture.{step_of, mask_at}
 use Rattle.plain.specs.Asked.{pixelwise}
-use borrow.Author.Rules.{rules}
 use Rattle.plain.proofs.draws.draw_one.Goals as goal
 
 pub draw_laid-requires : goal.draw_laid-requires

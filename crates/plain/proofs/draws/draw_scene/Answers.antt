@@ -4,7 +4,6 @@ use native.Mathlib.Omega.{arith}
 use Rattle.color.specs.Channels.{premultiplied}
 use Rattle.engine.specs.Picture.{mask_at}
 use Rattle.plain.proofs.Pixelwise.{few_pixels, background_then}
-use borrow.Author.Rules.{rules}
 use Rattle.plain.proofs.draws.draw_scene.Goals as goal
 
 pub overflow_mul-height : goal.overflow_mul-height

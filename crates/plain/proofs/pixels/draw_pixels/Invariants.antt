@@ -1,17 +1,11 @@
 -- `plain::pixels::draw_pixels` meets its contract. Assumes nothing.
-use mathlib.Core.Path.{◌≡◌, refl, sym, ap, ap₂, ◌∙◌}
-use Prim.Native.Nat.{ℕ, ◌+◌, ◌-◌, ◌*◌, ◌/◌, ◌%◌, ◌≤◌, ◌<◌}
-use native.Mathlib.Omega.{arith}
-use Rattle.color.specs.declared.Pixel.{Pixel}
+use Prim.Native.Nat.{◌-◌, ◌/◌, ◌%◌, ◌≤◌}
 use Rattle.raster.specs.Surface.{pixel_in}
 use Rattle.raster.specs.Rows.{Stored}
-use Rattle.raster.proofs.Runs.{stored_none, stored_step, stored_all}
 use Rattle.path.specs.Stored.{edges_of}
 use Rattle.engine.specs.Picture.{mask_at}
 use Rattle.engine.specs.Rows.{mask_with}
 use Rattle.plain.specs.Asked.{step_at}
-use Rattle.plain.proofs.Pixelwise.{few_pixels, some_width, column_in_lem, row_in, own_byte}
-use borrow.Author.Rules.{rules}
 use Rattle.plain.proofs.pixels.draw_pixels.Given as goal
 
 -- `plain::pixels::draw_pixels` meets its contract. Assumes nothing.

@@ -1,6 +1,6 @@
 -- `plain::pixels::gradient_pixel` meets its contract. Assumes nothing.
 use mathlib.Core.List.{List}
-use mathlib.Core.Path.{◌≡◌, refl, sym, ap, ◌∙◌}
+use mathlib.Core.Path.{◌≡◌, ap, ◌∙◌}
 use Prim.Native.Nat.{ℕ, ◌+◌}
 use native.Mathlib.Nat.{add-zero}
 use native.Mathlib.Omega.{arith}
@@ -9,7 +9,6 @@ use Rattle.raster.specs.Surface.{pixel_in}
 use Rattle.raster.proofs.Pixels.{run_at}
 use Rattle.paint.specs.Circles.{gradient_at}
 use Rattle.engine.specs.Rows.{tinted_by}
-use borrow.Author.Rules.{rules}
 use Rattle.plain.proofs.pixels.gradient_pixel.Goals as goal
 
 pub returns : goal.returns

@@ -1,5 +1,4 @@
 -- `plain::pixels::mask_byte` meets its contract. Assumes nothing.
-use native.Mathlib.Omega.{arith}
 use borrow.Author.Rules.{rules}
 use Rattle.plain.proofs.pixels.mask_byte.Goals as goal
 

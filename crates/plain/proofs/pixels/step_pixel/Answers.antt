@@ -1,5 +1,5 @@
 -- `plain::pixels::step_pixel` meets its contract. Assumes nothing.
-use mathlib.Core.Path.{◌≡◌, sym, ap, ap₂, ◌∙◌}
+use mathlib.Core.Path.{◌≡◌, ap, ap₂, ◌∙◌}
 use Prim.Native.Nat.{ℕ, ◌≤◌}
 use native.Mathlib.Omega.{arith}
 use Rattle.color.specs.declared.Pixel.{Pixel}
@@ -9,7 +9,6 @@ use Rattle.coverage.specs.Scissors.{scissored}
 use Rattle.coverage.proofs.Limits.{scissored_at_most}
 use Rattle.engine.specs.Rows.{coverage_with}
 use Rattle.plain.specs.Asked.{step_at}
-use borrow.Author.Rules.{rules}
 use Rattle.plain.proofs.pixels.step_pixel.Goals as goal
 use Rattle.plain.proofs.pixels.step_pixel.Tie as tie
 use Rattle.plain.proofs.pixels.step_pixel.Lts as lts

@@ -1,24 +1,23 @@
 -- `judge::judge_pixel` meets its contract.
 use Prim.Native.Nat.{ℕ, ◌≤◌}
-use mathlib.Core.Path.{sym, ap, ap₂, ◌∙◌}
+use mathlib.Core.Path.{◌≡◌, sym, ap, ap₂, ◌∙◌}
+use mathlib.Core.List.{List}
+use mathlib.Core.Bool.{Bool}
 use lib.ListN.{length}
 use Rattle.codes.proofs.First.{sooner_first, sooner_second}
 use Rattle.scene.specs.declared.Fault.{Fault}
+use Rattle.scene.specs.Rules.{scene_fault}
 use Rattle.render.specs.Answers.{mask_of}
 use Rattle.render.proofs.Refusals.{accepted_block}
 use Rattle.reason.specs.Explanations.{lent_fault, pixel_fault}
-use borrow.Author.Rules.{rules}
 use Rattle.reason.proofs.judge.judge_pixel.Goals as goal
-use Rattle.reason.proofs.judge.judge_pixel.Tie as tie
-use Rattle.reason.proofs.judge.judge_pixel.Lts as lts
-use Rattle.reason.proofs.judge.judge_pixel.Reads as reads
 
 abbrev code : Fault → ℕ
 code f = f.code
 
-block : (c : lts.Else1 tie.the-claims reads.Pre reads.Post) → 512 ≤ length c.args.s.now
-block c =
-    accepted_block c.args.masked c.args.s.now (sym (ap code c.verdict-f.ensures) ∙ c.if-f-ne-ACCEPTED.false)
+-- a scene that passes has its first block
+block : (masked : Bool) (s : List ℕ) (f : Fault) → f ≡ scene_fault masked s → f.code ≡ 0 → 512 ≤ length s
+block masked s f e z = accepted_block masked s (sym (ap code e) ∙ z)
 
 pub returns-then-f-ne-ACCEPTED : goal.returns-then-f-ne-ACCEPTED
 unfolding pixel_fault
@@ -27,11 +26,11 @@ returns-then-f-ne-ACCEPTED c =
 
 pub width-requires : goal.width-requires
 width-requires c =
-    block c.before
+    block _ _ _ c.verdict-f.ensures c.if-f-ne-ACCEPTED.false
 
 pub height-requires : goal.height-requires
 height-requires c =
-    block c.before.before
+    block _ _ _ c.verdict-f.ensures c.if-f-ne-ACCEPTED.false
 
 pub judge_lent-requires : goal.judge_lent-requires
 judge_lent-requires c =

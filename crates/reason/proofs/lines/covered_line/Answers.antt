@@ -1,11 +1,10 @@
 -- `lines::covered_line` meets its contract.
-use borrow.Author.Rules.{rules}
 use Rattle.reason.proofs.lines.covered_line.Goals as goal
 
 pub paint_at-paint-requires : goal.paint_at-paint-requires
 paint_at-paint-requires c =
     let p = c.requires in
-    record { d_len = p.0; x_bound = (p.1.1, p.1.2) }
+    record { d_len = p.d_len; x_bound = (p.k_bound.1, p.k_bound.2) }
 
 pub composite_pixel-requires : goal.composite_pixel-requires
 composite_pixel-requires c =

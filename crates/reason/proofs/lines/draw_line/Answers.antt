@@ -7,7 +7,6 @@ use Rattle.scene.specs.Fields.{non_zero_rule}
 use Rattle.engine.specs.Picture.{draw_edges}
 use Rattle.reason.specs.Explanations.{outside_scissors}
 use Rattle.reason.proofs.Drawn.{outside_line, uncovered_line, covered_line_lem}
-use borrow.Author.Rules.{rules}
 use Rattle.reason.proofs.lines.draw_line.Goals as goal
 use Rattle.reason.proofs.lines.draw_line.Tie as tie
 use Rattle.reason.proofs.lines.draw_line.Lts as lts
@@ -19,7 +18,7 @@ inside c = sym c.outside_scissors.ensures ∙ c.if-outside_scissors.false
 pub outside_scissors-requires : goal.outside_scissors-requires
 outside_scissors-requires c =
     let p = c.requires in
-    record { d_len = (p.0.0, p.0.1.fields.scissors); x_bound = p.1 }
+    record { d_len = (p.d_len.0, p.d_len.1.fields.scissors); x_bound = p.x_bound }
 
 pub returns-then-outside_scissors : goal.returns-then-outside_scissors
 returns-then-outside_scissors c =
@@ -31,7 +30,7 @@ returns-then-outside_scissors c =
 pub covered_samples-k-requires : goal.covered_samples-k-requires
 covered_samples-k-requires c =
     let p = c.requires in
-    record { d_len = p.0; x_bound = p.1 }
+    record { d_len = p.d_len; x_bound = p.x_bound }
 
 pub returns-then-k-eq0 : goal.returns-then-k-eq0
 returns-then-k-eq0 c =
@@ -46,7 +45,7 @@ covered_line-requires c =
     let a = c.args in
     let p = c.requires in
     let few = coverage_at_most_16 (draw_edges a.edition a.d.now) (non_zero_rule a.d.now) a.x a.y in
-    record { d_len = (p.0.0, p.0.1.fields); k_bound = (subst (λ (z : ℕ). z ≤ 16) (sym c.covered_samples-k.ensures) few, p.1.0, p.1.1) }
+    record { d_len = (p.d_len.0, p.d_len.1.fields); k_bound = (subst (λ (z : ℕ). z ≤ 16) (sym c.covered_samples-k.ensures) few, p.x_bound.0, p.x_bound.1) }
 
 pub returns : goal.returns
 returns c =

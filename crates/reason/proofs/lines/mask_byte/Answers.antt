@@ -1,6 +1,5 @@
 -- `lines::mask_byte` meets its contract.
 use mathlib.Core.Path.{sym, ◌∙◌}
-use borrow.Author.Rules.{rules}
 use Rattle.reason.proofs.lines.mask_byte.Goals as goal
 
 pub bounds-mask-at : goal.bounds-mask-at

@@ -13,7 +13,6 @@ use Rattle.scene.specs.Accepted.{AcceptedDraw}
 use Rattle.engine.specs.Picture.{draw_mask}
 use Rattle.reason.specs.Explanations.{line_of}
 use Rattle.reason.specs.Lines.{byte_for}
-use borrow.Author.Rules.{rules}
 use Rattle.reason.proofs.lines.scene_line.Goals as goal
 use Rattle.reason.proofs.lines.scene_line.Tie as tie
 use Rattle.reason.proofs.lines.scene_line.Lts as lts
@@ -26,9 +25,9 @@ product y w a b = mul-le-mul a b
 small : (entry : lts.Start tie.the-claims reads.Pre reads.Post tie.handed_clauses) → (entry.args.x ≤ 1023) × (entry.args.y ≤ 1023) × (width_of entry.args.s.now ≤ 1024)
 small entry =
     let p = entry.requires in (
-      omega (arith, p.1.0.0, p.0.0.width_most),
-      omega (arith, p.1.0.1, p.0.0.height_most),
-      p.0.0.width_most,
+      omega (arith, p.x_bound.0, p.accepted_scene.0.width_most),
+      omega (arith, p.x_bound.1, p.accepted_scene.0.height_most),
+      p.accepted_scene.0.width_most,
     )
 
 within : (entry : lts.Start tie.the-claims reads.Pre reads.Post tie.handed_clauses) (w : ℕ) → w ≡ width_of entry.args.s.now → (entry.args.y * w ≤ 1024 * 1024) × (entry.args.x ≤ 1023)
@@ -39,7 +38,7 @@ within entry w e =
 pub read_draw-requires : goal.read_draw-requires
 read_draw-requires c =
     let p = c.requires in
-    record { i_in_bounds = omega (arith, p.0.0.bytes, p.0.1); out_len = p.1.0.2 }
+    record { i_in_bounds = omega (arith, p.accepted_scene.0.bytes, p.accepted_scene.1); out_len = p.x_bound.2 }
 
 pub width-requires : goal.width-requires
 width-requires c =
@@ -60,11 +59,11 @@ mask_byte-m-requires c =
     let p = c.requires in
     let r = c.read_draw in
     let w = width_of a.s.now in (
-      r.auto.out ∙ p.1.0.2,
+      r.auto.out ∙ p.x_bound.2,
       λ asks.
-          let long = p.1.1 a.i p.0.1 (subst (λ (z : List ℕ). uses_mask z ≡ true) r.ensures asks) in
+          let long = p.mask_for_scene a.i p.accepted_scene.1 (subst (λ (z : List ℕ). uses_mask z ≡ true) r.ensures asks) in
           let fits : a.y * w + a.x < length a.mask.now =
-          omega (arith, long, p.1.0.0, run_fits w a.y (height_of a.s.now) p.1.0.1) in
+          omega (arith, long, p.x_bound.0, run_fits w a.y (height_of a.s.now) p.x_bound.1) in
           subst (λ (z : ℕ). a.y * z + a.x < length a.mask.now) (sym c.width.ensures.0) fits,
     )
 
@@ -80,9 +79,9 @@ draw_line-requires c =
     let k = small c.before.before.before.before.before.before.before.before.before.before.before in
     record {
       d_len = (
-        r.auto.out ∙ p.1.0.2,
+        r.auto.out ∙ p.x_bound.2,
         subst (λ (z : ℕ). AcceptedDraw z r.new.out) (sym c.edition.ensures)
-            (subst (AcceptedDraw (edition_of a.s.now)) (sym r.ensures) (p.0.0.draws a.i p.0.1)),
+            (subst (AcceptedDraw (edition_of a.s.now)) (sym r.ensures) (p.accepted_scene.0.draws a.i p.accepted_scene.1)),
       );
       x_bound = (omega (arith, k.0), omega (arith, k.1));
     }

@@ -4,13 +4,12 @@ use native.Mathlib.Omega.{arith}
 use Rattle.paint.specs.Circles.{gradient_at}
 use Rattle.engine.specs.Rows.{tinted_by}
 use Rattle.reason.proofs.Single.{one_pixel}
-use borrow.Author.Rules.{rules}
 use Rattle.reason.proofs.paints.gradient_pixel.Goals as goal
 
 pub gradient_row-requires : goal.gradient_row-requires
 gradient_row-requires c =
     let p = c.requires in
-    record { held_gradient = p.0; n_bound = (omega (arith, p.1.0), omega (arith, p.1.1), p.1.2) }
+    record { held_gradient = p.held_gradient; n_bound = (omega (arith, p.x_bound.0), omega (arith, p.x_bound.1), p.x_bound.2) }
 
 pub returns : goal.returns
 returns c =

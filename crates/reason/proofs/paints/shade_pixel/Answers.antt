@@ -2,7 +2,6 @@
 use mathlib.Core.Path.{subst, ◌∙◌}
 use Rattle.engine.specs.declared.Shade.{Shade}
 use Rattle.engine.specs.Rows.{Shaded, shade_at}
-use borrow.Author.Rules.{rules}
 use Rattle.reason.proofs.paints.shade_pixel.Goals as goal
 
 pub gradient_pixel-requires : goal.gradient_pixel-requires

@@ -1,12 +1,11 @@
 -- `samples::count_inside` meets its contract.
 use mathlib.Core.Path.{◌≡◌, refl, ap, ap₂, ◌∙◌}
-use Prim.Native.Nat.{◌+◌, ◌-◌, ◌≤◌}
+use Prim.Native.Nat.{◌+◌}
 use native.Mathlib.Numerals.{add-one}
 use native.Mathlib.Omega.{arith}
 use lib.ListN.{get_or}
 use lib.IntN.{ℤ, pos}
 use mir.Syntax.{w32}
-use Rattle.lists.specs.Lists.{total}
 use Rattle.fixed.proofs.Signed.{clean}
 use Rattle.coverage.specs.Winding.{inside_by, one_if}
 use borrow.Author.Rules.{rules}

@@ -1,15 +1,10 @@
 -- `samples::count_inside` meets its contract.
-use mathlib.Core.Path.{◌≡◌, refl, ap, ap₂, ◌∙◌}
-use Prim.Native.Nat.{◌+◌, ◌-◌, ◌≤◌}
-use native.Mathlib.Numerals.{add-one}
-use native.Mathlib.Omega.{arith}
+use mathlib.Core.Path.{◌≡◌}
+use Prim.Native.Nat.{◌-◌, ◌≤◌}
 use lib.ListN.{get_or}
-use lib.IntN.{ℤ, pos}
-use mir.Syntax.{w32}
+use lib.IntN.{pos}
 use Rattle.lists.specs.Lists.{total}
-use Rattle.fixed.proofs.Signed.{clean}
 use Rattle.coverage.specs.Winding.{inside_by, one_if}
-use borrow.Author.Rules.{rules}
 use Rattle.reason.proofs.samples.count_inside.Given as goal
 
 -- `samples::count_inside` meets its contract.

@@ -3,7 +3,6 @@ use mathlib.Core.Path.{◌∙◌}
 use native.Mathlib.Omega.{arith}
 use Rattle.engine.proofs.Scratch.{flatten_asked}
 use Rattle.reason.proofs.Held.{path_summed, draw_counted}
-use borrow.Author.Rules.{rules}
 use Rattle.reason.proofs.samples.count_samples.Goals as goal
 
 pub fixed_matrix-requires : goal.fixed_matrix-requires

@@ -7,4 +7,4 @@ use Rattle.reason.proofs.samples.covered_samples.Goals as goal
 pub count_samples-requires : goal.count_samples-requires
 count_samples-requires c =
     let p = c.requires in
-    record { d_len = p.0; x_bound = (p.1.0, p.1.1, search rules, zeros_summed _ refl) }
+    record { d_len = p.d_len; x_bound = (p.x_bound.0, p.x_bound.1, search rules, zeros_summed _ refl) }

@@ -8,16 +8,15 @@ use lib.ListN.{length}
 use Rattle.coverage.specs.Scissors.{in_scissors}
 use Rattle.engine.proofs.Paints.{scissors_length}
 use Rattle.reason.proofs.Single.{missed}
-use borrow.Author.Rules.{rules}
 use Rattle.reason.proofs.samples.scissors_miss.Goals as goal
 
 pub scissor_row-requires : goal.scissor_row-requires
 scissor_row-requires c =
     let p = c.requires in
     let n = c.scissor_count in
-    let few : n.result ≤ 4 = omega (arith, n.ensures.0, p.0.1) in
-    let long = scissors_length c.args.d.now p.0.0 in
-    record { n_bound = (few, subst (λ (z : List ℕ). 16 * n.result ≤ length z) (sym c.scissors.ensures) (omega (arith, n.ensures.0, p.0.1, long))); y_bound = (p.1.1, omega (arith, p.1.0, p.1.2)) }
+    let few : n.result ≤ 4 = omega (arith, n.ensures.0, p.d_len.1) in
+    let long = scissors_length c.args.d.now p.d_len.0 in
+    record { n_bound = (few, subst (λ (z : List ℕ). 16 * n.result ≤ length z) (sym c.scissors.ensures) (omega (arith, n.ensures.0, p.d_len.1, long))); y_bound = (p.x_bound.1, omega (arith, p.x_bound.0, p.x_bound.2)) }
 
 pub bounds-sample-0 : goal.bounds-sample-0
 bounds-sample-0 c =
@@ -28,5 +27,5 @@ returns c =
     let a = c.args in
     let p = c.requires in
     let n = c.scissor_count in
-    missed _ n.result a.x a.y a.sample.now c.scissor_row.new.cover p.1.2 p.1.3 c.scissor_row.ensures
+    missed _ n.result a.x a.y a.sample.now c.scissor_row.new.cover p.x_bound.2 p.x_bound.3 c.scissor_row.ensures
     ∙ ap₂ (λ (z : List ℕ) (k : ℕ). not (in_scissors z k a.x a.y)) c.scissors.ensures n.ensures.0

@@ -1,12 +1,11 @@
 -- `windings::add_edge` meets its contract: at each sample what the edge counts there is added to what stood there.
-use mathlib.Core.Path.{◌≡◌, refl, sym, ap, ap₂, subst, ◌∙◌}
+use mathlib.Core.Path.{◌≡◌, refl, sym, ap₂, subst, ◌∙◌}
 use mathlib.Core.List.{[], ◌∷◌}
-use Prim.Native.Nat.{ℕ, ◌+◌, ◌-◌, ◌*◌, ◌/◌, ◌%◌, ◌≤◌, ◌<◌}
+use Prim.Native.Nat.{ℕ, ◌+◌, ◌*◌, ◌/◌, ◌%◌, ◌≤◌, ◌<◌}
 use native.Mathlib.Omega.{arith}
-use lib.ListN.{length, get_or, length-set}
+use lib.ListN.{get_or, length-set}
 use lib.IntN.{ℤ, pos, nat_abs, ◌+ℤ◌}
 use mir.Syntax.{w32}
-use Rattle.lists.specs.Lists.{tab, over}
 use Rattle.lists.proofs.Laws.{tab_turn, tab_read}
 use Rattle.fixed.proofs.Signed.{back}
 use Rattle.fixed.proofs.Means.{Num, need, keep, add}
@@ -17,9 +16,6 @@ use Rattle.reason.specs.Summed.{winding_at}
 use Rattle.reason.proofs.Summed.{wound_all, winding_one}
 use borrow.Author.Rules.{rules}
 use Rattle.reason.proofs.windings.add_edge.Goals as goal
-use Rattle.reason.proofs.windings.add_edge.Tie as tie
-use Rattle.reason.proofs.windings.add_edge.Lts as lts
-use Rattle.reason.proofs.windings.add_edge.Reads as reads
 
 -- a sample's place is small
 placed : (i m : ℕ) (z : ℤ) → i < 1024 → m < 4 → z ≡ sample (4 * i + m) → nat_abs z ≤ 8388608

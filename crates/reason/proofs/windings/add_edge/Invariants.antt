@@ -1,21 +1,11 @@
 -- `windings::add_edge` meets its contract: at each sample what the edge counts there is added to what stood there.
-use mathlib.Core.Path.{◌≡◌, refl, sym, ap, ap₂, subst, ◌∙◌}
+use mathlib.Core.Path.{◌≡◌}
 use mathlib.Core.List.{[], ◌∷◌}
-use Prim.Native.Nat.{ℕ, ◌+◌, ◌-◌, ◌*◌, ◌/◌, ◌%◌, ◌≤◌, ◌<◌}
-use native.Mathlib.Omega.{arith}
-use lib.ListN.{length, get_or, length-set}
-use lib.IntN.{ℤ, pos, nat_abs, ◌+ℤ◌}
-use mir.Syntax.{w32}
+use Prim.Native.Nat.{◌-◌, ◌≤◌}
+use lib.ListN.{length, get_or}
+use lib.IntN.{pos, ◌+ℤ◌}
 use Rattle.lists.specs.Lists.{tab, over}
-use Rattle.lists.proofs.Laws.{tab_turn, tab_read}
-use Rattle.fixed.proofs.Signed.{back}
-use Rattle.fixed.proofs.Means.{Num, need, keep, add}
-use Rattle.coverage.specs.Winding.{counts, sample}
-use Rattle.coverage.proofs.Begin.{sized}
-use Rattle.plain.proofs.Wound.{counts_small}
 use Rattle.reason.specs.Summed.{winding_at}
-use Rattle.reason.proofs.Summed.{wound_all, winding_one}
-use borrow.Author.Rules.{rules}
 use Rattle.reason.proofs.windings.add_edge.Given as goal
 
 -- `windings::add_edge` meets its contract: at each sample what the edge counts there is added to what stood there.

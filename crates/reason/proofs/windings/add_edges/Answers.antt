@@ -1,9 +1,8 @@
 -- `windings::add_edges` meets its contract.
 use mathlib.Core.Path.{◌≡◌, sym, ap, ap₂, subst, ◌∙◌}
 use mathlib.Core.List.{List, [], ◌∷◌}
-use Prim.Native.Nat.{ℕ, ◌+◌, ◌-◌, ◌≤◌}
+use Prim.Native.Nat.{ℕ}
 use native.Mathlib.Omega.{arith}
-use lib.ListN.{length}
 use lib.IntN.{ℤ}
 use Rattle.lists.proofs.Laws.{tab_length, upto_more}
 use Rattle.path.specs.declared.Edge.{Edge}
@@ -29,11 +28,11 @@ add_edge-requires c =
     let few = tab_length l.i (edge_at a.edges.now) in
     record {
       sums = (
-        wound_small a.x a.y a.sums.now (edges_of a.edges.now l.i) l.sums 2048 4096 l.invariant.2 p.0.0
-            (omega (arith, few, l.invariant.0, p.0.1)),
-        subst Small (sym c.load-e.ensures) (p.0.2.small l.i (omega arith)),
+        wound_small a.x a.y a.sums.now (edges_of a.edges.now l.i) l.sums 2048 4096 l.invariant.2 p.sums.0
+            (omega (arith, few, l.invariant.0, p.sums.1)),
+        subst Small (sym c.load-e.ensures) (p.sums.2.small l.i (omega arith)),
       );
-      x_bound = p.1;
+      x_bound = p.x_bound;
     }
 
 pub loop-i-preserved : goal.loop-i-preserved

@@ -1,14 +1,13 @@
 -- `windings::add_path` meets its contract: the sums so far are those of the segments passed.
 use mathlib.Core.Path.{◌≡◌, sym, ap, ap₂, subst, ◌∙◌}
 use mathlib.Core.List.{List}
-use Prim.Native.Nat.{◌-◌, ◌≤◌}
 use native.Mathlib.Omega.{arith}
-use lib.ListN.{length, get_or}
+use lib.ListN.{get_or}
 use lib.IntN.{ℤ}
 use Rattle.path.specs.declared.Walk.{Walk}
 use Rattle.path.specs.declared.Curve.{Curve}
 use Rattle.path.specs.declared.Edge.{Edge}
-use Rattle.path.specs.Segments.{line_to, drawn_by, walk_to}
+use Rattle.path.specs.Segments.{line_to, drawn_by}
 use Rattle.path.specs.Curves.{drawn_edges, edges_to}
 use Rattle.path.specs.Limits.{Supplied}
 use Rattle.outline.specs.Asked.{CurvePlaced}
@@ -62,16 +61,16 @@ add_edges-requires c =
     let ss = a.segments.now in
     let cs = a.coordinates.now in
     let t = c.trace-t in
-    let held = segment_held a.m ss cs a.n l.i p.1.0.0 p.1.0.1 l.walk l.invariant.3 l.invariant.0 l.edges _ _
-    (omega (arith, l.invariant.1, p.1.1.2)) (omega arith) t.result t.ensures c.store_segment-stored.ensures in
+    let held = segment_held a.m ss cs a.n l.i p.limited.0 p.limited.1 l.walk l.invariant.3 l.invariant.0 l.edges _ _
+    (omega (arith, l.invariant.1, p.x_bound.2)) (omega arith) t.result t.ensures (c.store_segment-stored.ensures.edges_after, c.store_segment-stored.ensures.value) in
     record {
       sums = (
-        wound_small a.x a.y a.sums.now (edges_to a.m ss cs l.i) l.sums 0 2048 l.invariant.4 p.1.1.3
-            (omega (arith, edges_count a.m ss cs l.i, l.invariant.0, p.0.0)),
+        wound_small a.x a.y a.sums.now (edges_to a.m ss cs l.i) l.sums 0 2048 l.invariant.4 p.x_bound.3
+            (omega (arith, edges_count a.m ss cs l.i, l.invariant.0, p.n_bound.0)),
         held.few,
         held_edges _ _ _ held,
       );
-      x_bound = (p.1.1.0, p.1.1.1);
+      x_bound = (p.x_bound.0, p.x_bound.1);
     }
 
 pub loop-i-preserved : goal.loop-i-preserved
@@ -84,8 +83,8 @@ loop-i-preserved c =
     let cs = a.coordinates.now in
     let t = c.trace-t in
     let drawn = drawn_edges a.m l.walk.pen (drawn_by l.walk.pen (get_or ss l.i 0) t.result.curve) in
-    let held = segment_held a.m ss cs a.n l.i p.1.0.0 p.1.0.1 l.walk l.invariant.3 l.invariant.0 l.edges _ _
-    (omega (arith, l.invariant.1, p.1.1.2)) (omega arith) t.result t.ensures c.store_segment-stored.ensures in (
+    let held = segment_held a.m ss cs a.n l.i p.limited.0 p.limited.1 l.walk l.invariant.3 l.invariant.0 l.edges _ _
+    (omega (arith, l.invariant.1, p.x_bound.2)) (omega arith) t.result t.ensures (c.store_segment-stored.ensures.edges_after, c.store_segment-stored.ensures.value) in (
       search rules,
       c.store_segment-stored.auto.edges ∙ l.invariant.1,
       added.auto.sums ∙ l.invariant.2,
@@ -102,10 +101,10 @@ store_closing-closing-requires c =
     let a = c.args in
     let p = c.requires in
     record {
-      n_in_bounds = omega (arith, l.invariant.1, p.1.1.2);
+      n_in_bounds = omega (arith, l.invariant.1, p.x_bound.2);
       limited = (
-        p.1.0.0,
-        walk_placed a.m a.segments.now a.coordinates.now a.n l.i p.1.0.0 p.1.0.1 l.walk l.invariant.3 l.invariant.0,
+        p.limited.0,
+        walk_placed a.m a.segments.now a.coordinates.now a.n l.i p.limited.0 p.limited.1 l.walk l.invariant.3 l.invariant.0,
       );
     }
 
@@ -116,16 +115,16 @@ add_edges-requires-2 c =
     let p = c.requires in
     let ss = a.segments.now in
     let cs = a.coordinates.now in
-    let held = closing_held a.m ss cs a.n l.i p.1.0.0 p.1.0.1 l.walk l.invariant.3 l.invariant.0 l.edges _ _
-    (omega (arith, l.invariant.1, p.1.1.2)) c.store_closing-closing.ensures in
+    let held = closing_held a.m ss cs a.n l.i p.limited.0 p.limited.1 l.walk l.invariant.3 l.invariant.0 l.edges _ _
+    (omega (arith, l.invariant.1, p.x_bound.2)) (c.store_closing-closing.ensures.edges_after, c.store_closing-closing.ensures.value) in
     record {
       sums = (
-        wound_small a.x a.y a.sums.now (edges_to a.m ss cs l.i) l.sums 0 2048 l.invariant.4 p.1.1.3
-            (omega (arith, edges_count a.m ss cs l.i, l.invariant.0, p.0.0)),
+        wound_small a.x a.y a.sums.now (edges_to a.m ss cs l.i) l.sums 0 2048 l.invariant.4 p.x_bound.3
+            (omega (arith, edges_count a.m ss cs l.i, l.invariant.0, p.n_bound.0)),
         held.few,
         held_edges _ _ _ held,
       );
-      x_bound = (p.1.1.0, p.1.1.1);
+      x_bound = (p.x_bound.0, p.x_bound.1);
     }
 
 pub shape_of-edges : goal.shape_of-edges
@@ -146,8 +145,8 @@ returns c =
     let cs = a.coordinates.now in
     let last : l.i ≡ a.n = omega arith in
     let drawn = drawn_edges a.m l.walk.pen (line_to l.walk.pen.start) in
-    let held = closing_held a.m ss cs a.n l.i p.1.0.0 p.1.0.1 l.walk l.invariant.3 l.invariant.0 l.edges _ _
-    (omega (arith, l.invariant.1, p.1.1.2)) c.store_closing-closing.ensures in
+    let held = closing_held a.m ss cs a.n l.i p.limited.0 p.limited.1 l.walk l.invariant.3 l.invariant.0 l.edges _ _
+    (omega (arith, l.invariant.1, p.x_bound.2)) (c.store_closing-closing.ensures.edges_after, c.store_closing-closing.ensures.value) in
     added.ensures
     ∙ ap₂ (λ (s : List ℤ) (es : List Edge). wound a.x a.y s es) l.invariant.4 held.edges
     ∙ wound_append a.x a.y a.sums.now (edges_to a.m ss cs l.i) drawn
