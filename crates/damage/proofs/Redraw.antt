@@ -19,7 +19,7 @@ use Rattle.raster.proofs.Overlay.{less_or, overlay_in, overlay_out, overlay_leng
 use Rattle.scene.specs.Blocks.{draw_of}
 use Rattle.scene.specs.Header.{count_of, edition_of, background_of}
 use Rattle.engine.proofs.Steps.{draw_closed, step_out}
-use Rattle.engine.specs.Picture.{draw_edges, draw_step, draw_all, first_draws, pixel_at, picture}
+use Rattle.engine.specs.Picture.{draw_edges, draw_step, draw_all, first_draws, pixel_at}
 use Rattle.damage.specs.Damage.{has, changed_at, draw_box, box_at, same_background, damage_of}
 use Rattle.damage.proofs.Changes.{same_equal, draw_length, changed_past, changed_gone, unchanged, box_there, same_background_lem, damage_whole}
 use Rattle.damage.proofs.Smallest.{damage_holds}

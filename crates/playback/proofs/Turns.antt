@@ -19,7 +19,7 @@ use Rattle.playback.specs.declared.Carried.{Carried}
 use Rattle.playback.specs.declared.Place.{Place}
 use Rattle.playback.specs.Replay.{start_of, scene_at, first_scenes, Shown, nothing, scene, next_answer, next_surface, next_scratch}
 use Rattle.playback.specs.Replay.{State, answer_in, next, replayed, started, state_at, end_of, numbers_of, numbers_all, codes_of}
-use Rattle.playback.specs.Carrying.{part_of, scene_of, shown_of, carried_on, Fits, Lies}
+use Rattle.playback.specs.Carrying.{scene_of, shown_of, carried_on, Fits, Lies}
 use Rattle.playback.proofs.Runs.{start_more, scene_ends, part_is_scene, numbers_more, codes_more}
 
 -- ---- what is carried on

@@ -1,6 +1,6 @@
 -- Paper 02, P13: scenes one behind another in one run, each redrawn from the one accepted last, or drawn in full while there is none.
 -- The whole is the single calls' definitions, one after the other.
-use Rattle.std.specs.Prelude.{ℕ, ◌*◌, Bool, cond, not, ltb, eqb, ℤ, length, get_or, take, drop}
+use Rattle.std.specs.Prelude.{ℕ, ◌*◌, cond, not, ltb, eqb, ℤ, length, get_or, take, drop}
 use mathlib.Core.List.{List, [], ◌∷◌, ◌++◌, foldl}
 use Rattle.lists.specs.Lists.{tab, over, total}
 use Rattle.codes.specs.Codes.{accepted_code, bad_length, out_of_memory}

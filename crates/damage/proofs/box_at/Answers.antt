@@ -5,10 +5,6 @@ use native.Mathlib.Omega.{arith}
 use mathlib.Core.Path.{refl, sym, subst}
 use Rattle.damage.proofs.Boxes.{box_answer}
 use Rattle.damage.proofs.Changes.{box_past}
-use borrow.Author.Rules.{rules}
-use Rattle.engine.proofs.edges.draw_bounds.Reads as draw-bounds-reads
-use Rattle.scene.proofs.blocks.read_draw.Reads as read-draw-reads
-use Rattle.scene.proofs.header.count.Reads as count-reads
 use Rattle.damage.proofs.box_at.Goals as goal
 
 pub returns-then-n-i : goal.returns-then-n-i

@@ -1,14 +1,11 @@
 use Rattle.damage.proofs.Boxes.{area_turn}
 use Rattle.damage.specs.Damage.{boxes_at}
-use Rattle.rect.specs.Rects.{On, smallest}
+use Rattle.rect.specs.Rects.{smallest}
 use Rattle.lists.specs.Lists.{upto}
 use native.Mathlib.Omega.{arith}
-use Prim.Native.Nat.{ℕ, ◌-◌, ◌≤◌}
+use Prim.Native.Nat.{ℕ}
 use Rattle.engine.specs.Rows.{Blank}
 use mathlib.Core.Path.{◌≡◌, refl, sym, ap, subst, ◌∙◌}
-use borrow.Author.Rules.{rules}
-use Rattle.damage.proofs.grow.Reads as grow-reads
-use Rattle.damage.proofs.most_draws.Reads as most-draws-reads
 use Rattle.damage.proofs.changed_boxes.Goals as goal
 
 pub loop-i-init : goal.loop-i-init

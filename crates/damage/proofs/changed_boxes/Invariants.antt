@@ -1,14 +1,8 @@
-use Rattle.damage.proofs.Boxes.{area_turn}
 use Rattle.damage.specs.Damage.{boxes_at}
 use Rattle.rect.specs.Rects.{On, smallest}
 use Rattle.lists.specs.Lists.{upto}
-use native.Mathlib.Omega.{arith}
-use Prim.Native.Nat.{ℕ, ◌-◌, ◌≤◌}
-use Rattle.engine.specs.Rows.{Blank}
-use mathlib.Core.Path.{◌≡◌, refl, sym, ap, subst, ◌∙◌}
-use borrow.Author.Rules.{rules}
-use Rattle.damage.proofs.grow.Reads as grow-reads
-use Rattle.damage.proofs.most_draws.Reads as most-draws-reads
+use Prim.Native.Nat.{◌-◌, ◌≤◌}
+use mathlib.Core.Path.{◌≡◌}
 use Rattle.damage.proofs.changed_boxes.Given as goal
 
 abbrev pub invariant-loop-i : goal.invariant-loop-i

@@ -1,9 +1,6 @@
 use Rattle.damage.proofs.Changes.{damage_boxes, damage_whole}
 use native.Mathlib.Omega.{arith}
 use mathlib.Core.Path.{refl, sym, ◌∙◌}
-use borrow.Author.Rules.{rules}
-use Rattle.damage.proofs.changed_boxes.Reads as changed-boxes-reads
-use Rattle.damage.proofs.same_background.Reads as same-background-reads
 use Rattle.damage.proofs.damage.Goals as goal
 
 pub changed_boxes-requires : goal.changed_boxes-requires

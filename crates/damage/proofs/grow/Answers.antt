@@ -1,10 +1,6 @@
 use Rattle.damage.proofs.Boxes.{both_joined, none_joined}
 use mathlib.Core.Path.{refl, sym, subst, ◌∙◌}
 use Rattle.engine.specs.Rows.{Blank}
-use borrow.Author.Rules.{rules}
-use Rattle.damage.proofs.box_at.Reads as box-at-reads
-use Rattle.damage.proofs.is_changed.Reads as is-changed-reads
-use Rattle.rect.proofs.join.Reads as join-reads
 use Rattle.damage.proofs.grow.Goals as goal
 
 pub box_at-before-requires : goal.box_at-before-requires

@@ -4,9 +4,6 @@ use native.Mathlib.Omega.{arith}
 use mathlib.Core.Path.{sym, ap, ◌∙◌}
 use Rattle.damage.proofs.Boxes.{changed_answer}
 use Rattle.damage.proofs.Changes.{changed_past, changed_gone, changed_edition}
-use borrow.Author.Rules.{rules}
-use Rattle.scene.proofs.blocks.same_draw.Reads as same-draw-reads
-use Rattle.scene.proofs.header.count.Reads as count-reads
 use Rattle.damage.proofs.is_changed.Goals as goal
 
 pub returns-then-m-i : goal.returns-then-m-i

@@ -1,7 +1,4 @@
 use Rattle.damage.proofs.Boxes.{background_answer}
-use borrow.Author.Rules.{rules}
-use Rattle.damage.proofs.same_bytes.Reads as same-bytes-reads
-use Rattle.scene.proofs.header.background.Reads as background-reads
 use Rattle.damage.proofs.same_background.Goals as goal
 
 pub returns : goal.returns

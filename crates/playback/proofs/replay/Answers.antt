@@ -1,9 +1,8 @@
 -- `replay` meets its contract: refused as a whole it writes nothing, else it plays the scenes.
 use mathlib.Core.Path.{sym, ◌∙◌}
 use lib.ListN.{length}
-use Rattle.render.specs.Answers.{Mask, mask_of}
+use Rattle.render.specs.Answers.{mask_of}
 use Rattle.playback.proofs.Whole.{ready, replay_refused, replay_done}
-use borrow.Author.Rules.{rules}
 use Rattle.playback.proofs.replay.Goals as goal
 
 pub returns-then-code-ne-ACCEPTED : goal.returns-then-code-ne-ACCEPTED

@@ -3,14 +3,11 @@ use mathlib.Core.Path.{◌≡◌, ◌∙◌}
 use mathlib.Core.List.{List}
 use Prim.Native.Nat.{ℕ}
 use Rattle.render.specs.declared.Refusal.{Refusal}
-use native.Mathlib.Omega.{arith}
-use lib.ListN.{length}
 use Rattle.rect.specs.Rects.{whole}
 use Rattle.render.specs.Answers.{Mask, mask_of, draw_refusal}
 use Rattle.render.proofs.Refusals.{Ready, draw_ready, ready_size, ready_limits, ready_mask, taken_most, ready_within, whole_on, accepted_block, zeroed}
 use Rattle.render.proofs.Results.{draw_refused, draw_done, taken_bytes}
 use Rattle.scene.proofs.Accepted.{accepted_scene}
-use borrow.Author.Rules.{rules}
 use Rattle.render.proofs.draw.Goals as goal
 
 -- what an accepted call has, from what was judged

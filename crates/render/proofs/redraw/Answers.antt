@@ -1,9 +1,7 @@
 -- `render::redraw` meets its contract: a refused old scene changes nothing, else the redraw goes on from it.
-use lib.ListN.{length}
 use Rattle.render.specs.Answers.{mask_of, redraw_refusal}
 use Rattle.render.proofs.Refusals.{first_refused, scene_passed}
 use Rattle.render.proofs.Results.{redraw_refused}
-use borrow.Author.Rules.{rules}
 use Rattle.render.proofs.redraw.Goals as goal
 
 pub returns-then-f-ne-ACCEPTED : goal.returns-then-f-ne-ACCEPTED

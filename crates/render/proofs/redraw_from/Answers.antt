@@ -3,13 +3,10 @@ use mathlib.Core.Path.{◌≡◌, ◌∙◌}
 use mathlib.Core.List.{List}
 use Prim.Native.Nat.{ℕ}
 use Rattle.render.specs.declared.Refusal.{Refusal}
-use native.Mathlib.Omega.{arith}
-use lib.ListN.{length}
 use Rattle.render.specs.Answers.{Mask, mask_of, redraw_refusal}
 use Rattle.render.proofs.Refusals.{ReadyBoth, redraw_ready, ready_size, ready_limits, ready_mask, taken_most, ready_within, accepted_block, zeroed}
 use Rattle.render.proofs.Results.{redraw_refused, redraw_done, taken_bytes}
 use Rattle.scene.proofs.Accepted.{accepted_scene}
-use borrow.Author.Rules.{rules}
 use Rattle.render.proofs.redraw_from.Goals as goal
 
 -- what an accepted call has, from what was judged

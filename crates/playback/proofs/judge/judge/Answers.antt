@@ -1,6 +1,4 @@
 use Rattle.playback.proofs.Whole.{too_many, wrong_sum, too_few_places, not_refused}
-use borrow.Author.Rules.{rules}
-use Rattle.playback.proofs.judge.sum.Reads as sum-reads
 use Rattle.playback.proofs.judge.judge.Goals as goal
 
 pub returns-then-lengths-gt-MOST_SCENES : goal.returns-then-lengths-gt-MOST_SCENES

@@ -1,11 +1,8 @@
-use mathlib.Core.Path.{◌≡◌, refl, ap, ◌∙◌}
-use Prim.Native.Nat.{◌≤◌, ◌*◌, ◌-◌}
+use mathlib.Core.Path.{◌≡◌, ap, ◌∙◌}
 use native.Mathlib.Omega.{arith}
 use lib.ListN.{length}
 use Rattle.playback.specs.Replay.{start_of}
 use Rattle.playback.proofs.Runs.{sum_turn}
-use borrow.Author.Rules.{rules}
-use Rattle.playback.proofs.judge.wide.Reads as wide-reads
 use Rattle.playback.proofs.judge.sum.Goals as goal
 
 pub loop-i-preserved : goal.loop-i-preserved

@@ -1,11 +1,7 @@
-use mathlib.Core.Path.{◌≡◌, refl, ap, ◌∙◌}
+use mathlib.Core.Path.{◌≡◌}
 use Prim.Native.Nat.{◌≤◌, ◌*◌, ◌-◌}
-use native.Mathlib.Omega.{arith}
 use lib.ListN.{length}
 use Rattle.playback.specs.Replay.{start_of}
-use Rattle.playback.proofs.Runs.{sum_turn}
-use borrow.Author.Rules.{rules}
-use Rattle.playback.proofs.judge.wide.Reads as wide-reads
 use Rattle.playback.proofs.judge.sum.Given as goal
 
 abbrev pub invariant-loop-i : goal.invariant-loop-i

@@ -1,6 +1,4 @@
 use borrow.Author.Tests.{eq-eqb, ne_eqb}
-use borrow.Author.Rules.{rules}
-use Rattle.context.proofs.kept.Reads as kept-reads
 use Rattle.playback.proofs.scenes.carry.Goals as goal
 
 pub returns-then-code-eq-ACCEPTED : goal.returns-then-code-eq-ACCEPTED

@@ -1,13 +1,10 @@
 -- `play` meets its contract: after i scenes it holds what the first i calls leave, one by one.
 use mathlib.Core.Path.{◌≡◌, refl, ◌∙◌}
-use Prim.Native.Nat.{◌+◌, ◌-◌, ◌≤◌}
+use Prim.Native.Nat.{◌+◌, ◌≤◌}
 use native.Mathlib.Omega.{arith}
 use lib.ListN.{length}
-use Rattle.render.specs.Answers.{Mask, mask_of}
-use Rattle.playback.specs.declared.Place.{Place}
-use Rattle.playback.specs.Carrying.{Lies}
-use Rattle.playback.proofs.Turns.{Done, done_first, lies, done_next, done_all}
-use borrow.Author.Rules.{rules}
+use Rattle.render.specs.Answers.{mask_of}
+use Rattle.playback.proofs.Turns.{done_first, lies, done_next, done_all}
 use Rattle.playback.proofs.scenes.play.Goals as goal
 
 pub loop-i-init : goal.loop-i-init

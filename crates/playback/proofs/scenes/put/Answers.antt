@@ -1,7 +1,6 @@
 use native.Mathlib.Omega.{arith}
 use lib.ListN.{length-set}
 use Rattle.playback.proofs.Runs.{seven_stored}
-use borrow.Author.Rules.{rules}
 use Rattle.playback.proofs.scenes.put.Goals as goal
 
 pub bounds-part-4 : goal.bounds-part-4

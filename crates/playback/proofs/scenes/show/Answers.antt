@@ -1,4 +1,3 @@
-use borrow.Author.Rules.{rules}
 use Rattle.playback.proofs.scenes.show.Goals as goal
 
 pub redraw_from-requires : goal.redraw_from-requires

@@ -2,7 +2,6 @@ use mathlib.Core.Path.{refl, ap, ◌∙◌}
 use Rattle.render.specs.declared.Answer.{Answer}
 use Rattle.playback.specs.Carrying.{carried_on}
 use Rattle.playback.proofs.Runs.{place_back}
-use borrow.Author.Rules.{rules}
 use Rattle.playback.proofs.scenes.turn.Goals as goal
 
 pub returns : goal.returns

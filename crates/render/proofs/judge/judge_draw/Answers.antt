@@ -2,11 +2,6 @@ use Prim.Native.Nat.{ℕ}
 use mathlib.Core.Path.{ap₂, ◌∙◌}
 use Rattle.render.specs.Answers.{mask_of, lent_refusal, draw_refusal}
 use Rattle.render.proofs.Refusals.{first_refused, first_passed, scene_passed, accepted_block}
-use borrow.Author.Rules.{rules}
-use Rattle.render.proofs.judge.judge_lent.Reads as judge-lent-reads
-use Rattle.render.proofs.judge.judge_scene.Reads as judge-scene-reads
-use Rattle.scene.proofs.header.height.Reads as height-reads
-use Rattle.scene.proofs.header.width.Reads as width-reads
 use Rattle.render.proofs.judge.judge_draw.Goals as goal
 
 pub returns-then-broken-ne-ACCEPTED : goal.returns-then-broken-ne-ACCEPTED

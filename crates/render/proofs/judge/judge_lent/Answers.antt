@@ -3,9 +3,8 @@ use native.Mathlib.Nat.{mul-le-mul}
 use native.Mathlib.Omega.{arith}
 use Prim.Native.Nat.{ℕ, ◌*◌, ◌≤◌, ◌<◌}
 use mathlib.Core.Path.{◌∙◌, sym}
-use Rattle.render.specs.Answers.{Mask, mask_of}
+use Rattle.render.specs.Answers.{mask_of}
 use Rattle.render.proofs.Refusals.{lent_wrong, mask_refused, lent_short, lent_passes}
-use borrow.Author.Rules.{rules}
 use Rattle.render.proofs.judge.judge_lent.Goals as goal
 
 product : (w h : ℕ) → w < 65536 → h < 65536 → w * h ≤ 65535 * 65535

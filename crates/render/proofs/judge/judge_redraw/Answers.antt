@@ -1,6 +1,5 @@
 use Rattle.render.specs.Answers.{redraw_refusal}
 use Rattle.render.proofs.Refusals.{first_refused, scene_passed}
-use borrow.Author.Rules.{rules}
 use Rattle.render.proofs.judge.judge_redraw.Goals as goal
 
 pub returns-then-old_broken-ne-ACCEPTED : goal.returns-then-old_broken-ne-ACCEPTED

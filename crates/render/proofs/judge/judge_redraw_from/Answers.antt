@@ -6,7 +6,6 @@ use mathlib.Core.Path.{◌≡◌, refl, sym, ap₂, ◌∙◌}
 use Rattle.render.specs.declared.Refusal.{Refusal}
 use Rattle.render.specs.Answers.{mask_of, nothing, or_else, scene_refusal, lent_refusal, redraw_refusal}
 use Rattle.render.proofs.Refusals.{first_refused, first_passed, scene_passes, scene_passed, accepted_block}
-use borrow.Author.Rules.{rules}
 use Rattle.render.proofs.judge.judge_redraw_from.Goals as goal
 
 -- the old scene's rules, which come first, are kept

@@ -4,9 +4,6 @@ use Rattle.render.proofs.Refusals.{scene_passes, scene_refused}
 use Rattle.render.proofs.Draws.{fault_draw}
 use Rattle.scene.specs.declared.Fault.{Fault}
 use Rattle.render.specs.Answers.{refuse}
-use borrow.Author.Rules.{rules}
-use Rattle.render.proofs.judge.refusal.Reads as refusal-reads
-use Rattle.scene.proofs.verdict.verdict.Reads as verdict-reads
 use Rattle.render.proofs.judge.judge_scene.Goals as goal
 
 -- src/judge.rt:60:9

@@ -1,9 +1,5 @@
 use mathlib.Core.Path.{◌∙◌, sym}
 use Rattle.render.proofs.Refusals.{size_width, size_height, size_passes}
-use borrow.Author.Rules.{rules}
-use Rattle.render.proofs.judge.refusal.Reads as refusal-reads
-use Rattle.scene.proofs.header.height.Reads as height-reads
-use Rattle.scene.proofs.header.width.Reads as width-reads
 use Rattle.render.proofs.judge.judge_sizes.Goals as goal
 
 pub returns-then-width : goal.returns-then-width
