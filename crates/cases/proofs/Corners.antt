@@ -16,6 +16,7 @@ use Rattle.cases.specs.Corners.{corners}
 
 pub corner_cases : map (λ r. r.given) corners ≡ map (λ r. r.paper) corners
 unfolding corners red square_draw lt mul add of_bits to_unsigned is_nan channel_byte source_factor destination_factor composite_byte composite kept_stops
-    with_ends ramp_at points_of pen_after segment_code checksum_of block_right_from stop_limit_of count_rules flags_allowed head_rules float_rules circle_rules first_stop_at
+    with_ends ramp_at points_of pen_after segment_code checksum_of block_right_from stop_limit_of count_rules flags_allowed head_rules float_rules circle_rules
+    first_stop_at
     stop_rules list_rules transform_rules flat_rule path_rules rest_rules draw_rules coordinates_at flags_limit header_rules check_faults_from
 corner_cases = refl

@@ -33,7 +33,8 @@ use Rattle.cases.proofs.Judged.{block_there, lists_judged, rest_judged, draw_jud
 
 -- ---- accepted: zero bytes of the draw from a place on, and how many; then every block
 red_rules : (draw_rules false 0 red_draw).code ≡ 0
-unfolding square_draw of_bits is_nan points_of pen_after segment_code stop_limit_of count_rules flags_limit flags_allowed head_rules float_rules transform_rules flat_rule
+unfolding square_draw of_bits is_nan points_of pen_after segment_code stop_limit_of count_rules flags_limit flags_allowed head_rules float_rules transform_rules
+    flat_rule
     coordinates_at path_rules
 red_rules =
     draw_judged false 0 red_draw refl refl (lists_judged red_draw 68 64 132 640 refl refl refl refl refl refl refl refl) refl refl refl
@@ -51,7 +52,8 @@ red_accepted =
     refl red_rules
 
 blue_rules : (draw_rules false 0 blue_draw).code ≡ 0
-unfolding square_draw of_bits is_nan points_of pen_after segment_code stop_limit_of count_rules flags_limit flags_allowed head_rules float_rules transform_rules flat_rule
+unfolding square_draw of_bits is_nan points_of pen_after segment_code stop_limit_of count_rules flags_limit flags_allowed head_rules float_rules transform_rules
+    flat_rule
     coordinates_at path_rules
 blue_rules =
     draw_judged false 0 blue_draw refl refl (lists_judged blue_draw 68 64 132 640 refl refl refl refl refl refl refl refl) refl refl refl
@@ -69,7 +71,8 @@ blue_accepted =
     refl blue_rules
 
 curve_rules : (draw_rules false 0 curve_draw).code ≡ 0
-unfolding curve_draw of_bits is_nan points_of pen_after segment_code stop_limit_of count_rules flags_limit flags_allowed head_rules float_rules transform_rules flat_rule
+unfolding curve_draw of_bits is_nan points_of pen_after segment_code stop_limit_of count_rules flags_limit flags_allowed head_rules float_rules transform_rules
+    flat_rule
     coordinates_at path_rules
 curve_rules =
     draw_judged false 0 curve_draw refl refl (lists_judged curve_draw 68 64 172 600 refl refl refl refl refl refl refl refl) refl refl refl
@@ -102,13 +105,16 @@ unfolding blue square_draw square_picture draw_of paint_of of_bits lt mul add to
 blue_picture_lem = refl
 
 curve_picture_lem : picture curve [] ≡ curve_picture
-unfolding curve curve_draw curve_picture linear_t mapped kept_stops with_ends ramp_at gradient_color draw_of paint_of first_stop_at of_bits lt mul add to_unsigned
-    channel_byte source_factor destination_factor composite_byte paint_at points_of pen_after cut curve_edges path_edges upward spans at_or_left sign weight counts
+unfolding curve curve_draw curve_picture linear_t mapped kept_stops with_ends ramp_at gradient_color draw_of paint_of first_stop_at of_bits lt mul add
+    to_unsigned
+    channel_byte source_factor destination_factor composite_byte paint_at points_of pen_after cut curve_edges path_edges upward spans at_or_left sign weight
+    counts
     winding coverage scissored coordinates_at draw_edges coverage_of draw_transform composite draw_paint draw_mask step_of pixel_at picture
 curve_picture_lem = refl
 
 red_blue_damage : accepted_answer (damage red blue) ≡ answer 0 0 3 3
-unfolding red blue square_draw of_bits draw_of same_draw points_of pen_after curve_edges path_edges coordinates_at draw_edges outer outer_of box_of changed_at draw_box box_at
+unfolding red blue square_draw of_bits draw_of same_draw points_of pen_after curve_edges path_edges coordinates_at draw_edges outer outer_of box_of changed_at
+    draw_box box_at
     same_background damage_of
 red_blue_damage = refl
 
@@ -140,7 +146,8 @@ module _ (surface : List ℕ) (scratch : ℕ) (size : length surface ≡ 64) (sp
   unfolding blue square_picture
   red_there = record { size = refl; mask = λ e. absurd (true≢false (sym e)); space = space }
 
-  pub red_turned_blue : (draw_surface red no_mask surface scratch ≡ red_picture) × (redraw_answer red blue no_mask (length red_picture) scratch ≡ answer 0 0 3 3)
+  pub red_turned_blue : (draw_surface red no_mask surface scratch ≡ red_picture) ×
+      (redraw_answer red blue no_mask (length red_picture) scratch ≡ answer 0 0 3 3)
       × (redraw_surface red blue no_mask red_picture scratch ≡ blue_picture)
   red_turned_blue = (
     red_drawn,

@@ -38,7 +38,8 @@ block_there s b h = block_alone block_number s b ∙ h
 
 -- ---- a draw, part by part: m zero bytes from a to the stops and n from b to the segments; m from a to the coordinates and n from b to the end
 module _ (d : List ℕ) (a m b n : ℕ) (first : drop a d ≡ replicate m 0 ++ drop (a + m) d) (second : drop b d ≡ replicate n 0 ++ drop (b + n) d) where
-  pub lists_judged : is_radial d ≡ false → scissors_at + scissor_bytes * scissor_count d ≡ a → a + m ≡ stops_at → numbers d stops_at (stop_floats * stop_count d) ≡ fine
+  pub lists_judged : is_radial d ≡ false → scissors_at + scissor_bytes * scissor_count d ≡ a → a + m ≡ stops_at → numbers d stops_at
+      (stop_floats * stop_count d) ≡ fine
       → stops_at + stop_bytes * stop_count d ≡ b → b + n ≡ segments_at → (list_rules d).code ≡ 0
   unfolding list_rules circle_rules stop_rules first_stop_at
   lists_judged plain scissors m-end stops used n-end =

@@ -109,7 +109,8 @@ table =
     ++ bytes_of (ramp_at (ramp_of false [] 0) (linear_t (fixed_points four_pixels) 3 0)))
     (pos 32 ∷ pos 32 ∷ pos 32 ∷ pos 255 ∷ pos 223 ∷ pos 223 ∷ pos 223 ∷ pos 255 ∷ [])
     -- C8
-    ∷ row (bytes_of (ramp_at (ramp_of false [] 0) (mapped spread_pad (negsuc 8191))) ++ mapped spread_repeat (negsuc 8191) ∷ mapped spread_reflect (negsuc 8191) ∷ [])
+    ∷ row (bytes_of (ramp_at (ramp_of false [] 0) (mapped spread_pad (negsuc 8191))) ++ mapped spread_repeat (negsuc 8191) ∷ mapped spread_reflect (negsuc 8191)
+    ∷ [])
     (bytes_of black ++ pos 57344 ∷ pos 8192 ∷ [])
     -- C9
     ∷ row (bytes_of (ramp_at (ramp_of false red_and_blue_at_zero 2) (negsuc 0)) ++ bytes_of (ramp_at (ramp_of false red_and_blue_at_zero 2) (pos 0)))

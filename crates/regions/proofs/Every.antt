@@ -95,7 +95,8 @@ pub apart_is : (a b : Rect) → empty_of (meet_of a b) ≡ apart a b
 unfolding apart
 apart_is a b =
     same (empty_of (meet_of a b)) (every_pixel a (λ x y. not (inside b x y)))
-    (λ e. pixels_yes a (λ x y. not (inside b x y)) (λ x y i. not_of (inside b x y) (inside_no b x y (λ j. empty_out (meet_of a b) x y e (meet_in a b x y i j)))))
+    (λ e. pixels_yes a (λ x y. not (inside b x y)) (λ x y i. not_of (inside b x y)
+    (inside_no b x y (λ j. empty_out (meet_of a b) x y e (meet_in a b x y i j)))))
     (λ e.
     either (empty_of (meet_of a b)) (λ q. q)
     (λ q.

@@ -29,7 +29,8 @@ regions_painted new m l surface = overlays (width_of new) (height_of new) (propo
 -- ---- the redraw by the rectangles l
 abbrev pub regions_answer : List ℕ → List ℕ → Mask → List ℤ → ℕ → ℕ → Answer
 regions_answer old new m l surface_bytes scratch =
-    choose (regions_refusal old new m l surface_bytes scratch) (accepted_answer (round_of l)) (refused_answer (regions_refusal old new m l surface_bytes scratch))
+    choose (regions_refusal old new m l surface_bytes scratch) (accepted_answer (round_of l))
+    (refused_answer (regions_refusal old new m l surface_bytes scratch))
 
 abbrev pub regions_surface : List ℕ → List ℕ → Mask → List ℤ → List ℕ → ℕ → List ℕ
 regions_surface old new m l surface scratch = choose (regions_refusal old new m l (length surface) scratch) (regions_painted new m l surface) surface

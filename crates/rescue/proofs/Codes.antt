@@ -11,7 +11,18 @@ use Rattle.codes.specs.Codes.{accepted_code, bad_length, bad_checksum, out_of_me
 use Rattle.scene.specs.Layout.{block_bytes, payload_bytes, no_draw}
 use Rattle.scene.specs.Blocks.{block_right, block_of, draw_of, file_offset}
 use Rattle.scene.specs.Header.{count_of, edition_of}
-use Rattle.scene.specs.Rules.{header_rules, draw_rules, located, in_header, in_draw, check_faults_from, draw_fault_from, draw_fault, scene_fault_from, scene_fault}
+use Rattle.scene.specs.Rules.{
+  header_rules,
+  draw_rules,
+  located,
+  in_header,
+  in_draw,
+  check_faults_from,
+  draw_fault_from,
+  draw_fault,
+  scene_fault_from,
+  scene_fault,
+}
 use Rattle.scene.specs.Faults.{accepted, fault, or_fault, first_fault, demand}
 use Rattle.scene.specs.declared.FieldFault.{FieldFault}
 use Rattle.scene.specs.declared.Fault.{Fault}

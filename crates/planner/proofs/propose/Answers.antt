@@ -8,7 +8,11 @@ use Rattle.planner.proofs.propose.Goals as goal
 pub collect-m-requires : goal.collect-m-requires
 collect-m-requires c =
     let p = c.requires in
-    record { accepted_scene = p.accepted_scene; width_bound = ((omega (arith, p.width_value.0.0, p.accepted_scene.1.width_most), omega (arith, p.width_value.0.1, p.accepted_scene.1.height_most)), search rules) }
+    record {
+      accepted_scene = p.accepted_scene;
+      width_bound =
+          ((omega (arith, p.width_value.0.0, p.accepted_scene.1.width_most), omega (arith, p.width_value.0.1, p.accepted_scene.1.height_most)), search rules);
+    }
 
 pub around-area-requires : goal.around-area-requires
 around-area-requires c =
@@ -23,7 +27,11 @@ returns-then-is_empty c =
 
 pub divide-n-requires : goal.divide-n-requires
 divide-n-requires c =
-    record { m_in_bounds = (omega (arith, c.collect-m.ensures.0, c.collect-m.auto.boxes), c.around-area.ensures); area_value = (sym c.is_empty.ensures ∙ c.if-is_empty.false, search rules) }
+    record {
+      m_in_bounds = (omega (arith, c.collect-m.ensures.0, c.collect-m.auto.boxes), c.around-area.ensures);
+      area_value =
+          (sym c.is_empty.ensures ∙ c.if-is_empty.false, search rules);
+    }
 
 pub write-requires : goal.write-requires
 write-requires c =

@@ -37,7 +37,11 @@ propose-n-requires c =
     let a = c.args in
     let r = redraw_ready a.old.now a.new.now (mask_of a.masked a.mask.now) (length a.surface.now) (length a.scratch.now)
     (rw c.judge_redraw-f.ensures at c.if-f-ne-ACCEPTED.false) in
-    record { accepted_scene = (accepted_scene a.old.now a.masked r.before, accepted_scene a.new.now a.masked r.after.scene); width_value = ((c.width-width.ensures.0, c.height-height.ensures.0), search rules) }
+    record {
+      accepted_scene = (accepted_scene a.old.now a.masked r.before, accepted_scene a.new.now a.masked r.after.scene);
+      width_value =
+          ((c.width-width.ensures.0, c.height-height.ensures.0), search rules);
+    }
 
 pub overflow_mul-k : goal.overflow_mul-k
 overflow_mul-k c =

@@ -21,7 +21,14 @@ draw_pixels-requires c =
     let e = sym style.ensures in
     let long = subst (λ (z : List ℕ). 64 ≤ length z) (sym c.scissors.ensures) (omega (arith, scissors_length a.d.now p.d_len.0)) in
     let few = subst (λ (z : Style). z.scissors ≤ 4) e p.d_len.1.scissors in
-    record { outlined = subst (λ (z : Style). Outlined a.scratch.now z.edges) e p.outlined; scissors = ((few, long), subst (λ (z : Style). Shaded z.shade shade.new.ramp) e shade.ensures.asked); surface_len = p.surface_len; mask_for = subst (λ (z : Style). MaskFor z.masked (a.height * a.width) a.mask.now) e p.mask_for }
+    record {
+      outlined = subst (λ (z : Style). Outlined a.scratch.now z.edges) e p.outlined;
+      scissors =
+          ((few, long), subst (λ (z : Style). Shaded z.shade shade.new.ramp) e shade.ensures.asked);
+      surface_len = p.surface_len;
+      mask_for = subst
+          (λ (z : Style). MaskFor z.masked (a.height * a.width) a.mask.now) e p.mask_for;
+    }
 
 pub returns : goal.returns
 returns c =

@@ -11,7 +11,14 @@ pub draw_laid-requires : goal.draw_laid-requires
 draw_laid-requires c =
     let laid = c.lay_edges-n.ensures.laid in
     let p = c.requires in
-    record { d_len = (p.d_len.0, p.d_len.1.fields); outlined = laid.ready; surface_len = p.surface_len; mask_for = p.mask_for; ramp_numbers_in_bounds = omega arith }
+    record {
+      d_len = (p.d_len.0, p.d_len.1.fields);
+      outlined = laid.ready;
+      surface_len = p.surface_len;
+      mask_for = p.mask_for;
+      ramp_numbers_in_bounds = omega
+          arith;
+    }
 
 pub clear_edges-requires : goal.clear_edges-requires
 clear_edges-requires c =

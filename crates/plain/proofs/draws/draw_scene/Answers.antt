@@ -23,7 +23,12 @@ pub draw_first-requires : goal.draw_first-requires
 draw_first-requires c =
     let p = c.requires in
     let size = p.surface_len in
-    record { accepted_scene = (p.accepted_scene.0, (p.accepted_scene.1, refl)); blank = p.blank; surface_len = (c.fill_row.auto.s ∙ size.0, size.1, size.2); mask_for_scene = p.mask_for_scene }
+    record {
+      accepted_scene = (p.accepted_scene.0, (p.accepted_scene.1, refl));
+      blank = p.blank;
+      surface_len = (c.fill_row.auto.s ∙ size.0, size.1, size.2);
+      mask_for_scene = p.mask_for_scene;
+    }
 
 pub returns : goal.returns
 returns c =

@@ -29,7 +29,11 @@ pub propose-n-requires : goal.propose-n-requires
 propose-n-requires c =
     let a = c.args in
     let r = plan_ready a.old.now a.new.now (mask_of a.masked a.mask.now) (length a.rectangles.now) (rw c.judge_plan-f.ensures at c.if-f-ne-ACCEPTED.false) in
-    record { accepted_scene = (accepted_scene a.old.now a.masked r.0.before, accepted_scene a.new.now a.masked r.0.after.scene); width_value = ((c.width.ensures.0, c.height.ensures.0), r.1) }
+    record {
+      accepted_scene = (accepted_scene a.old.now a.masked r.0.before, accepted_scene a.new.now a.masked r.0.after.scene);
+      width_value =
+          ((c.width.ensures.0, c.height.ensures.0), r.1);
+    }
 
 pub overflow_cast-n : goal.overflow_cast-n
 overflow_cast-n c =

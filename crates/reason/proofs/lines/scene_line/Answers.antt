@@ -22,7 +22,8 @@ product : (y w : ℕ) → y ≤ 1024 → w ≤ 1024 → y * w ≤ 1024 * 1024
 product y w a b = mul-le-mul a b
 
 -- the pixel lies on the surface
-small : (entry : lts.Start tie.the-claims reads.Pre reads.Post tie.handed_clauses) → (entry.args.x ≤ 1023) × (entry.args.y ≤ 1023) × (width_of entry.args.s.now ≤ 1024)
+small : (entry : lts.Start tie.the-claims reads.Pre reads.Post tie.handed_clauses) → (entry.args.x ≤ 1023) × (entry.args.y ≤ 1023) ×
+    (width_of entry.args.s.now ≤ 1024)
 small entry =
     let p = entry.requires in (
       omega (arith, p.x_bound.0, p.accepted_scene.0.width_most),
@@ -30,7 +31,8 @@ small entry =
       p.accepted_scene.0.width_most,
     )
 
-within : (entry : lts.Start tie.the-claims reads.Pre reads.Post tie.handed_clauses) (w : ℕ) → w ≡ width_of entry.args.s.now → (entry.args.y * w ≤ 1024 * 1024) × (entry.args.x ≤ 1023)
+within : (entry : lts.Start tie.the-claims reads.Pre reads.Post tie.handed_clauses) (w : ℕ) → w ≡ width_of entry.args.s.now → (entry.args.y * w ≤ 1024 * 1024) ×
+    (entry.args.x ≤ 1023)
 within entry w e =
     let k = small entry in
     (product entry.args.y w (omega (arith, k.1)) (omega (arith, e, k.2)), k.0)

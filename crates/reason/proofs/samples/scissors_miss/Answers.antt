@@ -16,7 +16,11 @@ scissor_row-requires c =
     let n = c.scissor_count in
     let few : n.result ≤ 4 = omega (arith, n.ensures.0, p.d_len.1) in
     let long = scissors_length c.args.d.now p.d_len.0 in
-    record { n_bound = (few, subst (λ (z : List ℕ). 16 * n.result ≤ length z) (sym c.scissors.ensures) (omega (arith, n.ensures.0, p.d_len.1, long))); y_bound = (p.x_bound.1, omega (arith, p.x_bound.0, p.x_bound.2)) }
+    record {
+      n_bound = (few, subst (λ (z : List ℕ). 16 * n.result ≤ length z) (sym c.scissors.ensures) (omega (arith, n.ensures.0, p.d_len.1, long)));
+      y_bound =
+          (p.x_bound.1, omega (arith, p.x_bound.0, p.x_bound.2));
+    }
 
 pub bounds-sample-0 : goal.bounds-sample-0
 bounds-sample-0 c =

@@ -11,7 +11,8 @@ use Rattle.reason.proofs.windings.add_edge.Given as goal
 -- `windings::add_edge` meets its contract: at each sample what the edge counts there is added to what stood there.
 abbrev pub invariant-loop-j : goal.invariant-loop-j
 invariant-loop-j l =
-    (l.j ≤ 16) × (length l.sums ≡ length l.initial.sums) × (l.sums ≡ over (tab l.j (λ i. get_or l.initial.sums i (pos 0) +ℤ winding_at l.x l.y (l.e ∷ []) i)) l.initial.sums)
+    (l.j ≤ 16) × (length l.sums ≡ length l.initial.sums) × (l.sums ≡ over (tab l.j (λ i. get_or l.initial.sums i (pos 0) +ℤ winding_at l.x l.y (l.e ∷ []) i))
+    l.initial.sums)
 
 abbrev pub decreases-loop-j : goal.decreases-loop-j
 decreases-loop-j l = 16 - l.j

@@ -62,7 +62,8 @@ add_edges-requires c =
     let cs = a.coordinates.now in
     let t = c.trace-t in
     let held = segment_held a.m ss cs a.n l.i p.limited.0 p.limited.1 l.walk l.invariant.3 l.invariant.0 l.edges _ _
-    (omega (arith, l.invariant.1, p.x_bound.2)) (omega arith) t.result t.ensures (c.store_segment-stored.ensures.edges_after, c.store_segment-stored.ensures.value) in
+    (omega (arith, l.invariant.1, p.x_bound.2)) (omega arith) t.result t.ensures
+    (c.store_segment-stored.ensures.edges_after, c.store_segment-stored.ensures.value) in
     record {
       sums = (
         wound_small a.x a.y a.sums.now (edges_to a.m ss cs l.i) l.sums 0 2048 l.invariant.4 p.x_bound.3
@@ -84,7 +85,8 @@ loop-i-preserved c =
     let t = c.trace-t in
     let drawn = drawn_edges a.m l.walk.pen (drawn_by l.walk.pen (get_or ss l.i 0) t.result.curve) in
     let held = segment_held a.m ss cs a.n l.i p.limited.0 p.limited.1 l.walk l.invariant.3 l.invariant.0 l.edges _ _
-    (omega (arith, l.invariant.1, p.x_bound.2)) (omega arith) t.result t.ensures (c.store_segment-stored.ensures.edges_after, c.store_segment-stored.ensures.value) in (
+    (omega (arith, l.invariant.1, p.x_bound.2)) (omega arith) t.result t.ensures
+    (c.store_segment-stored.ensures.edges_after, c.store_segment-stored.ensures.value) in (
       search rules,
       c.store_segment-stored.auto.edges ∙ l.invariant.1,
       added.auto.sums ∙ l.invariant.2,

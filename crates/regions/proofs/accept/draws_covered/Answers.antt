@@ -14,15 +14,19 @@ returns-then-not-draw_covered c =
     let n = c.most_draws-n in
     let l = c.loop-i in
     let a = c.args in
-    sym (every_no (λ (j : ℕ). each (covers (proposed a.rectangles.now)) (boxes_at a.width a.height a.old.now a.new.now j)) (max (count_of a.old.now) (count_of a.new.now)) l.i (omega (arith, c.loop-i-test.true, n.ensures))
+    sym (every_no (λ (j : ℕ). each (covers (proposed a.rectangles.now)) (boxes_at a.width a.height a.old.now a.new.now j))
+    (max (count_of a.old.now) (count_of a.new.now)) l.i (omega (arith, c.loop-i-test.true, n.ensures))
     (sym c.draw_covered.ensures ∙ of_not _ c.if-not-draw_covered.true-raw))
     ∙ each_upto (covers (proposed a.rectangles.now)) (max (count_of a.old.now) (count_of a.new.now)) (boxes_at a.width a.height a.old.now a.new.now)
 
 pub loop-i-preserved : goal.loop-i-preserved
 loop-i-preserved c =
     let l = c.loop-i in
-    let a = c.args in
-    (search rules, every_turn (λ (j : ℕ). each (covers (proposed a.rectangles.now)) (boxes_at a.width a.height a.old.now a.new.now j)) l.i l.invariant.1 (sym c.draw_covered.ensures ∙ of_not_no _ c.if-not-draw_covered.false-raw))
+    let a = c.args in (
+      search rules,
+      every_turn (λ (j : ℕ). each (covers (proposed a.rectangles.now)) (boxes_at a.width a.height a.old.now a.new.now j)) l.i l.invariant.1
+          (sym c.draw_covered.ensures ∙ of_not_no _ c.if-not-draw_covered.false-raw),
+    )
 
 pub returns : goal.returns
 returns c =
@@ -30,4 +34,6 @@ returns c =
     let a = c.args in
     let n = c.most_draws-n in
     let last : l.i ≡ n.result = omega arith in
-    sym (sym (ap (λ (k : ℕ). every k (λ (j : ℕ). each (covers (proposed a.rectangles.now)) (boxes_at a.width a.height a.old.now a.new.now j))) (last ∙ n.ensures)) ∙ l.invariant.1) ∙ each_upto (covers (proposed a.rectangles.now)) (max (count_of a.old.now) (count_of a.new.now)) (boxes_at a.width a.height a.old.now a.new.now)
+    sym (sym (ap (λ (k : ℕ). every k (λ (j : ℕ). each (covers (proposed a.rectangles.now)) (boxes_at a.width a.height a.old.now a.new.now j)))
+    (last ∙ n.ensures)) ∙ l.invariant.1) ∙ each_upto (covers (proposed a.rectangles.now)) (max (count_of a.old.now) (count_of a.new.now))
+    (boxes_at a.width a.height a.old.now a.new.now)

@@ -21,7 +21,12 @@ paint_area-requires c =
     let p = c.requires in
     let l = c.loop-k in
     let on = p.all_on l.k (omega (arith, c.loop-k-test.true)) in
-    record { accepted_scene = (p.accepted_scene.0, c.count-count.ensures.0); blank = subst Blank (sym l.invariant.2) p.accepted_scene.1; area = ((l.invariant.1 ∙ p.surface_len.0, (rw c.rect_at-a.ensures on, p.surface_len.1)), p.mask_for_scene) }
+    record {
+      accepted_scene = (p.accepted_scene.0, c.count-count.ensures.0);
+      blank = subst Blank (sym l.invariant.2) p.accepted_scene.1;
+      area =
+          ((l.invariant.1 ∙ p.surface_len.0, (rw c.rect_at-a.ensures on, p.surface_len.1)), p.mask_for_scene);
+    }
 
 pub loop-k-preserved : goal.loop-k-preserved
 loop-k-preserved c =
@@ -31,7 +36,8 @@ loop-k-preserved c =
       omega (arith, c.loop-k-test.true),
       e.auto.surface ∙ l.invariant.1,
       e.ensures.scratch_unchanged ∙ l.invariant.2,
-      painted_turn (proposed_at a.rectangles.now) l.k a.width a.height (pixel_at a.scene.now (mask_at a.width a.mask.now)) a.surface.now l.surface _ c.rect_at-a.result
+      painted_turn (proposed_at a.rectangles.now) l.k a.width a.height (pixel_at a.scene.now (mask_at a.width a.mask.now)) a.surface.now l.surface _
+          c.rect_at-a.result
           l.invariant.3 c.rect_at-a.ensures e.ensures.surface_after,
     )
 
@@ -48,4 +54,8 @@ returns c =
     let l = c.loop-k in
     let a = c.args in
     let last : l.k ≡ length a.rectangles.now / 4 = omega arith in
-    record { scratch_unchanged = l.invariant.2; surface_after = l.invariant.3 ∙ ap (λ (k : ℕ). overlays a.width a.height (tab k (proposed_at a.rectangles.now)) (pixel_at a.scene.now (mask_at a.width a.mask.now)) a.surface.now) last }
+    record {
+      scratch_unchanged = l.invariant.2;
+      surface_after = l.invariant.3 ∙ ap
+          (λ (k : ℕ). overlays a.width a.height (tab k (proposed_at a.rectangles.now)) (pixel_at a.scene.now (mask_at a.width a.mask.now)) a.surface.now) last;
+    }

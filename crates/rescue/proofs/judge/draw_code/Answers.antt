@@ -20,10 +20,12 @@ number first = first.args.i
 right-0 : (c : lts.Else1 tie.the-claims reads.Pre reads.Post tie.handed_clauses) → block_right (scene c) (block_of (number c)) ≡ true
 right-0 c = sym c.block_right.ensures ∙ c.if-not-block_right.false
 
-right-1 : (c : lts.Else2 tie.the-claims reads.Pre reads.Post tie.handed_clauses) → block_right (scene c.before.before) (block_of (number c.before.before) + 1) ≡ true
+right-1 : (c : lts.Else2 tie.the-claims reads.Pre reads.Post tie.handed_clauses) → block_right (scene c.before.before) (block_of (number c.before.before) + 1) ≡
+    true
 right-1 c = sym c.block_right-2.ensures ∙ c.if-not-block_right-2.false
 
-right-2 : (c : lts.Else3 tie.the-claims reads.Pre reads.Post tie.handed_clauses) → block_right (scene c.before.before.before.before) (block_of (number c.before.before.before.before) + 2) ≡ true
+right-2 : (c : lts.Else3 tie.the-claims reads.Pre reads.Post tie.handed_clauses) → block_right (scene c.before.before.before.before)
+    (block_of (number c.before.before.before.before) + 2) ≡ true
 right-2 c = sym c.block_right-3.ensures ∙ c.if-not-block_right-3.false
 
 pub returns-then-not-block_right : goal.returns-then-not-block_right
@@ -33,19 +35,26 @@ returns-then-not-block_right c =
 
 pub returns-then-not-block_right-2 : goal.returns-then-not-block_right-2
 returns-then-not-block_right-2 c =
-    wrong_1 (scene c.before.before.before) (number c.before.before.before) (right-0 c.before.before.before) (sym c.block_right-2.ensures ∙ c.if-not-block_right-2.true)
+    wrong_1 (scene c.before.before.before) (number c.before.before.before) (right-0 c.before.before.before)
+    (sym c.block_right-2.ensures ∙ c.if-not-block_right-2.true)
 
 pub returns-then-not-block_right-3 : goal.returns-then-not-block_right-3
 returns-then-not-block_right-3 c =
-    wrong_2 (scene c.before.before.before.before.before) (number c.before.before.before.before.before) (right-0 c.before.before.before.before.before) (right-1 c.before.before.before) (sym c.block_right-3.ensures ∙ c.if-not-block_right-3.true)
+    wrong_2 (scene c.before.before.before.before.before) (number c.before.before.before.before.before) (right-0 c.before.before.before.before.before)
+    (right-1 c.before.before.before) (sym c.block_right-3.ensures ∙ c.if-not-block_right-3.true)
 
 pub returns-then-not-block_right-4 : goal.returns-then-not-block_right-4
 returns-then-not-block_right-4 c =
-    wrong_3 (scene c.before.before.before.before.before.before.before) (number c.before.before.before.before.before.before.before) (right-0 c.before.before.before.before.before.before.before) (right-1 c.before.before.before.before.before) (right-2 c.before.before.before)
+    wrong_3 (scene c.before.before.before.before.before.before.before) (number c.before.before.before.before.before.before.before)
+    (right-0 c.before.before.before.before.before.before.before) (right-1 c.before.before.before.before.before) (right-2 c.before.before.before)
     (sym c.block_right-4.ensures ∙ c.if-not-block_right-4.true)
 
 pub returns : goal.returns
 returns c =
     ap (λ f. f.code) (c.draw_rules.ensures ∙ ap₂ (draw_rules true) c.edition.ensures c.read_draw.ensures)
-    ∙ by_rules (scene c.before.before.before.before.before.before.before.before.before.before.before.before.before) (number c.before.before.before.before.before.before.before.before.before.before.before.before.before) (right-0 c.before.before.before.before.before.before.before.before.before.before.before.before.before) (right-1 c.before.before.before.before.before.before.before.before.before.before.before) (right-2 c.before.before.before.before.before.before.before.before.before)
+    ∙ by_rules (scene c.before.before.before.before.before.before.before.before.before.before.before.before.before)
+    (number c.before.before.before.before.before.before.before.before.before.before.before.before.before)
+    (right-0 c.before.before.before.before.before.before.before.before.before.before.before.before.before)
+    (right-1 c.before.before.before.before.before.before.before.before.before.before.before)
+    (right-2 c.before.before.before.before.before.before.before.before.before)
     (sym c.block_right-4.ensures ∙ c.if-not-block_right-4.false)

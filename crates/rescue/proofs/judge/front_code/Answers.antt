@@ -36,12 +36,15 @@ pub returns-then-header-ne-ACCEPTED : goal.returns-then-header-ne-ACCEPTED
 returns-then-header-ne-ACCEPTED c =
     let header = c.header_rules-header in
     ap (λ f. f.code) header.ensures
-    ∙ unfit (scene c.before.before.before.before.before.before.before) c.if-s-ne0.false c.if-s-lt-BLOCK_BYTES.false (right-first c.before.before.before.before) (rw (← header.ensures) c.if-header-ne-ACCEPTED.true)
+    ∙ unfit (scene c.before.before.before.before.before.before.before) c.if-s-ne0.false c.if-s-lt-BLOCK_BYTES.false (right-first c.before.before.before.before)
+    (rw (← header.ensures) c.if-header-ne-ACCEPTED.true)
 
 pub returns-then-s-count : goal.returns-then-s-count
 returns-then-s-count c =
-    miscounted (scene c.before.before.before.before.before.before.before.before.before) c.if-s-ne0.false c.if-s-lt-BLOCK_BYTES.false (right-first c.before.before.before.before.before.before) (calm c.before.before.before) (rw (← c.count.ensures.0) c.if-s-count.true)
+    miscounted (scene c.before.before.before.before.before.before.before.before.before) c.if-s-ne0.false c.if-s-lt-BLOCK_BYTES.false
+    (right-first c.before.before.before.before.before.before) (calm c.before.before.before) (rw (← c.count.ensures.0) c.if-s-count.true)
 
 pub returns : goal.returns
 returns c =
-    sound (scene c.before.before.before.before.before.before.before.before.before) c.if-s-ne0.false c.if-s-lt-BLOCK_BYTES.false (right-first c.before.before.before.before.before.before) (calm c.before.before.before) (rw (← c.count.ensures.0) c.if-s-count.false)
+    sound (scene c.before.before.before.before.before.before.before.before.before) c.if-s-ne0.false c.if-s-lt-BLOCK_BYTES.false
+    (right-first c.before.before.before.before.before.before) (calm c.before.before.before) (rw (← c.count.ensures.0) c.if-s-count.false)

@@ -29,7 +29,13 @@ returns-then-code-ne-ACCEPTED c =
     let code = c.salvage_code-code in
     let a = c.args in
     let s = a.s.now in
-    record { answer = refused_answer_lem s (length a.place.now) code.result code.ensures c.if-code-ne-ACCEPTED.true; scene = nothing_written code.result (salvaged_scene s) a.place.now c.if-code-ne-ACCEPTED.true; listed = nothing_written code.result (fitting (length a.list.now) (listed_to s (count_of s))) a.list.now c.if-code-ne-ACCEPTED.true }
+    record {
+      answer = refused_answer_lem s (length a.place.now) code.result code.ensures c.if-code-ne-ACCEPTED.true;
+      scene = nothing_written code.result
+          (salvaged_scene s) a.place.now c.if-code-ne-ACCEPTED.true;
+      listed = nothing_written code.result (fitting (length a.list.now) (listed_to s (count_of s)))
+          a.list.now c.if-code-ne-ACCEPTED.true;
+    }
 
 pub count-n-requires : goal.count-n-requires
 count-n-requires c =

@@ -7,7 +7,8 @@ use Rattle.rescue.proofs.write.write_list.Given as goal
 
 abbrev pub invariant-loop-i : goal.invariant-loop-i
 invariant-loop-i l =
-    (l.i ≤ l.n) × (l.k ≤ l.i) × (length l.list ≡ length l.initial.list) × (l.k ≡ replaced_to l.s l.i) × (l.list ≡ over (fitting (length l.initial.list) (listed_to l.s l.i)) l.initial.list)
+    (l.i ≤ l.n) × (l.k ≤ l.i) × (length l.list ≡ length l.initial.list) × (l.k ≡ replaced_to l.s l.i) ×
+    (l.list ≡ over (fitting (length l.initial.list) (listed_to l.s l.i)) l.initial.list)
 
 abbrev pub decreases-loop-i : goal.decreases-loop-i
 decreases-loop-i l = l.n - l.i
