@@ -2,12 +2,10 @@
 -- blue, and a curve filled with a gradient. Each is accepted, and what a call leaves and answers is given in numbers.
 use mathlib.Core.Path.{◌≡◌, refl, sym, ◌∙◌}
 use mathlib.Core.List.{List, []}
-use mathlib.Core.Bool.{true, false, true≢false}
+use mathlib.Core.Bool.{false, true≢false}
 use Prim.Native.Nat.{ℕ, ◌≤◌}
 use lib.ListN.{length}
 use lib.Ieee.{lt, mul, add, of_bits, to_unsigned, is_nan}
-use Rattle.rect.specs.declared.Rect.{Rect}
-use Rattle.rect.specs.Rects.{whole}
 use Rattle.color.specs.Channels.{channel_byte}
 use Rattle.blend.specs.PorterDuff.{source_factor, destination_factor, composite_byte, composite}
 use Rattle.paint.specs.Gradient.{linear_t, mapped}
@@ -25,7 +23,6 @@ use Rattle.scene.specs.Rules.{header_rules, draw_rules}
 use Rattle.scene.specs.Layout.{coordinates_at, flags_limit}
 use Rattle.engine.specs.Picture.{draw_edges, coverage_of, draw_transform, draw_paint, draw_mask, step_of, pixel_at, picture}
 use Rattle.damage.specs.Damage.{changed_at, draw_box, box_at, same_background, damage_of, damage}
-use Rattle.render.specs.declared.Answer.{Answer}
 use Rattle.render.specs.Answers.{no_mask, accepted_answer, draw_answer, draw_surface, redraw_answer, redraw_surface, scratch_numbers, Accepted, OneSize, Lent}
 use Rattle.render.proofs.Demands.{full_drawing_accepted, full_drawing_leaves_picture, redraw_accepted, redraw_makes_picture}
 use Rattle.cases.specs.Scenes.{square_draw, red_draw, blue_draw, curve_draw, red, blue, curve, square_picture, red_picture, blue_picture, curve_picture, answer}

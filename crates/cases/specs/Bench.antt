@@ -1,5 +1,5 @@
 -- The bench cases C1 to C12: what the definitions give, beside what the paper says.
-use Rattle.std.specs.Prelude.{ℕ, ◌+◌, List, [], ◌∷◌, ◌++◌, true, false, replicate, ℤ, pos, negsuc, Float}
+use Rattle.std.specs.Prelude.{ℕ, List, [], ◌∷◌, ◌++◌, true, false, replicate, ℤ, pos, negsuc, Float}
 use Rattle.std.specs.Float.{fin}
 use Rattle.color.specs.declared.Pixel.{Pixel}
 use Rattle.color.specs.Channels.{channel_byte, premultiply}

@@ -1,9 +1,8 @@
 -- Corners that no bench case reaches: where in the file a fault is, the step alone on stray bytes and under a mask, what an edition moves, a last stop
 -- just below the end. What the definitions give, beside what is asked; nearly all faults and offsets are those of edge vectors with these names
 -- (tests/vectors/edges.txt).
-use Rattle.std.specs.Prelude.{ℕ, ◌+◌, List, [], ◌∷◌, ◌++◌, map, true, false, set, length, replicate, ℤ, pos}
+use Rattle.std.specs.Prelude.{ℕ, ◌+◌, List, [], ◌∷◌, ◌++◌, map, true, false, set, length, replicate, pos}
 use Rattle.color.specs.declared.Pixel.{Pixel}
-use Rattle.blend.specs.declared.Composited.{Composited}
 use Rattle.blend.specs.PorterDuff.{composite_answer, mode_dst_over, mode_src_in, mode_src_over}
 use Rattle.paint.specs.Ramps.{ramp_of, ramp_at}
 use Rattle.scene.specs.declared.Fault.{Fault}

@@ -1,6 +1,6 @@
 -- Three scenes of 4 by 4 pixels with one draw each, byte by byte, and their pictures as the paper asks: the bench case's square in red and in blue, and
 -- a curve filled with a gradient.
-use Rattle.std.specs.Prelude.{ℕ, ◌+◌, ◌-◌, ◌/◌, ◌%◌, List, [], ◌∷◌, ◌++◌, replicate, length, take, drop}
+use Rattle.std.specs.Prelude.{ℕ, ◌-◌, ◌/◌, ◌%◌, List, [], ◌∷◌, ◌++◌, replicate, length, take, drop}
 use Rattle.render.specs.declared.Answer.{Answer}
 
 -- ---- bytes
