@@ -1,13 +1,6 @@
-use mathlib.Core.Path.{◌≡◌, sym, ◌∙◌}
-use Rattle.rescue.specs.Salvaged.{front_code}
+use mathlib.Core.Path.{sym, ◌∙◌}
 use Rattle.rescue.proofs.Codes.{front_first, no_room, allowed}
 use Rattle.rescue.proofs.judge.salvage_code.Goals as goal
-use Rattle.rescue.proofs.judge.salvage_code.Tie as tie
-use Rattle.rescue.proofs.judge.salvage_code.Lts as lts
-use Rattle.rescue.proofs.judge.salvage_code.Reads as reads
-
-calm : (sound : lts.Else1 tie.the-claims reads.Pre reads.Post) → front_code sound.args.s.now ≡ 0
-calm sound = sym sound.front_code-code.ensures ∙ sound.if-code-ne-ACCEPTED.false
 
 pub returns-then-code-ne-ACCEPTED : goal.returns-then-code-ne-ACCEPTED
 returns-then-code-ne-ACCEPTED c =
@@ -18,9 +11,9 @@ returns-then-code-ne-ACCEPTED c =
 pub returns-then-bytes-s : goal.returns-then-bytes-s
 returns-then-bytes-s c =
     let a = c.args in
-    no_room a.s.now a.bytes (calm c.before.before) c.if-bytes-s.true
+    no_room a.s.now a.bytes (sym c.front_code-code.ensures ∙ c.if-code-ne-ACCEPTED.false) c.if-bytes-s.true
 
 pub returns : goal.returns
 returns c =
     let a = c.args in
-    allowed a.s.now a.bytes (calm c.before.before) c.if-bytes-s.false
+    allowed a.s.now a.bytes (sym c.front_code-code.ensures ∙ c.if-code-ne-ACCEPTED.false) c.if-bytes-s.false

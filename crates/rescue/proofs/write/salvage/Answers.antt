@@ -6,23 +6,17 @@ use lib.ListN.{length, take, drop}
 use Rattle.lists.specs.Lists.{over}
 use Rattle.lists.proofs.Laws.{part_length}
 use Rattle.scene.specs.Header.{count_of}
-use Rattle.rescue.specs.Salvaged.{salvaged_scene, listed_to, replaced_to, fitting}
+use Rattle.rescue.specs.Salvaged.{salvage_code, salvaged_scene, listed_to, replaced_to, fitting}
 use Rattle.rescue.proofs.Parts.{Allowed, call_allowed, refused_answer_lem, salvaged_answer, nothing_written, all_written, front_part}
 use Rattle.rescue.proofs.write.salvage.Goals as goal
-use Rattle.rescue.proofs.write.salvage.Tie as tie
-use Rattle.rescue.proofs.write.salvage.Lts as lts
-use Rattle.rescue.proofs.write.salvage.Reads as reads
 
 -- the part that is lent has the bytes of the scene
 part : (n : ℕ) (place : List ℕ) → n ≤ length place → length (take (n - 0) (drop 0 place)) ≡ n
 part n place l = part_length place 0 n (omega arith) l ∙ omega arith
 
 -- nothing is refused
-allowed : (c : lts.Else1 tie.the-claims reads.Pre reads.Post tie.handed_clauses)
-    → let a = c.args in Allowed a.s.now (length a.place.now)
-allowed c =
-    let a = c.args in
-    call_allowed a.s.now (length a.place.now) (sym c.salvage_code-code.ensures ∙ c.if-code-ne-ACCEPTED.false)
+allowed : (s : List ℕ) (bytes code : ℕ) → code ≡ salvage_code s bytes → code ≡ 0 → Allowed s bytes
+allowed s bytes code e z = call_allowed s bytes (sym e ∙ z)
 
 pub returns-then-code-ne-ACCEPTED : goal.returns-then-code-ne-ACCEPTED
 returns-then-code-ne-ACCEPTED c =
@@ -39,22 +33,22 @@ returns-then-code-ne-ACCEPTED c =
 
 pub count-n-requires : goal.count-n-requires
 count-n-requires c =
-    (allowed c.before).long
+    (allowed c.args.s.now (length c.args.place.now) _ c.salvage_code-code.ensures c.if-code-ne-ACCEPTED.false).long
 
 pub slice_bounds-write_scene-end : goal.slice_bounds-write_scene-end
 slice_bounds-write_scene-end c =
-    (allowed c.before.before).room
+    (allowed c.args.s.now (length c.args.place.now) _ c.salvage_code-code.ensures c.if-code-ne-ACCEPTED.false).room
 
 pub write_scene-requires : goal.write_scene-requires
 write_scene-requires c =
-    let ok = allowed c.before.before.before in
+    let ok = allowed c.args.s.now (length c.args.place.now) _ c.salvage_code-code.ensures c.if-code-ne-ACCEPTED.false in
     let a = c.args in
     let e = c.count-n.ensures.0 in
     (e, rw e ok.count, ok.front.bytes ∙ rw e, part (length a.s.now) a.place.now ok.room)
 
 pub write_list-replaced-requires : goal.write_list-replaced-requires
 write_list-replaced-requires c =
-    let ok = allowed c.before.before.before.before.before.before.before in
+    let ok = allowed c.args.s.now (length c.args.place.now) _ c.salvage_code-code.ensures c.if-code-ne-ACCEPTED.false in
     let e = c.count-n.ensures.0 in
     (rw e ok.count, ok.front.bytes ∙ rw e)
 
@@ -62,7 +56,7 @@ pub returns : goal.returns
 returns c =
     let list = c.write_list-replaced in
     let scene = c.write_scene in
-    let ok = allowed c.before.before.before.before.before.before.before.before.before.before in
+    let ok = allowed c.args.s.now (length c.args.place.now) _ c.salvage_code-code.ensures c.if-code-ne-ACCEPTED.false in
     let a = c.args in
     let code = c.salvage_code-code in
     let s = a.s.now in
