@@ -14,13 +14,13 @@ returns-then-full c =
     let d = c.draw_unmasked in
     record {
       value = (drawing_leaves a.full a.old.now a.new.now a.surface.now a.other.now a.scratch.now d.result d.new.surface f.new.s
-          d.new.scratch c.if-full.true f.ensures f.auto.s d.ensures).0;
+          d.new.scratch c.if-full.true f.ensures f.auto.s (d.ensures.value, (d.ensures.surface_after, d.ensures.scratch_after))).0;
       surface_after = (drawing_leaves a.full a.old.now a.new.now a.surface.now a.other.now a.scratch.now d.result d.new.surface f.new.s
-          d.new.scratch c.if-full.true f.ensures f.auto.s d.ensures).1.0;
+          d.new.scratch c.if-full.true f.ensures f.auto.s (d.ensures.value, (d.ensures.surface_after, d.ensures.scratch_after))).1.0;
       other_after = (drawing_leaves a.full a.old.now a.new.now a.surface.now a.other.now a.scratch.now d.result d.new.surface f.new.s
-          d.new.scratch c.if-full.true f.ensures f.auto.s d.ensures).1.1.0;
+          d.new.scratch c.if-full.true f.ensures f.auto.s (d.ensures.value, (d.ensures.surface_after, d.ensures.scratch_after))).1.1.0;
       scratch_after = (drawing_leaves a.full a.old.now a.new.now a.surface.now a.other.now a.scratch.now d.result d.new.surface f.new.s
-          d.new.scratch c.if-full.true f.ensures f.auto.s d.ensures).1.1.1;
+          d.new.scratch c.if-full.true f.ensures f.auto.s (d.ensures.value, (d.ensures.surface_after, d.ensures.scratch_after))).1.1.1;
     }
 
 pub returns : goal.returns
@@ -35,17 +35,17 @@ returns c =
       value = (redraw_leaves a.full a.old.now a.new.now a.surface.now a.other.now a.scratch.now g.result d.new.surface e.new.surface
           g.new.surface d.new.scratch f.new.s g.new.scratch c.if-full.false d.ensures.surface_after d.auto.surface d.auto.scratch
           e.ensures.surface_after
-          (f.ensures ∙ ap numbers kept) (f.auto.s ∙ kept) g.ensures).0;
+          (f.ensures ∙ ap numbers kept) (f.auto.s ∙ kept) (g.ensures.value, (g.ensures.surface_after, g.ensures.scratch_after))).0;
       surface_after = (redraw_leaves a.full a.old.now a.new.now a.surface.now a.other.now a.scratch.now g.result d.new.surface e.new.surface
           g.new.surface d.new.scratch f.new.s g.new.scratch c.if-full.false d.ensures.surface_after d.auto.surface d.auto.scratch
           e.ensures.surface_after
-          (f.ensures ∙ ap numbers kept) (f.auto.s ∙ kept) g.ensures).1.0;
+          (f.ensures ∙ ap numbers kept) (f.auto.s ∙ kept) (g.ensures.value, (g.ensures.surface_after, g.ensures.scratch_after))).1.0;
       other_after = (redraw_leaves a.full a.old.now a.new.now a.surface.now a.other.now a.scratch.now g.result d.new.surface e.new.surface
           g.new.surface d.new.scratch f.new.s g.new.scratch c.if-full.false d.ensures.surface_after d.auto.surface d.auto.scratch
           e.ensures.surface_after
-          (f.ensures ∙ ap numbers kept) (f.auto.s ∙ kept) g.ensures).1.1.0;
+          (f.ensures ∙ ap numbers kept) (f.auto.s ∙ kept) (g.ensures.value, (g.ensures.surface_after, g.ensures.scratch_after))).1.1.0;
       scratch_after = (redraw_leaves a.full a.old.now a.new.now a.surface.now a.other.now a.scratch.now g.result d.new.surface e.new.surface
           g.new.surface d.new.scratch f.new.s g.new.scratch c.if-full.false d.ensures.surface_after d.auto.surface d.auto.scratch
           e.ensures.surface_after
-          (f.ensures ∙ ap numbers kept) (f.auto.s ∙ kept) g.ensures).1.1.1;
+          (f.ensures ∙ ap numbers kept) (f.auto.s ∙ kept) (g.ensures.value, (g.ensures.surface_after, g.ensures.scratch_after))).1.1.1;
     }

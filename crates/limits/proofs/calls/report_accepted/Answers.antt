@@ -17,8 +17,8 @@ returns c =
     record {
       other_after = (report_leaves a.scene.now a.other.now b.new.s d.new.surface a.scratch.now f.new.s d.new.scratch b.ensures b.auto.s
           f.ensures
-          f.auto.s d.ensures.1).0;
+          f.auto.s (d.ensures.surface_after, d.ensures.scratch_after)).0;
       scratch_after = (report_leaves a.scene.now a.other.now b.new.s d.new.surface a.scratch.now f.new.s d.new.scratch b.ensures b.auto.s
           f.ensures
-          f.auto.s d.ensures.1).1;
+          f.auto.s (d.ensures.surface_after, d.ensures.scratch_after)).1;
     }
