@@ -17,4 +17,10 @@ pub returns : goal.returns
 returns c =
     let n = c.args.n in
     let fewest = subst (λ (width : ℕ). IsDigitCount 16 width n c.digit_count-k.result) c.clamp_width.ensures c.digit_count-k.ensures in
-    record { in_bounds = omega (arith, count_fits (goal.at.returns c).After-digit_count-k); len = fewest; digits = c.write_digits.ensures.digits; rest = c.write_digits.ensures.rest }
+    record {
+      in_bounds = omega (arith, count_fits (goal.at.returns c).After-digit_count-k);
+      len = fewest;
+      digits = c.write_digits.ensures.digits;
+      rest =
+          c.write_digits.ensures.rest;
+    }

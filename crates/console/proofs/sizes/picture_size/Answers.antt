@@ -41,7 +41,11 @@ returns-then-height c =
     let w = c.width-width in
     let h = c.height-height in
     let e = sized _ w.result h.result c.if-s-lt-BLOCK_BYTES.false w.ensures.0 h.ensures.0 in
-    record { value = c.nothing-then-height.ensures ∙ sym (e ∙ rw (le-ltb _ _ c.if-width.false, lt-ltb _ _ c.if-height.true)); allowed = none_allowed _ c.nothing-then-height.ensures }
+    record {
+      value = c.nothing-then-height.ensures ∙ sym (e ∙ rw (le-ltb _ _ c.if-width.false, lt-ltb _ _ c.if-height.true));
+      allowed = none_allowed _
+          c.nothing-then-height.ensures;
+    }
 
 pub returns : goal.returns
 returns c =

@@ -18,15 +18,18 @@ returns-then-answer-eq-ACCEPTED c =
     let p = c.report_accepted in
     record {
       surface_after = (accepted_leaves a.full a.old.now a.new.now (length a.surface.now) (length a.scratch.now) s.new.s o.new.s k.result
-          k.new.surface k.new.other k.new.scratch s.ensures (o.ensures ∙ ap (bytes 0) c.requires) s.auto.s (k.ensures.value, (k.ensures.surface_after, (k.ensures.other_after, k.ensures.scratch_after)))
+          k.new.surface k.new.other k.new.scratch s.ensures (o.ensures ∙ ap (bytes 0) c.requires) s.auto.s
+          (k.ensures.value, (k.ensures.surface_after, (k.ensures.other_after, k.ensures.scratch_after)))
           _ _ p.new.other p.new.scratch c.if-answer-eq-ACCEPTED.true (k.auto.other ∙ o.auto.s ∙ c.requires) k.auto.scratch
           (p.ensures.other_after, p.ensures.scratch_after)).0;
       other_after = (accepted_leaves a.full a.old.now a.new.now (length a.surface.now) (length a.scratch.now) s.new.s o.new.s k.result
-          k.new.surface k.new.other k.new.scratch s.ensures (o.ensures ∙ ap (bytes 0) c.requires) s.auto.s (k.ensures.value, (k.ensures.surface_after, (k.ensures.other_after, k.ensures.scratch_after)))
+          k.new.surface k.new.other k.new.scratch s.ensures (o.ensures ∙ ap (bytes 0) c.requires) s.auto.s
+          (k.ensures.value, (k.ensures.surface_after, (k.ensures.other_after, k.ensures.scratch_after)))
           _ _ p.new.other p.new.scratch c.if-answer-eq-ACCEPTED.true (k.auto.other ∙ o.auto.s ∙ c.requires) k.auto.scratch
           (p.ensures.other_after, p.ensures.scratch_after)).1.0;
       scratch_after = (accepted_leaves a.full a.old.now a.new.now (length a.surface.now) (length a.scratch.now) s.new.s o.new.s k.result
-          k.new.surface k.new.other k.new.scratch s.ensures (o.ensures ∙ ap (bytes 0) c.requires) s.auto.s (k.ensures.value, (k.ensures.surface_after, (k.ensures.other_after, k.ensures.scratch_after)))
+          k.new.surface k.new.other k.new.scratch s.ensures (o.ensures ∙ ap (bytes 0) c.requires) s.auto.s
+          (k.ensures.value, (k.ensures.surface_after, (k.ensures.other_after, k.ensures.scratch_after)))
           _ _ p.new.other p.new.scratch c.if-answer-eq-ACCEPTED.true (k.auto.other ∙ o.auto.s ∙ c.requires) k.auto.scratch
           (p.ensures.other_after, p.ensures.scratch_after)).1.1;
     }
@@ -39,12 +42,15 @@ returns-else-answer-eq-ACCEPTED c =
     let k = c.call-answer in
     record {
       surface_after = (refused_leaves a.full a.old.now a.new.now (length a.surface.now) (length a.scratch.now) s.new.s o.new.s k.result
-          k.new.surface k.new.other k.new.scratch s.ensures (o.ensures ∙ ap (bytes 0) c.requires) s.auto.s (k.ensures.value, (k.ensures.surface_after, (k.ensures.other_after, k.ensures.scratch_after)))
+          k.new.surface k.new.other k.new.scratch s.ensures (o.ensures ∙ ap (bytes 0) c.requires) s.auto.s
+          (k.ensures.value, (k.ensures.surface_after, (k.ensures.other_after, k.ensures.scratch_after)))
           c.if-answer-eq-ACCEPTED.false).0;
       other_after = (refused_leaves a.full a.old.now a.new.now (length a.surface.now) (length a.scratch.now) s.new.s o.new.s k.result
-          k.new.surface k.new.other k.new.scratch s.ensures (o.ensures ∙ ap (bytes 0) c.requires) s.auto.s (k.ensures.value, (k.ensures.surface_after, (k.ensures.other_after, k.ensures.scratch_after)))
+          k.new.surface k.new.other k.new.scratch s.ensures (o.ensures ∙ ap (bytes 0) c.requires) s.auto.s
+          (k.ensures.value, (k.ensures.surface_after, (k.ensures.other_after, k.ensures.scratch_after)))
           c.if-answer-eq-ACCEPTED.false).1.0;
       scratch_after = (refused_leaves a.full a.old.now a.new.now (length a.surface.now) (length a.scratch.now) s.new.s o.new.s k.result
-          k.new.surface k.new.other k.new.scratch s.ensures (o.ensures ∙ ap (bytes 0) c.requires) s.auto.s (k.ensures.value, (k.ensures.surface_after, (k.ensures.other_after, k.ensures.scratch_after)))
+          k.new.surface k.new.other k.new.scratch s.ensures (o.ensures ∙ ap (bytes 0) c.requires) s.auto.s
+          (k.ensures.value, (k.ensures.surface_after, (k.ensures.other_after, k.ensures.scratch_after)))
           c.if-answer-eq-ACCEPTED.false).1.1;
     }
