@@ -1,9 +1,6 @@
 use mathlib.Core.Path.{◌≡◌}
 use Prim.Native.Nat.{◌-◌}
 use lib.ListN.{length}
-use borrow.Author.Rules.{rules}
-use Rattle.limits.proofs.arguments.read_call.Reads as read-call-reads
-use Rattle.limits.proofs.calls.run.Reads as run-reads
 use Rattle.limits.proofs.run_calls.Given as goal
 
 abbrev pub invariant-loop-i : goal.invariant-loop-i

@@ -1,7 +1,5 @@
 use native.Mathlib.Omega.{arith}
 use lib.ListN.{length-set}
-use borrow.Author.Rules.{rules}
-use Rattle.salvage.proofs.put_file.Reads as put-file-reads
 use Rattle.salvage.proofs.replace_file.Goals as goal
 
 pub bounds-other-n-2 : goal.bounds-other-n-2

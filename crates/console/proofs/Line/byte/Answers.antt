@@ -1,4 +1,3 @@
-use borrow.Author.Rules.{rules}
 use borrow.Author.Tests.{lt-ltb, le-ltb}
 use Rattle.console.specs.Lines.{with_byte}
 use Rattle.console.proofs.Line.byte.Goals as goal

@@ -1,6 +1,4 @@
 use Prim.Native.Nat.{◌-◌, ◌≤◌}
-use borrow.Author.Rules.{rules}
-use Rattle.console.proofs.files.is_input.Reads as is-input-reads
 use Rattle.console.proofs.files.is_input_besides.Given as goal
 
 abbrev pub invariant-loop-k : goal.invariant-loop-k

@@ -1,8 +1,6 @@
 use mathlib.Core.Path.{◌≡◌}
 use Prim.Native.Nat.{◌-◌, ◌≤◌}
 use lib.ListN.{length}
-use borrow.Author.Rules.{rules}
-use Rattle.console.proofs.files.unreadable.Reads as unreadable-reads
 use Rattle.console.proofs.files.read_to_end.Given as goal
 
 abbrev pub invariant-loop-n : goal.invariant-loop-n

@@ -1,6 +1,6 @@
 use mathlib.Core.Path.{◌≡◌, refl, ◌∙◌}
 use mathlib.Core.List.{List, foldl-append}
-use Prim.Native.Nat.{ℕ, ◌+◌, ◌-◌, ◌≤◌, ◌<◌}
+use Prim.Native.Nat.{ℕ, ◌+◌, ◌<◌}
 use native.Mathlib.Numerals.{add-one}
 use native.Mathlib.Omega.{arith}
 use lib.ListN.{length, take, get_or}
@@ -8,7 +8,6 @@ use lib.Seq.{take-suc, take_all}
 use Rattle.console.specs.declared.Line.{Line}
 use Rattle.console.specs.Lines.{with_byte, with_bytes}
 use borrow.Author.Rules.{rules}
-use Rattle.console.proofs.Line.byte.Reads as byte-Reads
 use Rattle.console.proofs.lines.put_all.Goals as goal
 
 -- one byte more

@@ -1,6 +1,4 @@
-use borrow.Author.Rules.{rules}
 use borrow.Author.Tests.{eq-eqb, ne_eqb}
-use Rattle.console.proofs.Line.byte.Reads as byte-Reads
 use Rattle.console.proofs.lines.space.Goals as goal
 
 pub returns-then-l-eq0 : goal.returns-then-l-eq0

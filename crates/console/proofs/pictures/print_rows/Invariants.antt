@@ -1,10 +1,6 @@
 use mathlib.Core.Path.{◌≡◌}
-use Prim.Native.Nat.{◌+◌, ◌-◌, ◌*◌, ◌≤◌}
-use native.Mathlib.Omega.{arith}
+use Prim.Native.Nat.{◌≤◌}
 use lib.ListN.{length}
-use Rattle.lists.proofs.Laws.{run_fits}
-use borrow.Author.Rules.{rules}
-use Rattle.console.proofs.pictures.print_row.Reads as print-row-reads
 use Rattle.console.proofs.pictures.print_rows.Given as goal
 
 abbrev pub invariant-loop-y : goal.invariant-loop-y

@@ -9,11 +9,7 @@ use Rattle.scene.specs.Layout.{block_bytes, side_limit}
 use Rattle.scene.specs.Header.{width_of, height_of}
 use Rattle.console.specs.declared.Size.{Size}
 use Rattle.console.specs.Sizes.{no_size, Allowed, picture_size}
-use borrow.Author.Rules.{rules}
 use borrow.Author.Tests.{lt-ltb, le-ltb}
-use Rattle.console.proofs.sizes.nothing.Reads as nothing-reads
-use Rattle.scene.proofs.header.height.Reads as height-reads
-use Rattle.scene.proofs.header.width.Reads as width-reads
 use Rattle.console.proofs.sizes.picture_size.Goals as goal
 
 sized : (s : List ℕ) (w h : ℕ) → block_bytes ≤ length s → w ≡ width_of s → h ≡ height_of s

@@ -4,7 +4,6 @@ use native.Mathlib.Nat.{mul-le-mul}
 use native.Mathlib.Omega.{arith}
 use Rattle.console.specs.declared.Size.{Size}
 use Rattle.console.specs.Sizes.{Allowed}
-use borrow.Author.Rules.{rules}
 use Rattle.console.proofs.sizes.surface_bytes.Goals as goal
 
 most : (r : Size) → Allowed r → r.height * (r.width * 4) ≤ 4194304

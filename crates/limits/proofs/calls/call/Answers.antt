@@ -1,10 +1,6 @@
 use Rattle.limits.proofs.Leaves.{drawing_leaves, redraw_leaves}
 use mathlib.Core.Path.{ap, ◌∙◌}
 use Rattle.limits.specs.Calls.{numbers}
-use borrow.Author.Rules.{rules}
-use Rattle.limits.proofs.patterns.fill_numbers.Reads as fill-numbers-reads
-use Rattle.render.proofs.draw.Reads as draw-reads
-use Rattle.render.proofs.redraw.Reads as redraw-reads
 use Rattle.limits.proofs.calls.call.Goals as goal
 
 pub returns-then-full : goal.returns-then-full

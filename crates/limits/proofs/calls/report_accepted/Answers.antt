@@ -1,11 +1,4 @@
 use Rattle.limits.proofs.Leaves.{report_leaves}
-use borrow.Author.Rules.{rules}
-use Rattle.limits.proofs.calls.print_line.Reads as print-line-reads
-use Rattle.limits.proofs.patterns.fill_bytes.Reads as fill-bytes-reads
-use Rattle.limits.proofs.patterns.fill_numbers.Reads as fill-numbers-reads
-use Rattle.limits.proofs.patterns.is_zero.Reads as is-zero-reads
-use Rattle.console.proofs.words.same_bytes.Reads as same-bytes-reads
-use Rattle.render.proofs.draw.Reads as draw-reads
 use Rattle.limits.proofs.calls.report_accepted.Goals as goal
 
 pub returns : goal.returns

@@ -6,9 +6,6 @@ use lib.ListN.{length}
 use Rattle.lists.proofs.Laws.{part_length}
 use Rattle.limits.specs.Calls.{surface_left, other_left, scratch_left}
 use Rattle.limits.proofs.Leaves.{lent_leaves}
-use borrow.Author.Rules.{rules}
-use Rattle.limits.proofs.calls.run_lent.Reads as run-lent-reads
-use Rattle.limits.proofs.words.print_words.Reads as print-words-reads
 use Rattle.limits.proofs.calls.run.Goals as goal
 
 pub returns : goal.returns

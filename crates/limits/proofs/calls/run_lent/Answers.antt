@@ -2,11 +2,6 @@ use mathlib.Core.Path.{ap, ◌∙◌}
 use lib.ListN.{length}
 use Rattle.limits.specs.Calls.{bytes}
 use Rattle.limits.proofs.Leaves.{accepted_leaves, refused_leaves}
-use borrow.Author.Rules.{rules}
-use Rattle.limits.proofs.calls.call.Reads as call-reads
-use Rattle.limits.proofs.calls.report_accepted.Reads as report-accepted-reads
-use Rattle.limits.proofs.calls.report_refused.Reads as report-refused-reads
-use Rattle.limits.proofs.patterns.fill_bytes.Reads as fill-bytes-reads
 use Rattle.limits.proofs.calls.run_lent.Goals as goal
 
 pub returns-then-answer-eq-ACCEPTED : goal.returns-then-answer-eq-ACCEPTED

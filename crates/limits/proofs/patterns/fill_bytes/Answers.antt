@@ -1,12 +1,9 @@
-use mathlib.Core.Path.{◌≡◌, refl}
-use Prim.Native.Nat.{◌-◌, ◌≤◌}
+use mathlib.Core.Path.{refl}
 use native.Mathlib.Omega.{arith}
-use lib.ListN.{length, length-set}
-use Rattle.lists.specs.Lists.{tab, over}
+use lib.ListN.{length-set}
 use Rattle.limits.specs.Patterns.{pattern_byte}
 use Rattle.lists.proofs.Laws.{tab_turn, tab_all}
 use borrow.Author.Rules.{rules}
-use Rattle.limits.proofs.patterns.byte_at.Reads as byte-at-reads
 use Rattle.limits.proofs.patterns.fill_bytes.Goals as goal
 
 pub loop-i-init : goal.loop-i-init

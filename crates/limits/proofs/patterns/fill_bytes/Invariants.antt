@@ -1,12 +1,8 @@
-use mathlib.Core.Path.{◌≡◌, refl}
+use mathlib.Core.Path.{◌≡◌}
 use Prim.Native.Nat.{◌-◌, ◌≤◌}
-use native.Mathlib.Omega.{arith}
-use lib.ListN.{length, length-set}
+use lib.ListN.{length}
 use Rattle.lists.specs.Lists.{tab, over}
 use Rattle.limits.specs.Patterns.{pattern_byte}
-use Rattle.lists.proofs.Laws.{tab_turn, tab_all}
-use borrow.Author.Rules.{rules}
-use Rattle.limits.proofs.patterns.byte_at.Reads as byte-at-reads
 use Rattle.limits.proofs.patterns.fill_bytes.Given as goal
 
 abbrev pub invariant-loop-i : goal.invariant-loop-i

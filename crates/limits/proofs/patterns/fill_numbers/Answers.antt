@@ -1,14 +1,11 @@
-use mathlib.Core.Path.{◌≡◌, refl, ◌∙◌}
-use Prim.Native.Nat.{◌-◌, ◌≤◌}
+use mathlib.Core.Path.{refl, ◌∙◌}
 use native.Mathlib.Omega.{arith}
-use lib.ListN.{length, length-set}
-use Rattle.lists.specs.Lists.{tab, over}
+use lib.ListN.{length-set}
 use Rattle.limits.specs.Patterns.{pattern_number}
 use mir.Syntax.{w32}
 use Rattle.lists.proofs.Laws.{tab_turn, tab_all}
 use Rattle.fixed.proofs.Signed.{back}
 use borrow.Author.Rules.{rules}
-use Rattle.limits.proofs.patterns.number_at.Reads as number-at-reads
 use Rattle.limits.proofs.patterns.fill_numbers.Goals as goal
 
 pub loop-i-init : goal.loop-i-init

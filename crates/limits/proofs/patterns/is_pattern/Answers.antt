@@ -1,5 +1,4 @@
 use mathlib.Core.Path.{◌≡◌, refl, ◌∙◌}
-use Prim.Native.Nat.{ℕ, ◌-◌, ◌≤◌, ◌<◌}
 use native.Mathlib.Omega.{arith}
 use lib.IntN.{pos}
 use lib.ListN.{length, get_or}
@@ -9,7 +8,6 @@ use Rattle.lists.proofs.Laws.{tab_ext}
 use Rattle.limits.proofs.Numbers.{same_bits, other_bits}
 use borrow.Author.Count.{below_more}
 use borrow.Author.Rules.{rules}
-use Rattle.limits.proofs.patterns.number_at.Reads as number-at-reads
 use Rattle.limits.proofs.patterns.is_pattern.Goals as goal
 
 pub loop-i-init : goal.loop-i-init

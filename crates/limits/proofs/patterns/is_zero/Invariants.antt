@@ -1,13 +1,7 @@
-use mathlib.Core.Path.{◌≡◌, refl}
+use mathlib.Core.Path.{◌≡◌}
 use Prim.Native.Nat.{ℕ, ◌-◌, ◌≤◌, ◌<◌}
-use native.Mathlib.Omega.{arith}
 use lib.IntN.{pos}
 use lib.ListN.{length, get_or}
-use native.Mathlib.Nat.{not-suc-le-zero}
-use Rattle.lists.proofs.Laws.{tab_ext}
-use Rattle.limits.proofs.Numbers.{same_bits, other_bits}
-use borrow.Author.Count.{below_more}
-use borrow.Author.Rules.{rules}
 use Rattle.limits.proofs.patterns.is_zero.Given as goal
 
 abbrev pub invariant-loop-i : goal.invariant-loop-i

@@ -1,7 +1,6 @@
 use native.Mathlib.Omega.{arith}
 use mir.Syntax.{w32}
 use mir.Facts.{to_z_pos}
-use borrow.Author.Rules.{rules}
 use Rattle.limits.proofs.patterns.number_at.Goals as goal
 
 pub returns : goal.returns

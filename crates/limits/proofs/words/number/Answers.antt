@@ -1,4 +1,3 @@
-use borrow.Author.Rules.{rules}
 use Rattle.limits.proofs.words.number.Goals as goal
 
 pub returns : goal.returns

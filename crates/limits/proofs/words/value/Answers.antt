@@ -1,12 +1,9 @@
-use mathlib.Core.Path.{◌≡◌, refl, sym, ap, ◌∙◌}
-use mathlib.Core.List.{foldl}
-use Prim.Native.Nat.{ℕ, ◌+◌, ◌*◌, ◌-◌, ◌≤◌}
+use mathlib.Core.Path.{refl, sym, ap, ◌∙◌}
+use Prim.Native.Nat.{ℕ, ◌+◌, ◌*◌}
 use native.Mathlib.Omega.{arith}
-use lib.ListN.{length, take, get_or}
-use Rattle.limits.specs.Digits.{with_digit}
+use lib.ListN.{get_or}
 use Rattle.limits.proofs.Digits.{no_bytes, no_digit, too_many, digit_more, digits_turn, digits_end, digits_all}
 use borrow.Author.Rules.{rules}
-use Rattle.limits.proofs.words.digit.Reads as digit-reads
 use Rattle.limits.proofs.words.value.Goals as goal
 
 pub returns-then-text-eq0 : goal.returns-then-text-eq0

@@ -1,12 +1,8 @@
-use mathlib.Core.Path.{◌≡◌, refl, sym, ap, ◌∙◌}
+use mathlib.Core.Path.{◌≡◌}
 use mathlib.Core.List.{foldl}
-use Prim.Native.Nat.{ℕ, ◌+◌, ◌*◌, ◌-◌, ◌≤◌}
-use native.Mathlib.Omega.{arith}
-use lib.ListN.{length, take, get_or}
+use Prim.Native.Nat.{◌-◌, ◌≤◌}
+use lib.ListN.{length, take}
 use Rattle.limits.specs.Digits.{with_digit}
-use Rattle.limits.proofs.Digits.{no_bytes, no_digit, too_many, digit_more, digits_turn, digits_end, digits_all}
-use borrow.Author.Rules.{rules}
-use Rattle.limits.proofs.words.digit.Reads as digit-reads
 use Rattle.limits.proofs.words.value.Given as goal
 
 abbrev pub invariant-loop-i : goal.invariant-loop-i
