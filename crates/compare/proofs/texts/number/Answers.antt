@@ -7,7 +7,7 @@ pub returns-then-is_same : goal.returns-then-is_same
 returns-then-is_same c =
     let d = c.decimal-k in
     let s = c.is_same in
-    λ n. (d.result, d.ensures.len, told_yes s.result s.ensures c.if-is_same.true ∙ d.ensures.1.1)
+    λ n. (d.result, d.ensures.len, told_yes s.result s.ensures c.if-is_same.true ∙ d.ensures.digits)
 
 pub returns-else-is_same : goal.returns-else-is_same
 returns-else-is_same c =
