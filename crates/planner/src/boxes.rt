@@ -6,7 +6,7 @@ ghost use Rattle.damage.specs.Damage.{boxes_at, changed_boxes};
 ghost use Rattle.regions.specs.Proposals.{to_cover};
 ghost use Rattle.planner.specs.Runs.{rect_at};
 
-use crate::runs::put_rect;
+use crate::rectangles::put_rect;
 use rect::Rect;
 use regions::accept::box_of;
 

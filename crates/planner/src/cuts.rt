@@ -7,7 +7,7 @@ ghost use Rattle.regions.specs.Planned.{lowest, past};
 ghost use Rattle.planner.specs.Cuts.{before, beyond, shrunk, touches, free, opens, better_of};
 ghost use Rattle.planner.specs.Tilings.{Searched, Tried, Opening};
 
-use crate::runs::rect_at;
+use crate::rectangles::rect_at;
 use rect::Rect;
 
 // The line at which that part of a plan is cut, and how many pixels it saves; or none.

@@ -4,7 +4,7 @@
 pub mod boxes;
 pub mod cuts;
 pub mod planning;
-pub mod runs;
+pub mod rectangles;
 pub mod tiles;
 
 ghost use Rattle.std.specs.Prelude.{◌≡◌, ◌≤◌, length};
@@ -14,10 +14,10 @@ ghost use Rattle.render.specs.Answers.{mask_of};
 ghost use Rattle.planner.specs.Written.{Written, Redrawn};
 
 use crate::boxes::{BOX_NUMBERS, collect};
-use crate::runs::{around, write};
+use crate::rectangles::{around, write};
 use crate::tiles::divide;
 use codes::ACCEPTED;
-use regions::paint::{paint_regions, round};
+use regions::painting::{paint_regions, round};
 use render::Answer;
 use render::judge::judge_redraw;
 

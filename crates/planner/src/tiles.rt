@@ -7,7 +7,7 @@ ghost use Rattle.planner.specs.Cuts.{split_run, split_count};
 ghost use Rattle.planner.specs.Tilings.{Refined, Divided};
 
 use crate::cuts::{best_of, first_part, opening_cut, second_part};
-use crate::runs::{put_rect, rect_at};
+use crate::rectangles::{put_rect, rect_at};
 use rect::Rect;
 
 // At most so many rectangles.

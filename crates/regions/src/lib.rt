@@ -3,7 +3,7 @@
 
 pub mod accept;
 pub mod cover;
-pub mod paint;
+pub mod painting;
 pub mod proposal;
 
 ghost use Rattle.std.specs.Prelude.{◌≡◌, length};
@@ -12,7 +12,7 @@ ghost use Rattle.render.specs.Answers.{mask_of, refuse};
 ghost use Rattle.regions.specs.Answers.{regions_refusal, regions_answer, regions_surface, regions_scratch};
 
 use crate::accept::accept;
-use crate::paint::{paint_regions, round};
+use crate::painting::{paint_regions, round};
 use codes::{ACCEPTED, ILLEGAL_ARGUMENT};
 use render::{Answer, Refusal};
 use scene::layout::NO_DRAW;

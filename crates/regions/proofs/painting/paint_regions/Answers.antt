@@ -9,7 +9,7 @@ use Rattle.regions.specs.Pixels.{overlays}
 use Rattle.regions.specs.Proposals.{proposed_at}
 use Rattle.regions.proofs.Overlays.{overlays_none}
 use Rattle.regions.proofs.Turns.{painted_turn}
-use Rattle.regions.proofs.paint.paint_regions.Goals as goal
+use Rattle.regions.proofs.painting.paint_regions.Goals as goal
 
 pub loop-k-init : goal.loop-k-init
 loop-k-init c =

@@ -7,7 +7,7 @@ use Rattle.rect.specs.Rects.{smallest}
 use Rattle.regions.specs.Proposals.{proposed_at}
 use Rattle.regions.proofs.Turns.{round_turn, round_on}
 use borrow.Author.Rules.{rules}
-use Rattle.regions.proofs.paint.round.Goals as goal
+use Rattle.regions.proofs.painting.round.Goals as goal
 
 pub loop-k-init : goal.loop-k-init
 loop-k-init c =

@@ -3,7 +3,7 @@ use native.Mathlib.Omega.{arith}
 use Rattle.rect.specs.Rects.{join_of}
 use Rattle.planner.specs.Runs.{rect_at}
 use Rattle.planner.proofs.Parts.{smallest_turn}
-use Rattle.planner.proofs.runs.around.Goals as goal
+use Rattle.planner.proofs.rectangles.around.Goals as goal
 
 -- src/runs.rt:48:5
 pub loop-k-init : goal.loop-k-init

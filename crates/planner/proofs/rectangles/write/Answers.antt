@@ -2,7 +2,7 @@ use mathlib.Core.Path.{◌≡◌, refl}
 use native.Mathlib.Omega.{arith}
 use Rattle.planner.specs.Runs.{rect_at}
 use Rattle.planner.proofs.Numbers.{write_none, write_turn}
-use Rattle.planner.proofs.runs.write.Goals as goal
+use Rattle.planner.proofs.rectangles.write.Goals as goal
 
 -- src/runs.rt:62:5
 pub loop-k-init : goal.loop-k-init

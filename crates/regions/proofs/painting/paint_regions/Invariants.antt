@@ -5,7 +5,7 @@ use Rattle.lists.specs.Lists.{tab}
 use Rattle.engine.specs.Picture.{pixel_at, mask_at}
 use Rattle.regions.specs.Pixels.{overlays}
 use Rattle.regions.specs.Proposals.{proposed_at}
-use Rattle.regions.proofs.paint.paint_regions.Given as goal
+use Rattle.regions.proofs.painting.paint_regions.Given as goal
 
 abbrev pub invariant-loop-k : goal.invariant-loop-k
 invariant-loop-k l =

@@ -4,7 +4,7 @@ use lib.ListN.{length-set}
 use mir.Syntax.{w32}
 use Rattle.fixed.proofs.Means.{of_nat}
 use Rattle.planner.specs.Runs.{put_four}
-use Rattle.planner.proofs.runs.write_rect.Goals as goal
+use Rattle.planner.proofs.rectangles.write_rect.Goals as goal
 
 -- src/runs.rt:75:5
 pub bounds-out-at-2 : goal.bounds-out-at-2

@@ -3,7 +3,7 @@ use Prim.Native.Nat.{◌-◌, ◌≤◌}
 use lib.ListN.{length}
 use Rattle.lists.specs.Lists.{over}
 use Rattle.planner.specs.Runs.{rect_at, numbers_of}
-use Rattle.planner.proofs.runs.write.Given as goal
+use Rattle.planner.proofs.rectangles.write.Given as goal
 
 abbrev pub invariant-loop-k : goal.invariant-loop-k
 invariant-loop-k l = (l.k ≤ l.n) × ((length l.out ≡ length l.initial.out) × (l.out ≡ over (numbers_of l.k (rect_at l.s)) l.initial.out))

@@ -2,7 +2,7 @@ use native.Mathlib.Omega.{arith}
 use lib.ListN.{length-set}
 use mathlib.Core.Path.{refl}
 use Rattle.planner.specs.Runs.{put}
-use Rattle.planner.proofs.runs.put_rect.Goals as goal
+use Rattle.planner.proofs.rectangles.put_rect.Goals as goal
 
 -- src/runs.rt:29:5
 pub bounds-s-at-2 : goal.bounds-s-at-2
