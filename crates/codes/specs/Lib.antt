@@ -1,3 +1,4 @@
 -- The definitions that contracts cite.
 pub mod Codes
 pub mod First
+pub mod Number
