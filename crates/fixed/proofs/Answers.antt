@@ -1,75 +1,49 @@
--- What an answer of this crate tells its caller. Of each enum: what follows where the answer holds a number, what follows where it holds none,
--- and that the arm of a `match` for all other answers is such a case.
-use mathlib.Core.Path.{◌≡◌, refl, sym, ap, ◌∙◌, subst}
-use mathlib.Core.Bool.{Bool, true, false, not}
-use mathlib.Core.List.{[], ◌∷◌}
+-- What an answer of this crate tells its caller, where it holds a number and where it holds none.
+use mathlib.Core.Path.{◌≡◌, refl, sym, ap, ◌∙◌}
+use mathlib.Core.Bool.{Bool, true, false, not, cond}
 use Prim.Native.Nat.{ℕ}
-use denote.Enum.Declared.{tag_of}
-use types.Run.{OneOf, miss}
 use lib.Dec.{T}
 use lib.IntN.{nat_abs}
 use lib.Ieee.{Float, nan, inf, fin, is_nan}
-use Rattle.fixed.specs.Floats.{real_of, scaled, in_unit, offset_in, pick_offset}
-use Rattle.fixed.specs.declared.Real.{Real}
-use Rattle.fixed.specs.declared.Real.TheVariants.{Number, Nan}
-use Rattle.fixed.specs.declared.Offset.{Offset}
-use Rattle.fixed.specs.declared.Offset.TheVariants as offset
-use Rattle.fixed.specs.contracts.Real as real-enum
-use Rattle.fixed.specs.contracts.Offset as offset-enum
+use Rattle.std.specs.Prelude.{Some, Ok, Err, is_some, is_ok}
+use Rattle.fixed.specs.Floats.{real_of, scaled, in_unit, offset_in}
+use Rattle.fixed.specs.declared.OffsetError.TheVariants.{Outside}
 
--- ---- Real: a float, where the bytes are no NaN's
-abbrev pub is_number : Real → Bool
-is_number (Number v) = true
-is_number Nan = false
+-- ---- a float, where the bytes are no NaN's
+pub number_told : (t : Bool) (v w : Float) → real_of t v ≡ Some w → (w ≡ v) × (t ≡ false)
+number_told true v w e = absurd (cc)
+number_told false v w e = (cc, refl)
 
-abbrev number_of : Real → Float
-number_of (Number v) = v
-number_of Nan = nan
-
-pub number_told : (t : Bool) (v w : Float) → real_of t v ≡ Number w → (w ≡ v) × (t ≡ false)
-number_told true v w e = absurd (subst T (sym (ap is_number e)) tt)
-number_told false v w e = (sym (ap number_of e), refl)
-
-pub no_number_lem : (t : Bool) (v : Float) → is_number (real_of t v) ≡ false → t ≡ true
+pub no_number_lem : (t : Bool) (v : Float) → is_some (real_of t v) ≡ false → t ≡ true
 no_number_lem true v e = refl
-no_number_lem false v e = absurd (subst T e tt)
+no_number_lem false v e = cc
 
--- ---- Offset: 65,536ths, where the float is from 0 to 1
-abbrev pub is_offset : Offset → Bool
-is_offset (offset.At n) = true
-is_offset offset.Outside = false
-is_offset offset.NotANumber = false
+-- ---- 65,536ths, where the float is from 0 to 1
+pub offset_in_lem : (v : Float) → in_unit v ≡ true → offset_in v ≡ Ok (nat_abs (scaled 65536 v))
+offset_in_lem nan h = cc
+offset_in_lem (inf s) h = cc
+offset_in_lem (fin s m e) h = simp h
 
-abbrev offset_of : Offset → ℕ
-offset_of (offset.At n) = n
-offset_of offset.Outside = 0
-offset_of offset.NotANumber = 0
-
-pub offset_in_lem : (v : Float) → in_unit v ≡ true → offset_in v ≡ offset.At (nat_abs (scaled 65536 v))
-offset_in_lem nan h = absurd (subst T (sym h) tt)
-offset_in_lem (inf s) h = absurd (subst T (sym h) tt)
-offset_in_lem (fin s m e) h = ap (λ (t : Bool). pick_offset t (offset.At (nat_abs (scaled 65536 (fin s m e)))) offset.Outside) h
-
-pub offset_out : (v : Float) → T (not (is_nan v)) → in_unit v ≡ false → offset_in v ≡ offset.Outside
+pub offset_out : (v : Float) → T (not (is_nan v)) → in_unit v ≡ false → offset_in v ≡ Err Outside
 unfolding is_nan
 offset_out nan n h = absurd n
 offset_out (inf s) n h = refl
-offset_out (fin s m e) n h = ap (λ (t : Bool). pick_offset t (offset.At (nat_abs (scaled 65536 (fin s m e)))) offset.Outside) h
+offset_out (fin s m e) n h = simp h
 
-offset_within : (v : Float) → is_offset (offset_in v) ≡ in_unit v
+offset_within : (v : Float) → is_ok (offset_in v) ≡ in_unit v
 offset_within nan = refl
 offset_within (inf s) = refl
 offset_within (fin s m e) = by (in_unit (fin s m e)) (nat_abs (scaled 65536 (fin s m e)))
   where
-    by : (t : Bool) (n : ℕ) → is_offset (pick_offset t (offset.At n) offset.Outside) ≡ t
+    by : (t : Bool) (n : ℕ) → is_ok (cond t (Ok n) (Err Outside)) ≡ t
     by true n = refl
     by false n = refl
 
-pub offset_told : (v : Float) (n : ℕ) → offset_in v ≡ offset.At n → (n ≡ nat_abs (scaled 65536 v)) × (in_unit v ≡ true)
-offset_told v n e = (sym (ap offset_of e) ∙ ap offset_of (offset_in_lem v inside), inside)
-  where
-    inside : in_unit v ≡ true
-    inside = sym (offset_within v) ∙ ap is_offset e
+pub offset_told : (v : Float) (n : ℕ) → offset_in v ≡ Ok n → (n ≡ nat_abs (scaled 65536 v)) × (in_unit v ≡ true)
+offset_told v n e =
+    let inside : in_unit v ≡ true = sym (offset_within v) ∙ ap is_ok e in
+    let same = offset_in_lem v inside in
+    (cc, inside)
 
-pub no_offset : (v : Float) → is_offset (offset_in v) ≡ false → in_unit v ≡ false
+pub no_offset : (v : Float) → is_ok (offset_in v) ≡ false → in_unit v ≡ false
 no_offset v e = sym (offset_within v) ∙ e

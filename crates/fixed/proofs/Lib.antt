@@ -9,7 +9,6 @@
 --     Tests      a test that computes, and the order that it decides
 --     Upto       a rule of the numbers below n, by one computed test
 --     Round      floor division
---     Divide     the numbers that floor division divides
 --     Twos       two's complement
 --     Roots      the square root is what it is said to be, and no other number is; a step of Newton's ends at or above it
 --
@@ -28,7 +27,6 @@ pub mod Signed
 pub mod Tests
 pub mod Upto
 pub mod Round
-pub mod Divide
 pub mod Twos
 pub mod Roots
 pub mod Nearest

@@ -82,9 +82,6 @@ tight n r h = record { bound = n; read = r.read; int = r.int; same = r.same; siz
 pub need_as : {w : Width} (r : Num) → SFits w r.int → SFits w r.read
 need_as {w} r f = subst (λ (x : ℤ). SFits w x) (sym r.same) f
 
-abbrev pub keep_as : (w : Width) (r : Num) → SFits w r.int → Num
-keep_as w r f = record { bound = r.bound; read = to_z w (of_z w r.read); int = r.int; same = to_z-of_z (need_as r f) ∙ r.same; size = r.size }
-
 abbrev pub quot : Num → Num → Num
 quot r s = record {
   bound = r.bound;

@@ -1,22 +1,17 @@
 -- Which floats are no NaNs, and what the bits of a float are.
-use mathlib.Core.Path.{◌≡◌, sym, subst}
-use mathlib.Core.Bool.{Bool, true, false, not}
+use mathlib.Core.Path.{◌≡◌, refl, sym, subst}
+use mathlib.Core.Bool.{true, not}
 use Prim.Native.Nat.{ℕ}
 use lib.Dec.{T}
-use lib.Ieee.{Float, nan, inf, fin, eq, ne, is_nan, fits, of_bits, to_bits, binary32}
+use lib.Ieee.{Float, nan, inf, fin, is_nan, fits, of_bits, to_bits, binary32}
 use lib.Ieee.Bits.{of_bits-to_bits}
-use lib.Ieee.Compare.{differs_from_itself}
 use Rattle.fixed.specs.Floats.{at_most}
 
-pub equals_itself : (v : Float) → eq v v ≡ true → T (not (is_nan v))
-unfolding eq is_nan
-equals_itself nan e = subst T (sym e) tt
-equals_itself (inf s) e = tt
-equals_itself (fin s m d) e = tt
-
-pub is_nan_lem : (v : Float) → eq v v ≡ false → v ≡ nan
-unfolding ne
-is_nan_lem v e = differs_from_itself v (subst (λ (b : Bool). T (not b)) (sym e) tt)
+pub only_nan : (v : Float) → is_nan v ≡ true → v ≡ nan
+unfolding is_nan
+only_nan nan e = refl
+only_nan (inf s) e = cc
+only_nan (fin s m d) e = cc
 
 -- a float in a local has the bits that it came from
 pub held_float : (v : Float) → fits binary32 v ≡ true → of_bits binary32 (to_bits binary32 v) ≡ v

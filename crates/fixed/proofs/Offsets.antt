@@ -1,6 +1,6 @@
 -- The offset of a stop, by a comparison with 0 and a conversion under the limit 1.
 use mathlib.Core.Path.{◌≡◌, refl, sym, ap, ◌∙◌, subst}
-use mathlib.Core.Bool.{true, false, not, ◌&&◌, ◌||◌}
+use mathlib.Core.Bool.{true, false, ◌&&◌, ◌||◌}
 use Prim.Native.Nat.{ℕ, ◌*◌}
 use native.Mathlib.Nat.{one-mul}
 use native.Mathlib.Decide.{ℕ_discrete}
@@ -8,7 +8,7 @@ use native.Mathlib.Omega.{arith}
 use borrow.Author.Tests.{le-leb, lt-leb, lt-ltb, le-ltb, eq-eqb}
 use lib.Dec.{T, leb, ltb, eqb, eqb→eq}
 use lib.IntN.{pos}
-use lib.Ieee.{Float, nan, inf, fin, up, down, lt, le, eq, is_nan}
+use lib.Ieee.{Float, nan, inf, fin, up, down, lt, le, eq}
 use Rattle.fixed.specs.Floats.{at_most, in_unit}
 use Rattle.fixed.proofs.Tests.{both_left}
 
@@ -33,13 +33,6 @@ at_least_zero a d = by (ℕ_discrete a 0)
     by : Dec (a ≡ 0) → (ltb (0 * 1 * d) (a * 1) || (eqb (0 * 1 * d) (a * 1) && true)) ≡ true
     by (yes e) = rw (le-ltb (0 * 1 * d) (a * 1) (omega arith), eq-eqb (0 * 1 * d) (a * 1) (omega arith))
     by (no n) = rw (lt-ltb (0 * 1 * d) (a * 1) (omega arith))
-
--- what is at least 0 is a number
-pub zero_number : (v : Float) → le zero_f v ≡ true → T (not (is_nan v))
-unfolding le lt eq is_nan
-zero_number nan h = subst T (sym h) tt
-zero_number (inf s) h = tt
-zero_number (fin s m e) h = tt
 
 -- from 0 on, the range is a limit on the size
 pub unit_limit : (v : Float) → le zero_f v ≡ true → in_unit v ≡ at_most 1 v

@@ -23,9 +23,6 @@ square_order a b h = by (ltb a b) refl
         never : b * b ≤ a * a → ⊥
         never g = omega arith
 
-pub square_above : (n k : ℕ) → n < k * k → 0 < k
-square_above n k h = square_order 0 k (omega arith)
-
 below_square : (k : ℕ) → k ≤ k * k
 below_square zero = omega arith
 below_square (suc k) = omega arith

@@ -1,24 +1,22 @@
 -- f32 numbers in a list of bytes, and the exact whole number that a float becomes ("Floats to whole numbers").
-use Rattle.std.specs.Prelude.{ℕ, ◌*◌, List, Bool, true, false, ℤ, pos, neg_ℤ, nat_abs, ◌+ℤ◌, Float, leb}
+use Rattle.std.specs.Prelude.{ℕ, ◌*◌, List, Bool, true, false, ℤ, pos, neg_ℤ, nat_abs, ◌+ℤ◌, Float, leb, Option, None, Some, Result, Ok, Err, if◌then◌else◌}
 use Rattle.std.specs.Float.{nan, inf, fin, binary32}
 use Rattle.std.specs.Float.Ieee.{up, down, of_bits, nan_bits}
 use Rattle.fixed.specs.Floor.{floor_div}
 use Rattle.fixed.specs.Little.{u32_at}
-use Rattle.fixed.specs.declared.Real.{Real}
-use Rattle.fixed.specs.declared.Real.TheVariants.{Number, Nan}
-use Rattle.fixed.specs.declared.Offset.{Offset}
-use Rattle.fixed.specs.declared.Offset.TheVariants as offset
+use Rattle.fixed.specs.declared.OffsetError.{OffsetError}
+use Rattle.fixed.specs.declared.OffsetError.TheVariants.{Outside, NotANumber}
 
 -- the float whose four bytes start at a place
 abbrev pub f32_at : List ℕ → ℕ → Float
 f32_at s at = of_bits binary32 (u32_at s at)
 
 -- the same as an answer that tells a NaN apart
-abbrev pub real_of : Bool → Float → Real
-real_of true v = Nan
-real_of false v = Number v
+abbrev pub real_of : Bool → Float → Option Float
+real_of true v = None
+real_of false v = Some v
 
-abbrev pub real_at : List ℕ → ℕ → Real
+abbrev pub real_at : List ℕ → ℕ → Option Float
 real_at s at = real_of (nan_bits binary32 (u32_at s at)) (f32_at s at)
 
 -- n or -n
@@ -49,12 +47,8 @@ in_unit (inf s) = false
 in_unit (fin false m e) = leb (m * up e) (down e)
 in_unit (fin true m e) = leb (m * up e) 0
 
-abbrev pub pick_offset : Bool → Offset → Offset → Offset
-pick_offset true a b = a
-pick_offset false a b = b
-
 -- what the offset of a stop becomes: its 65,536ths if it is from 0 to 1
-abbrev pub offset_in : Float → Offset
-offset_in nan = offset.NotANumber
-offset_in (inf s) = offset.Outside
-offset_in (fin s m e) = pick_offset (in_unit (fin s m e)) (offset.At (nat_abs (scaled 65536 (fin s m e)))) offset.Outside
+abbrev pub offset_in : Float → Result ℕ OffsetError
+offset_in nan = Err NotANumber
+offset_in (inf s) = Err Outside
+offset_in (fin s m e) = if in_unit (fin s m e) then Ok (nat_abs (scaled 65536 (fin s m e))) else Err Outside

@@ -8,7 +8,7 @@ ghost use Rattle.fixed.specs.Floor.{floor_div};
 ghost use Rattle.fixed.specs.Floats.{nearest_of, scaled, at_most, offset_in};
 ghost use Rattle.fixed.specs.Patterns.{size_bits, power_pattern};
 
-use crate::Offset;
+use crate::OffsetError;
 use crate::floats::{EXPONENT, SIGN, power_pattern};
 
 // Whether v is a number, and at most 2^log in size.
@@ -16,10 +16,7 @@ pub fn at_most(v: f32, log: u32) -> bool
     requires { log ≤ 15 }
     ensures { result ≡ at_most (2 ^ log) v }
 {
-    if v == v {
-        return f32::to_bits(v) % SIGN <= power_pattern(log);
-    }
-    false
+    !v.is_nan() && v.to_bits() % SIGN <= power_pattern(log)
 }
 
 // scale v to the nearest, of a v that is at most 2^15 in size.
@@ -27,23 +24,20 @@ pub fn to_whole(v: f32, scale: u32) -> i64
     requires { (scale ≤ 65536) × (at_most 32768 v ≡ true) }
     ensures { result ≡ scaled scale v }
 {
-    scale_pattern(f32::to_bits(v), scale)
+    scale_pattern(v.to_bits(), scale)
 }
 
 // The offset of a stop, from 0 to 1, in 65,536ths.
-pub fn stop_offset(v: f32) -> Offset
+pub fn stop_offset(v: f32) -> Result<u32, OffsetError>
     ensures { result ≡ offset_in v }
 {
-    if 0.0 <= v {
-        if at_most(v, 0) {
-            Offset::At(to_whole(v, 65536) as u32)
-        } else {
-            Offset::Outside
-        }
-    } else if v == v {
-        Offset::Outside
+    if v.is_nan() {
+        return Err(OffsetError::NotANumber);
+    }
+    if 0.0 <= v && at_most(v, 0) {
+        Ok(to_whole(v, 65536) as u32)
     } else {
-        Offset::NotANumber
+        Err(OffsetError::Outside)
     }
 }
 

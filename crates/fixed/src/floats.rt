@@ -5,7 +5,6 @@ ghost use Rattle.std.specs.Float.{binary32};
 ghost use Rattle.fixed.specs.Floats.{real_of, real_at};
 ghost use Rattle.fixed.specs.Patterns.{power_pattern};
 
-use crate::Real;
 use crate::little::u32_at;
 
 // The bit of the sign in a bit pattern.
@@ -25,21 +24,21 @@ pub fn power_pattern(log: u32) -> u32
     (127 + log) * EXPONENT
 }
 
-// The float of the four bytes from a place on.
-pub fn f32_at(s: &[u8], at: usize) -> Real
+// The float of the four bytes from a place on, none where they are a NaN's.
+pub fn f32_at(s: &[u8], at: usize) -> Option<f32>
     requires { at + 4 ≤ length s.now }
     ensures { result ≡ real_at s.now at }
 {
     from_pattern(u32_at(s, at))
 }
 
-// The float with the bit pattern n. Without its sign bit, a NaN's pattern is above that of infinity.
-fn from_pattern(n: u32) -> Real
+// The float with the bit pattern n, none for a NaN's. Without its sign bit, a NaN's pattern is above that of infinity.
+fn from_pattern(n: u32) -> Option<f32>
     ensures { result ≡ real_of (Ieee.nan_bits binary32 n) (Ieee.of_bits binary32 n) }
 {
     if n % SIGN <= INFINITY {
-        Real::Number(f32::from_bits(n))
+        Some(f32::from_bits(n))
     } else {
-        Real::Nan
+        None
     }
 }

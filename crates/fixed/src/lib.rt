@@ -13,17 +13,9 @@ pub use crate::floor::{floor_div, floor_mod};
 pub use crate::little::{i16_at, i32_at, u16_at, u32_at};
 pub use crate::root::isqrt_near;
 
-// What four bytes are as an f32.
-#[derive(Clone, Copy)]
-pub enum Real {
-    Number(f32),
-    Nan,
-}
-
-// What the offset of a stop becomes, in 65,536ths.
-#[derive(Clone, Copy)]
-pub enum Offset {
-    At(u32),
+// Why the offset of a stop is none.
+#[derive(Clone, Copy, PartialEq, Eq)]
+pub enum OffsetError {
     Outside,
     NotANumber,
 }

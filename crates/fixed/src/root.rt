@@ -1,4 +1,5 @@
-// The square root of a whole number below 2^60, rounded down, from a guess.
+// The square root of a whole number below 2^60, rounded down, from a guess. The library's isqrt takes no guess, and always 32 turns: too slow
+// for a pixel.
 ghost use Rattle.std.specs.Prelude.{◌≡◌, ◌+◌, ◌*◌, ◌≤◌, ◌<◌};
 ghost use Rattle.fixed.specs.Roots as Roots;
 
@@ -18,14 +19,10 @@ fn newton(n: u64, guess: u64) -> u64
     requires { n < 1152921504606846976 }
     ensures { (Roots.isqrt n ≤ result) × (result ≤ 1073741824) }
 {
-    if guess == 0 {
+    if guess == 0 || ABOVE <= guess {
         return ABOVE;
     }
-    if ABOVE <= guess {
-        return ABOVE;
-    }
-    let q = (guess + n / guess) / 2;
-    if q < ABOVE { q } else { ABOVE }
+    ((guess + n / guess) / 2).min(ABOVE)
 }
 
 // The root from a number that is not below it: down by 1, 3, 7, .. until the root is passed, then between the last two. A number that is
@@ -42,11 +39,7 @@ fn descend(n: u64, from: u64) -> u64
     while n < low * low {
         let step = 2 * (high - low);
         high = low;
-        if step < low {
-            low -= step;
-        } else {
-            low = 0;
-        }
+        low = low.saturating_sub(step);
     }
     halve(n, low, high)
 }

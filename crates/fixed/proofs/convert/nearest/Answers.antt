@@ -43,10 +43,6 @@ returns-then-s-ge42 c =
     let a = c.args in
     nearest_zero a.neg (a.scale * a.m) (2 ^ a.s) (small a.m a.scale a.s c.requires.0 c.requires.1 c.if-s-ge42.true)
 
-pub overflow_mul-twice : goal.overflow_mul-twice
-overflow_mul-twice c =
-    need (product c) tt
-
 pub overflow_mul-twice-2 : goal.overflow_mul-twice-2
 overflow_mul-twice-2 c =
     need (twice c) tt
@@ -69,10 +65,3 @@ returns-then-neg c =
     to_z-of_z {w = w64} (sfits_of c.half_up.type_inv) ∙ c.half_up.ensures
     ∙ ap (λ (z : ℤ). floor_div (z +ℤ pos (2 ^ a.s)) (2 * 2 ^ a.s)) ((keep w64 (minus c.before.before) tt).same ∙ neg_is (2 * (a.scale * a.m)))
     ∙ ap (λ (b : Bool). nearest_of b (a.scale * a.m) (2 ^ a.s)) (sym c.if-neg.true)
-
-pub returns-else-neg : goal.returns-else-neg
-returns-else-neg c =
-    let a = c.args in
-    to_z-of_z {w = w64} (sfits_of c.half_up-else-neg.type_inv) ∙ c.half_up-else-neg.ensures
-    ∙ ap (λ (z : ℤ). floor_div (z +ℤ pos (2 ^ a.s)) (2 * 2 ^ a.s)) (keep w64 (twice c.before.before) tt).same
-    ∙ ap (λ (b : Bool). nearest_of b (a.scale * a.m) (2 ^ a.s)) (sym c.if-neg.false)
