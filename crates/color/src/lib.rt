@@ -6,7 +6,7 @@ ghost use Rattle.std.specs.Float.Ieee as Ieee;
 ghost use Rattle.color.specs.Channels.{clamped, channel_byte, byte_channel, bytes_of_color, color_of_bytes, premultiply, premultiplied};
 
 // A colour before conversion, not premultiplied.
-#[derive(Clone, Copy)]
+#[derive(Clone, Copy, PartialEq)]
 pub struct Color {
     pub r: f32,
     pub g: f32,
@@ -16,7 +16,7 @@ pub struct Color {
 
 // Four bytes of a surface, or of a colour.
 #[repr(C)]
-#[derive(Clone, Copy)]
+#[derive(Clone, Copy, PartialEq, Eq)]
 pub struct Pixel {
     pub r: u8,
     pub g: u8,
@@ -24,11 +24,11 @@ pub struct Pixel {
     pub a: u8,
 }
 
-impl Color {
-    // The colour that four bytes set.
-    pub fn from_bytes(p: Pixel) -> Color
-        ensures { result ≡ color_of_bytes p }
-    {
+// The colour that four bytes set.
+impl From<Pixel> for Color {
+    ghost from_gives = { λ p c. c ≡ color_of_bytes p };
+
+    fn from(p: Pixel) -> Color {
         Color {
             r: byte_channel(p.r),
             g: byte_channel(p.g),
@@ -36,8 +36,10 @@ impl Color {
             a: byte_channel(p.a),
         }
     }
+}
 
-    // Its four bytes, not premultiplied.
+impl Color {
+    // Its four bytes, not premultiplied: rounded, so no `From`, which loses nothing.
     pub fn to_bytes(self) -> Pixel
         ensures { result ≡ bytes_of_color self }
     {
@@ -51,16 +53,45 @@ impl Color {
 }
 
 impl Pixel {
+    // f of each channel.
+    pub fn map<F: Fn(u8) -> u8>(self, f: F) -> Pixel
+        requires { F.IsAlwaysCallable f }
+        ensures r { F.post f self.r result.r }
+        ensures g { F.post f self.g result.g }
+        ensures b { F.post f self.b result.b }
+        ensures a { F.post f self.a result.a }
+    {
+        Pixel {
+            r: f(self.r),
+            g: f(self.g),
+            b: f(self.b),
+            a: f(self.a),
+        }
+    }
+
+    // f of each channel of both.
+    pub fn zip<F: Fn(u8, u8) -> u8>(self, other: Pixel, f: F) -> Pixel
+        requires { F.IsAlwaysCallable f }
+        ensures r { F.post f self.r other.r result.r }
+        ensures g { F.post f self.g other.g result.g }
+        ensures b { F.post f self.b other.b result.b }
+        ensures a { F.post f self.a other.a result.a }
+    {
+        Pixel {
+            r: f(self.r, other.r),
+            g: f(self.g, other.g),
+            b: f(self.b, other.b),
+            a: f(self.a, other.a),
+        }
+    }
+
     // The pixel as a surface holds it.
     pub fn premultiplied(self) -> Pixel
         ensures { result ≡ premultiplied self }
     {
-        Pixel {
-            r: premultiply(self.r, self.a),
-            g: premultiply(self.g, self.a),
-            b: premultiply(self.b, self.a),
-            a: self.a,
-        }
+        let alpha = self.a;
+        let p = self.map(|c| premultiply(c, alpha));
+        Pixel { a: alpha, ..p }
     }
 }
 
@@ -68,7 +99,7 @@ impl Pixel {
 pub fn channel_byte(v: f32) -> u8
     ensures { result ≡ channel_byte v }
 {
-    whole_byte(clamp(v) * 255.0 + 0.5)
+    std::num::saturating_f32_to_u8(clamp(v) * 255.0 + 0.5)
 }
 
 // A byte as a colour's channel.
@@ -102,20 +133,5 @@ fn clamp(v: f32) -> f32
         if v < 1.0 { v } else { 1.0 }
     } else {
         0.0
-    }
-}
-
-// Rust's `y as u8`: the fraction dropped, and what is out of range brought to its end.
-fn whole_byte(y: f32) -> u8
-    ensures { result ≡ Ieee.to_unsigned 8 y }
-{
-    if y >= 0.0 {
-        if y < 256.0 {
-            std::num::truncating_f32_to_u64(y) as u8
-        } else {
-            255
-        }
-    } else {
-        0
     }
 }

@@ -7,5 +7,5 @@ use Rattle.color.proofs.channel_byte.Goals as goal
 pub returns : goal.returns
 unfolding of_bits channel_byte
 returns c =
-    c.whole_byte.ensures
+    c.saturating_f32_to_u8.ensures
     ∙ ap (λ (x : Float). to_unsigned 8 (add binary32 (mul binary32 x full) half)) c.clamp.ensures
