@@ -1,7 +1,105 @@
 // The program's arguments, as the bytes that they are.
-ghost use Rattle.std.specs.Prelude.{◌≡◌, ◌≤◌, length};
+ghost use Rattle.std.specs.Prelude.{◌≡◌, ◌≤◌, ◌↔◌, length, vec_len, IsTrue, IsSome, IfSome};
 
+use crate::errors::{INVALID, NAME_TOO_LONG, NO_TEXT};
+use std::alloc::{AllocError, Global};
 use std::env::{Env, FillError};
+use std::{io, str};
+
+// The longest that a file's name may be.
+pub const NAME_LIMIT: usize = 4096;
+
+// An argument. Of one that is longer than any file's name there are the first bytes alone.
+#[derive(Drop)]
+pub enum Word {
+    Whole(Vec<u8>),
+    Start(Vec<u8>),
+}
+
+// What a program was started with, its own name first.
+#[derive(Drop)]
+pub struct Arguments {
+    pub all: Vec<Word>,
+}
+
+impl Arguments {
+    pub fn read(rt: &HostRuntime) -> Result<Arguments, AllocError> {
+        let mut all = Vec::new(rt.alloc());
+        for i in 0..usize::MAX {
+            let Some(word) = read_word(rt, i)? else {
+                break;
+            };
+            all.push(word)?;
+        }
+        Ok(Arguments { all })
+    }
+
+    pub fn len(&self) -> usize
+        ensures { result ≡ vec_len self.now.all }
+    {
+        self.all.len()
+    }
+
+    pub fn is_empty(&self) -> bool
+        ensures { IsTrue result ↔ (vec_len self.now.all ≡ 0) }
+    {
+        self.all.is_empty()
+    }
+
+    // Argument i, where there is one and it is no longer than any file's name.
+    pub fn get(&self, i: usize) -> Option<&[u8]> {
+        match self.all.get(i)? {
+            Word::Whole(word) => Some(word.as_slice()),
+            Word::Start(_) => None,
+        }
+    }
+
+    // Whether argument i is that word.
+    pub fn is(&self, i: usize, word: &[u8]) -> bool {
+        self.get(i) == Some(word)
+    }
+
+    // Whether an argument besides i is that word too. The program's name does not count.
+    pub fn has_other(&self, i: usize, word: &[u8]) -> bool {
+        (1..self.len()).any(|k| k != i && self.is(k, word))
+    }
+
+    // Argument i as the name of a file, which is text.
+    pub fn name(&self, i: usize) -> io::Result<&str> {
+        match self.all.get(i) {
+            Some(Word::Whole(word)) => match str::from_utf8(word.as_slice()) {
+                Ok(name) => Ok(name),
+                Err(_) => Err(io::Error::from_raw_os_error(NO_TEXT)),
+            },
+            Some(Word::Start(_)) => Err(io::Error::from_raw_os_error(NAME_TOO_LONG)),
+            None => Err(io::Error::from_raw_os_error(INVALID)),
+        }
+    }
+
+    // Argument i as it is told: no more of it than a file's name can have.
+    pub fn start(&self, i: usize) -> &[u8] {
+        match self.all.get(i) {
+            Some(Word::Whole(word) | Word::Start(word)) => word.as_slice(),
+            None => b"",
+        }
+    }
+}
+
+fn read_word(rt: &HostRuntime, i: usize) -> Result<Option<Word>, AllocError> {
+    let mut place = [0u8; NAME_LIMIT];
+    match rt.arg(i, &mut place) {
+        Ok(n) => Ok(Some(Word::Whole(copy(rt.alloc(), &place[..n])?))),
+        Err(FillError::TooLong) => Ok(Some(Word::Start(copy(rt.alloc(), &place)?))),
+        Err(FillError::NotPresent) => Ok(None),
+    }
+}
+
+// The bytes in a place of their own.
+pub fn copy(alloc: Global, bytes: &[u8]) -> Result<Vec<u8>, AllocError> {
+    let mut copy = Vec::new(alloc);
+    copy.extend_from_slice(bytes)?;
+    Ok(copy)
+}
 
 // 4,096 zeros, which hold any file's name.
 pub fn buffer() -> [u8; 4096]

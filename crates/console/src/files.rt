@@ -1,8 +1,8 @@
 // A file, named by an argument.
-ghost use Rattle.std.specs.Prelude.{◌≡◌, ◌≤◌, length, IfOk};
+ghost use Rattle.std.specs.Prelude.{◌≡◌, ◌≤◌, length, IfOk, IfSome, vec_len};
 
-use crate::arguments::{argument, argument_count, buffer};
-use crate::errors::{INVALID, NAME_TOO_LONG, NO_TEXT, tell};
+use crate::arguments::{Arguments, Word, argument, argument_count, buffer};
+use crate::errors::{INVALID, NAME_TOO_LONG, NO_TEXT, Stop, tell};
 use crate::words::{is_word, same_bytes};
 use crate::{Loaded, errors};
 use std::env::{Env, FillError};
@@ -12,6 +12,44 @@ use std::{fs, io};
 
 // The bytes of a buffer for a file: one more than the longest file that the programs take has.
 pub const FILE_BUFFER: usize = 262145;
+
+// The longest file that the programs take, in bytes.
+pub const FILE_LIMIT: usize = 262144;
+
+// The file that argument i names, or nothing where it is longer than the longest. No more of it is read.
+pub fn read(rt: &HostRuntime, arguments: &Arguments, i: usize) -> Result<Option<Vec<u8>>, Stop>
+    ensures { IfOk result (λ r. IfSome r (λ file. vec_len file ≤ 262144)) }
+{
+    let mut file = Vec::new(rt.alloc());
+    append(rt, arguments, i, FILE_LIMIT + 1, &mut file)?;
+    if FILE_LIMIT < file.len() {
+        return Ok(None);
+    }
+    Ok(Some(file))
+}
+
+// Puts the file that argument i names behind the others, at most so many bytes of it.
+pub fn append(
+    rt: &HostRuntime,
+    arguments: &Arguments,
+    i: usize,
+    most: usize,
+    files: &mut Vec<u8>,
+) -> Result<(), Stop> {
+    let source = Source::open(rt, arguments, i)?;
+    match source.take(most as u64).read_to_end(files) {
+        Ok(_) => Ok(()),
+        Err(error) => Err(failed(rt, arguments, i, error)),
+    }
+}
+
+// That the file that argument i names cannot be read.
+pub fn failed(rt: &HostRuntime, arguments: &Arguments, i: usize, error: io::Error) -> Stop {
+    if error.kind() == io::ErrorKind::OutOfMemory {
+        return Stop::OutOfMemory;
+    }
+    Stop::file(rt.alloc(), arguments.get(i).unwrap_or(b""), error)
+}
 
 // What is read: standard input, or a file that is open.
 #[derive(Drop)]
@@ -25,6 +63,33 @@ impl Source {
     pub fn read(&mut self, place: &mut [u8]) -> io::Result<usize>
         ensures { IfOk result (λ n. n ≤ length place.new) }
     {
+        match self {
+            Source::Input(input) => input.read(place),
+            Source::Named(file) => file.read(place),
+        }
+    }
+
+    // Opens the file that argument i names, where `-` is standard input. It has one end, so it cannot be two files.
+    pub fn open(rt: &HostRuntime, arguments: &Arguments, i: usize) -> Result<Source, Stop> {
+        if arguments.is(i, b"-") {
+            if arguments.has_other(i, b"-") {
+                return Err(Stop::Call("-: standard input can be one file only\n"));
+            }
+            return Ok(Source::Input(rt.stdin()));
+        }
+        match open_file(rt, arguments, i) {
+            Ok(file) => Ok(Source::Named(file)),
+            Err(error) => Err(Stop::file(rt.alloc(), arguments.start(i), error)),
+        }
+    }
+}
+
+fn open_file(rt: &HostRuntime, arguments: &Arguments, i: usize) -> io::Result<File> {
+    fs::open(rt, arguments.name(i)?)
+}
+
+impl Read for Source {
+    fn read(&mut self, place: &mut [u8]) -> io::Result<usize> {
         match self {
             Source::Input(input) => input.read(place),
             Source::Named(file) => file.read(place),

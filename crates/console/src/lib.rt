@@ -7,7 +7,7 @@ pub mod errors;
 pub mod files;
 pub mod lines;
 pub mod numbers;
-mod output;
+pub mod output;
 pub mod pictures;
 pub mod sizes;
 pub mod usage;

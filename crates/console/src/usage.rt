@@ -1,9 +1,46 @@
 // How a program is called.
-ghost use Rattle.std.specs.Prelude.{◌≡◌, true};
+ghost use Rattle.std.specs.Prelude.{◌≡◌, true, IsTrue, IsOk};
 
-use crate::errors::tell;
+use crate::arguments::Arguments;
+use crate::errors::{Stop, tell};
 use crate::output;
 use crate::words::is_word;
+use std::io;
+
+// How a program is called, and what it does.
+#[derive(Clone, Copy)]
+pub struct Manual {
+    pub usage: &'static str,
+    pub help: &'static str,
+}
+
+impl Manual {
+    // Stops the program where it was not called in the right way, or asked with its first argument how it is called.
+    pub fn judge(self, arguments: &Arguments, is_right: bool) -> Result<(), Stop>
+        ensures { IsOk result → IsTrue is_right }
+    {
+        if arguments.is(1, b"--help") || arguments.is(1, b"-h") {
+            return Err(Stop::Asked(self));
+        }
+        if is_right {
+            Ok(())
+        } else {
+            Err(Stop::Call(self.usage))
+        }
+    }
+
+    // The usage and the help on standard output. What holds of every program comes last.
+    pub fn print(self, rt: &HostRuntime) {
+        let usage = self.usage;
+        let help = self.help;
+        output::told(
+            rt,
+            print!(rt;
+                "{usage}\n{help}\nA file named - is standard input, and only one can be. What cannot be read is told on standard error; the exit status is always 0.\n"
+            ),
+        );
+    }
+}
 
 // Whether the program is to do its work: it was called in the right way, and not with `--help` first. Any other call is answered here: one for help
 // by the usage and the help on standard output, a wrong one by the usage on standard error.
