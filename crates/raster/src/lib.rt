@@ -16,7 +16,7 @@ pub struct Target {
     pub area: Rect,
 }
 
-// Bytes from one place to before another.
+// Bytes from one place to before another. std's Range is not Copy, and a row's is used twice, for its pixels and for its part of the mask (engine's rows).
 #[derive(Clone, Copy)]
 pub struct Range {
     pub from: usize,
@@ -54,22 +54,22 @@ pub fn fill_row(s: &mut [u8], n: usize, p: Pixel)
     requires { length s.old ≡ n * 4 }
     ensures { s.new ≡ run n (λ i. p) }
 {
-    let mut i = 0;
-    while i < n {
+    for i in 0..n {
         put_pixel(s, i, p);
-        i += 1;
     }
 }
 
-// Where row y of the rectangle lies among the surface's bytes.
-pub fn row_bytes(t: Target, y: usize) -> Range
-    requires { Placed t × (y < t.area.y1) }
-    ensures from_value { result.from ≡ (y * t.width + t.area.x0) * 4 }
-    ensures to_value { result.to ≡ (y * t.width + t.area.x1) * 4 }
-{
-    Range {
-        from: (y * t.width + t.area.x0) * 4,
-        to: (y * t.width + t.area.x1) * 4,
+impl Target {
+    // Where row y of the rectangle lies among the surface's bytes.
+    pub fn row_bytes(self, y: usize) -> Range
+        requires { Placed self × (y < self.area.y1) }
+        ensures from_value { result.from ≡ (y * self.width + self.area.x0) * 4 }
+        ensures to_value { result.to ≡ (y * self.width + self.area.x1) * 4 }
+    {
+        Range {
+            from: (y * self.width + self.area.x0) * 4,
+            to: (y * self.width + self.area.x1) * 4,
+        }
     }
 }
 
@@ -79,14 +79,9 @@ fn fill_rect(s: &mut [u8], t: Target, p: Pixel)
     ensures { s.new ≡ overlay t.width t.height t.area (λ x y. p) s.old }
 {
     let n = t.area.x1 - t.area.x0;
-    let y1 = t.area.y1;
-    let mut y = t.area.y0;
-    while y < y1 {
-        let r = row_bytes(t, y);
-        let from = r.from;
-        let to = r.to;
-        fill_row(&mut s[from..to], n, p);
-        y += 1;
+    for y in t.area.y0..t.area.y1 {
+        let r = t.row_bytes(y);
+        fill_row(&mut s[r.from..r.to], n, p);
     }
 }
 
@@ -96,8 +91,8 @@ pub fn fill_around(s: &mut [u8], t: Target, hole: Rect, p: Pixel)
     ensures { s.new ≡ filled_around t hole p s.old }
 {
     let area = t.area;
-    let inner = rect::meet(area, hole);
-    if rect::is_empty(inner) {
+    let inner = area.meet(hole);
+    if inner.is_empty() {
         fill_rect(s, t, p);
     } else {
         fill_frame(s, t, inner, p);

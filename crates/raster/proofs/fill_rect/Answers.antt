@@ -3,7 +3,7 @@ use native.Mathlib.Omega.{arith}
 use Rattle.raster.proofs.Rows.{Lent, rows_none, row_lent, rows_all}
 use Rattle.raster.proofs.fill_rect.Goals as goal
 
-lent : (c : goal.After-row_bytes-r)
+lent : (c : goal.After-struct_known-in-loop-y-1)
     → let a = c.args in
     let r = c.row_bytes-r.result in
     Lent a.t (λ u v q. a.p) a.s.now c.loop-y.y c.loop-y.s r.from r.to

@@ -1,11 +1,6 @@
 -- `raster::fill_rect` meets its contract: the rows below y are filled.
-use Prim.Native.Nat.{◌-◌}
 use Rattle.raster.specs.Rows.{Rows}
 use Rattle.raster.proofs.fill_rect.Given as goal
 
--- `raster::fill_rect` meets its contract: the rows below y are filled.
 abbrev pub invariant-loop-y : goal.invariant-loop-y
 invariant-loop-y l = Rows l.t (λ u v q. l.p) l.initial.s l.y l.s
-
-abbrev pub decreases-loop-y : goal.decreases-loop-y
-decreases-loop-y l = l.y1 - l.y
