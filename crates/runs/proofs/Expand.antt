@@ -141,18 +141,15 @@ module _ (runs : List ℕ) (n w : ℕ) (r : Runs runs n w) where
 
   -- run j laid after those before it, into a row d of w k's: the part that is lent for it and given back
   pub laid_run : (j : ℕ) → j < n → (s d q : List ℕ) → length d ≡ w → s ≡ over (expand runs j) d
-      → q ≡ tab (end_of runs j - start_of runs j) (λ i. level_of runs j)
+      → q ≡ replicate (end_of runs j - start_of runs j) (level_of runs j)
       → take (start_of runs j) s ++ (q ++ drop (end_of runs j - start_of runs j) (drop (start_of runs j) s)) ≡ over (expand runs (j + 1)) d
   laid_run j h s d q l o g =
       ap (λ (t : List ℕ). take (start_of runs j) t ++ (q ++ drop (end_of runs j - start_of runs j) (drop (start_of runs j) t))) o
       ∙ over_part (expand runs j) d q (start_of runs j) (end_of runs j - start_of runs j) (first_length j (omega arith))
-      (ap length g ∙ tab_length (end_of runs j - start_of runs j) (λ i. level_of runs j)) (omega (arith, r.rises j h, runs_within j h))
+      (ap length g ∙ length-replicate (end_of runs j - start_of runs j) (level_of runs j)) (omega (arith, r.rises j h, runs_within j h))
       ∙ ap (λ (t : List ℕ). over t d)
-      (ap (λ (t : List ℕ). expand runs j ++ t) (g ∙ level (end_of runs j - start_of runs j) (level_of runs j))
+      (ap (λ (t : List ℕ). expand runs j ++ t) g
       ∙ sym (upto_more j (λ i. replicate (end_of runs i - start_of runs i) (level_of runs i))))
-    where
-      level : (m k : ℕ) → tab m (λ i. k) ≡ replicate m k
-      level m k = sym (tab_ext 0 (replicate m k) m (λ i. k) (length-replicate m k) (λ i b. get_or-replicate m i k 0 b))
 
   -- a run of its own, in the place of any number
   pub push_runs : (e k : ℕ) → k < 32 → w < e → n < length runs → Runs (set runs n (e * 32 + k)) (n + 1) e

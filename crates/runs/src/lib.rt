@@ -2,7 +2,6 @@
 #![tactic(auto)]
 
 ghost use Rattle.std.specs.Prelude.{◌≡◌, true, ◌++◌, ℕ, ◌+◌, ◌-◌, ◌*◌, ◌≤◌, ◌<◌, length, get_or, replicate};
-ghost use Rattle.lists.specs.Lists.{tab};
 ghost use Rattle.runs.specs.Runs.{start_of, level_of, expand, Runs};
 
 // The pixels from p up to e, all with k, after the n runs of p pixels. Returns how many runs there are then.
@@ -29,10 +28,7 @@ fn extends(runs: &[u16], n: usize, k: u8) -> bool
     requires { n ≤ length runs.now }
     ensures { result ≡ true → (0 < n) × (level_of runs.now (n - 1) ≡ k) }
 {
-    if n == 0 {
-        return false;
-    }
-    runs[n - 1] % 32 == (k as u16)
+    0 < n && runs[n - 1] % 32 == (k as u16)
 }
 
 // Where run j begins.
@@ -52,23 +48,10 @@ pub fn expand_row(runs: &[u16], n: usize, row: &mut [u8])
     ensures { row.new ≡ expand runs.now n }
 {
     let mut a = 0;
-    let mut j = 0;
-    while j < n {
+    for j in 0..n {
         let e = (runs[j] / 32) as usize;
-        fill(&mut row[a..e], (runs[j] % 32) as u8);
+        row[a..e].fill((runs[j] % 32) as u8);
         a = e;
-        j += 1;
-    }
-}
-
-// All bytes k.
-fn fill(row: &mut [u8], k: u8)
-    ensures { row.new ≡ tab (length row.old) (λ j. k) }
-{
-    let mut i = 0;
-    while i < row.len() {
-        row[i] = k;
-        i += 1;
     }
 }
 
@@ -96,12 +79,10 @@ fn alike(row: &[u8], i: usize) -> usize
     ensures by_index { (j : ℕ) → i ≤ j → j < result → get_or row.now j 0 ≡ get_or row.now i 0 }
 {
     let k = row[i];
-    let mut e = i + 1;
-    while e < row.len() {
+    for e in i + 1..row.len() {
         if row[e] != k {
             return e;
         }
-        e += 1;
     }
-    e
+    row.len()
 }

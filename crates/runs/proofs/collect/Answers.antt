@@ -15,22 +15,6 @@ more : (row : List ℕ) (i e k : ℕ) (s t : List ℕ) → i < e → ((j : ℕ) 
     → s ≡ t ++ replicate (e - i) k → s ≡ tab e (λ j. get_or row j 0)
 more row i e k s t g h a b = b ∙ ap (λ (l : List ℕ). l ++ replicate (e - i) k) a ∙ tab_run (λ j. get_or row j 0) i e k (omega arith) h
 
-pub loop-i-init : goal.loop-i-init
-loop-i-init c =
-    (omega arith, refl, record { rises = λ j l. absurd (omega (arith, l)); last = refl }, refl)
-
-pub push-n-requires : goal.push-n-requires
-push-n-requires c =
-    record {
-      runs = c.loop-i.invariant.2;
-      p_le_e = (
-        omega arith,
-        omega (arith, c.requires.row_in_bounds, c.loop-i.invariant.1),
-        omega (arith, c.requires.row_in_bounds),
-        c.requires.by_index c.loop-i.i (omega arith),
-      );
-    }
-
 pub loop-i-preserved : goal.loop-i-preserved
 loop-i-preserved c =
     let row = c.args.row.now in

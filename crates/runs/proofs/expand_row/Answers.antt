@@ -2,32 +2,16 @@ use mathlib.Core.Path.{◌≡◌, refl, sym, ap, subst, ◌∙◌}
 use mathlib.Core.List.{List, ◌++◌}
 use Prim.Native.Nat.{ℕ, suc, ◌+◌, ◌-◌, ◌≤◌, ◌<◌}
 use native.Mathlib.Omega.{arith}
-use lib.ListN.{length, take, drop}
-use Rattle.lists.specs.Lists.{tab, over}
+use lib.ListN.{length, take, drop, replicate}
+use Rattle.lists.specs.Lists.{over}
 use Rattle.lists.proofs.Laws.{over_all, over_length, part_length}
 use Rattle.runs.specs.Runs.{expand, start_of, end_of, level_of, Runs}
 use Rattle.runs.proofs.Expand.{runs_length, runs_within, laid_run, first_length}
 use Rattle.runs.proofs.expand_row.Goals as goal
 
-pub loop-j-init : goal.loop-j-init
-loop-j-init c =
-    (omega arith, refl, refl, refl)
-
-pub overflow_cast-e : goal.overflow_cast-e
-overflow_cast-e c =
-    omega (arith, c.shared_slice_known-in-loop-j-1.given c.loop-j.j)
-
-pub slice_bounds-fill-count : goal.slice_bounds-fill-count
-slice_bounds-fill-count c =
-    omega (arith, c.loop-j.invariant.1, c.requires.0.rises c.loop-j.j c.loop-j-test.true)
-
-pub slice_bounds-fill-start : goal.slice_bounds-fill-start
-slice_bounds-fill-start c =
-    omega (arith, c.loop-j.invariant.1, c.requires.0.rises c.loop-j.j c.loop-j-test.true)
-
 pub slice_bounds-fill-end : goal.slice_bounds-fill-end
 slice_bounds-fill-end c =
-    omega (arith, c.loop-j.invariant.2, runs_within c.args.runs.now c.args.n (length c.args.row.now) c.requires.0 c.loop-j.j c.loop-j-test.true)
+    omega (arith, c.loop-j.invariant.1, runs_within c.args.runs.now c.args.n (length c.args.row.now) c.requires.0 c.loop-j.j c.loop-j-test.true)
 
 pub loop-j-preserved : goal.loop-j-preserved
 loop-j-preserved c =
@@ -38,11 +22,10 @@ loop-j-preserved c =
     let r = c.requires.0 in
     let one : j + 1 ≡ suc j = omega arith in
     let laid =
-    put runs c.args.n d r j l c.loop-j.a c.loop-j.row c.fill.new.row c.loop-j.invariant.1 c.loop-j.invariant.2
-    c.loop-j.invariant.3 c.fill.ensures
+    put runs c.args.n d r j l c.loop-j.a c.loop-j.row c.fill.new.self c.loop-j.invariant.0 c.loop-j.invariant.1
+    c.loop-j.invariant.2 (c.fill.ensures.after (λ y e. e))
     in
     let next : j + 1 ≤ c.args.n = omega arith in (
-      next,
       sym (ap (start_of runs) one),
       ap length laid
           ∙ over_length (expand runs (j + 1)) d
@@ -52,12 +35,12 @@ loop-j-preserved c =
     )
   where
     put : (runs : List ℕ) (n : ℕ) (d : List ℕ) → Runs runs n (length d) → (j : ℕ) → j < n → (a : ℕ) (s q : List ℕ) → a ≡ start_of runs j → length s ≡ length d
-        → s ≡ over (expand runs j) d → q ≡ tab (length (take (end_of runs j - a) (drop a s))) (λ i. level_of runs j)
+        → s ≡ over (expand runs j) d → q ≡ replicate (length (take (end_of runs j - a) (drop a s))) (level_of runs j)
         → take a s ++ (q ++ drop (end_of runs j - a) (drop a s)) ≡ over (expand runs (j + 1)) d
     put runs n d r j l a s q e k o g =
         subst (λ (x : ℕ). take x s ++ (q ++ drop (end_of runs j - x) (drop x s)) ≡ over (expand runs (j + 1)) d) (sym e)
         (laid_run runs n (length d) r j l s d q refl o
-        (g ∙ ap (λ (m : ℕ). tab m (λ i. level_of runs j)) (part ∙ ap (λ (x : ℕ). end_of runs j - x) e)))
+        (g ∙ ap (λ (m : ℕ). replicate m (level_of runs j)) (part ∙ ap (λ (x : ℕ). end_of runs j - x) e)))
       where
         part : length (take (end_of runs j - a) (drop a s)) ≡ end_of runs j - a
         part = part_length s a (end_of runs j) (omega (arith, r.rises j l)) (omega (arith, runs_within runs n (length d) r j l))
@@ -67,5 +50,5 @@ returns c =
     let runs = c.args.runs.now in
     let d = c.args.row.now in
     let e : c.loop-j.j ≡ c.args.n = omega arith in
-    subst (λ (m : ℕ). c.loop-j.row ≡ over (expand runs m) d) e c.loop-j.invariant.3
+    subst (λ (m : ℕ). c.loop-j.row ≡ over (expand runs m) d) e c.loop-j.invariant.2
     ∙ over_all (expand runs c.args.n) d (runs_length runs c.args.n (length d) c.requires.0)

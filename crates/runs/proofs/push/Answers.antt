@@ -1,38 +1,11 @@
-use mathlib.Core.Path.{◌≡◌, refl, sym, ap, subst, ◌∙◌}
-use mathlib.Core.List.{List, ◌++◌, append-nil}
+use mathlib.Core.Path.{◌≡◌, sym, subst}
+use mathlib.Core.List.{List, ◌++◌}
 use Prim.Native.Nat.{ℕ, ◌+◌, ◌-◌, ◌*◌, ◌<◌, ◌≤◌}
 use native.Mathlib.Omega.{arith}
 use lib.ListN.{length, set, replicate, length-set}
 use Rattle.runs.specs.Runs.{expand, level_of, Runs}
 use Rattle.runs.proofs.Expand.{runs_few, push_runs, push_expand, merge_runs, merge_expand}
 use Rattle.runs.proofs.push.Goals as goal
-
-pub returns-then-p-e : goal.returns-then-p-e
-returns-then-p-e c =
-    let a = c.args in
-    record {
-      runs_2 = (subst (λ (e : ℕ). Runs a.runs.now a.n e) c.if-p-e.true c.requires.runs, refl);
-      result_after = sym (ap (λ (m : ℕ). expand a.runs.now a.n ++ replicate m a.k) (rest a.p a.e c.if-p-e.true) ∙ append-nil (expand a.runs.now a.n));
-    }
-  where
-    rest : (p e : ℕ) → p ≡ e → e - p ≡ 0
-    rest p e q = omega arith
-
-pub extends-requires : goal.extends-requires
-extends-requires c =
-    omega (arith, runs_few c.args.runs.now c.args.n c.args.p c.requires.runs, c.requires.p_le_e)
-
-pub overflow_sub-runs : goal.overflow_sub-runs
-overflow_sub-runs c =
-    omega (arith, c.extends.ensures c.if-extends.true)
-
-pub offset_bounds-runs-n : goal.offset_bounds-runs-n
-offset_bounds-runs-n c =
-    omega (arith, runs_few c.args.runs.now c.args.n c.args.p c.requires.runs, c.requires.p_le_e)
-
-pub bounds-runs-n : goal.bounds-runs-n
-bounds-runs-n c =
-    omega (arith, runs_few c.args.runs.now c.args.n c.args.p c.requires.runs, c.requires.p_le_e)
 
 -- the last run made longer
 longer_runs : (runs : List ℕ) (n p e k : ℕ) → Runs runs n p → 0 < n → p < e → k < 32 → n ≤ length runs
@@ -62,17 +35,9 @@ returns-then-extends c =
       result_after = longer_expand a.runs.now a.n a.p a.e a.k c.requires.runs x.0 l g f x.1;
     }
 
-pub offset_bounds-runs-n-2 : goal.offset_bounds-runs-n-2
-offset_bounds-runs-n-2 c =
-    omega (arith, runs_few c.args.runs.now c.args.n c.args.p c.requires.runs, c.requires.p_le_e)
-
 pub bounds-runs-n-2 : goal.bounds-runs-n-2
 bounds-runs-n-2 c =
     omega (arith, runs_few c.args.runs.now c.args.n c.args.p c.requires.runs, c.requires.p_le_e, c.if-p-e.false)
-
-pub overflow_add-result : goal.overflow_add-result
-overflow_add-result c =
-    omega (arith, runs_few c.args.runs.now c.args.n c.args.p c.requires.runs, c.requires.p_le_e)
 
 pub returns : goal.returns
 returns c =
