@@ -6,8 +6,9 @@ ghost use Rattle.context.specs.Context.{keep, noted, fresh};
 
 // What a caller lends to each call; a fresh one has the code 0.
 #[repr(C)]
-#[derive(Clone, Copy)]
+#[derive(Clone, Copy, PartialEq, Eq)]
 pub struct Context {
+    // A number, and 0 where there is none, since C reads it.
     pub code: u32,
 }
 
@@ -15,26 +16,21 @@ pub struct Context {
 pub fn kept(was: u32, code: u32) -> u32
     ensures { result ≡ keep was code }
 {
-    if was != 0 {
-        return was;
+    if was == 0 { code } else { was }
+}
+
+impl Context {
+    // Notes a call's code.
+    pub fn note(&mut self, code: u32)
+        ensures { self.new ≡ noted self.old code }
+    {
+        self.code = kept(self.code, code);
     }
-    code
-}
 
-// Notes a call's code.
-pub fn note(context: &mut Context, code: u32)
-    ensures { context.new ≡ noted context.old code }
-{
-    let was = context.code;
-    let next = kept(was, code);
-    context.code = next;
-}
-
-// Asks for the code, and sets 0.
-pub fn take(context: &mut Context) -> u32
-    ensures { (result ≡ context.old.code) × (context.new ≡ fresh) }
-{
-    let was = context.code;
-    context.code = 0;
-    was
+    // Asks for the code, and sets 0.
+    pub fn take(&mut self) -> u32
+        ensures { (result ≡ self.old.code) × (self.new ≡ fresh) }
+    {
+        std::mem::replace(&mut self.code, 0)
+    }
 }

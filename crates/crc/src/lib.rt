@@ -8,6 +8,7 @@ ghost use Rattle.crc.specs.Crc.{crc_of, crc_byte, crc_bit};
 pub const POLYNOMIAL: u32 = 0xEDB88320;
 
 // One bit falls out of the remainder.
+#[tactic(auto, unfolding(crate::specs::Crc::crc_bit))]
 fn bit(c: u32) -> u32
     ensures { result ≡ crc_bit c }
 {
@@ -18,6 +19,7 @@ fn bit(c: u32) -> u32
 }
 
 // A byte goes into the remainder: its eight bits, one after the other.
+#[tactic(auto, unfolding(crate::specs::Crc::crc_byte))]
 fn byte(c: u32, b: u8) -> u32
     ensures { result ≡ crc_byte c b }
 {
@@ -25,14 +27,13 @@ fn byte(c: u32, b: u8) -> u32
 }
 
 // The CRC-32 of bytes, as zlib and Ethernet have it.
+#[tactic(auto, unfolding(crate::specs::Crc::crc_of))]
 pub fn crc(bytes: &[u8]) -> u32
     ensures { result ≡ crc_of bytes.now }
 {
     let mut c: u32 = 0xFFFFFFFF;
-    let mut i = 0;
-    while i < bytes.len() {
-        c = byte(c, bytes[i]);
-        i += 1;
+    for b in bytes {
+        c = byte(c, *b);
     }
     c ^ 0xFFFFFFFF
 }
