@@ -7,9 +7,11 @@ use native.Mathlib.Omega.{arith}
 use lib.Dec.{T, leb, ltb, eqb, leb→le}
 use lib.ListN.{length}
 use lib.IntN.{ℤ, pos, negsuc, nat_abs}
-use borrow.Author.Tests.{le-leb, lt-leb, lt-ltb, le-ltb, ne_eqb, leb-true, leb-false, ltb-false, eqb-true, eqb-false}
-use Rattle.codes.specs.Codes.{accepted_code, illegal_argument, unsupported_path_format}
-use Rattle.codes.proofs.Refusals.{refuses}
+use borrow.Author.Tests.{le-leb, lt-leb, lt-ltb, le-ltb, leb-true, leb-false, ltb-false}
+use Rattle.std.specs.Prelude.{Result, Ok, Err}
+use Rattle.std.specs.Result.{result_and}
+use Rattle.codes.specs.declared.Code.{Code}
+use Rattle.codes.specs.declared.Code.TheVariants.{IllegalArgument, UnsupportedPathFormat}
 use Rattle.fixed.proofs.Tests.{both_left, both_right}
 use Rattle.path.specs.declared.FixedMatrix.{FixedMatrix}
 use Rattle.path.specs.declared.Point.{Point}
@@ -17,10 +19,9 @@ use Rattle.path.specs.declared.Pen.{Pen}
 use Rattle.path.specs.declared.Curve.{Curve}
 use Rattle.path.specs.declared.Walk.{Walk}
 use Rattle.path.specs.declared.Traced.{Traced}
-use Rattle.path.specs.declared.Step.TheVariants.{Drawn, Refused}
 use Rattle.path.specs.Segments.{coordinates_taken, number, number_move, in_sixteen_bits, in_range}
 use Rattle.path.specs.Segments.{curve_at, pen_after, walk_on, curve_in_range, curve_on_grid, segment_code}
-use Rattle.path.specs.Answers.{pick_step, traced_by, step_of}
+use Rattle.path.specs.Answers.{traced_by, step_of}
 use Rattle.path.specs.Limits.{Near, Held, NearCurve, Ready, Supplied}
 
 -- ---- points in range
@@ -63,14 +64,14 @@ module _ (m : FixedMatrix) (cs : List ℕ) (walk : Walk) (byte : ℕ) where
     pub in_range : T (curve_in_range (curve_at cs walk byte))
     pub on_grid : T (curve_on_grid m (curve_at cs walk byte))
 
-  pub code_arc : 9 ≤ byte / 2 → byte / 2 ≤ 12 → segment_code m cs walk byte ≡ unsupported_path_format
+  pub code_arc : 9 ≤ byte / 2 → byte / 2 ≤ 12 → segment_code m cs walk byte ≡ Err UnsupportedPathFormat
   unfolding segment_code
   code_arc h k =
       let a : 18 ≤ number byte = omega arith in
       let b : number byte ≤ 24 = omega arith in
       rw (le-leb 18 (number byte) a, le-leb (number byte) 24 b)
 
-  pub code_number : 12 < byte / 2 → segment_code m cs walk byte ≡ illegal_argument
+  pub code_number : 12 < byte / 2 → segment_code m cs walk byte ≡ Err IllegalArgument
   unfolding segment_code
   code_number h =
       let a : 18 ≤ number byte = omega arith in
@@ -78,7 +79,7 @@ module _ (m : FixedMatrix) (cs : List ℕ) (walk : Walk) (byte : ℕ) where
       let c : 26 ≤ number byte = omega arith in
       rw (le-leb 18 (number byte) a, lt-leb (number byte) 24 b, le-leb 26 (number byte) c)
 
-  pub code_short : byte < 18 → length cs < 2 * (walk.used + coordinates_taken byte) → segment_code m cs walk byte ≡ illegal_argument
+  pub code_short : byte < 18 → length cs < 2 * (walk.used + coordinates_taken byte) → segment_code m cs walk byte ≡ Err IllegalArgument
   unfolding segment_code
   code_short h k =
       let a : number byte < 18 = omega arith in
@@ -87,14 +88,14 @@ module _ (m : FixedMatrix) (cs : List ℕ) (walk : Walk) (byte : ℕ) where
 
   pub code_judged : byte < 18 → 2 * (walk.used + coordinates_taken byte) ≤ length cs → (t : Bool)
       → (curve_in_range (curve_at cs walk byte) && curve_on_grid m (curve_at cs walk byte)) ≡ t
-      → segment_code m cs walk byte ≡ cond t accepted_code illegal_argument
+      → segment_code m cs walk byte ≡ cond t (Ok tt) (Err IllegalArgument)
   unfolding segment_code
   code_judged h k t e =
       let a : number byte < 18 = omega arith in
       let b : number byte < 26 = omega arith in
       rw (lt-leb 18 (number byte) a, lt-leb 26 (number byte) b, le-ltb (length cs) (2 * (walk.used + coordinates_taken byte)) k, e)
 
-  pub accepted : segment_code m cs walk byte ≡ 0 → Accepted
+  pub accepted : segment_code m cs walk byte ≡ Ok tt → Accepted
   unfolding segment_code
   accepted z =
       by (leb 18 (number byte)) (leb (number byte) 24) (leb 26 (number byte)) (ltb (length cs) (2 * (walk.used + coordinates_taken byte)))
@@ -104,14 +105,14 @@ module _ (m : FixedMatrix) (cs : List ℕ) (walk : Walk) (byte : ℕ) where
       by : (a b c d e : Bool) → leb 18 (number byte) ≡ a → leb (number byte) 24 ≡ b → leb 26 (number byte) ≡ c
           → ltb (length cs) (2 * (walk.used + coordinates_taken byte)) ≡ d
           → (curve_in_range (curve_at cs walk byte) && curve_on_grid m (curve_at cs walk byte)) ≡ e
-          → ◌≡◌ {A = ℕ} (cond (a && b) unsupported_path_format (cond c illegal_argument (cond d illegal_argument (cond e accepted_code illegal_argument)))) 0
+          → ◌≡◌ {A = Result Unit Code} (cond (a && b) (Err UnsupportedPathFormat) (cond c (Err IllegalArgument) (cond d (Err IllegalArgument) (cond e (Ok tt) (Err IllegalArgument))))) (Ok tt)
           → Accepted
-      by true true c d e p q r s t z = absurd (refuses unsupported_path_format refl z)
-      by true false true d e p q r s t z = absurd (refuses illegal_argument refl z)
+      by true true c d e p q r s t z = absurd (cc)
+      by true false true d e p q r s t z = absurd (cc)
       by true false false d e p q r s t z = absurd (omega (arith, leb-true 18 (number byte) p, leb-false (number byte) 24 q, leb-false 26 (number byte) r))
-      by false b true d e p q r s t z = absurd (refuses illegal_argument refl z)
-      by false b false true e p q r s t z = absurd (refuses illegal_argument refl z)
-      by false b false false false p q r s t z = absurd (refuses illegal_argument refl z)
+      by false b true d e p q r s t z = absurd (cc)
+      by false b false true e p q r s t z = absurd (cc)
+      by false b false false false p q r s t z = absurd (cc)
       by false b false false true p q r s t z = record {
         segment = omega (arith, leb-false 18 (number byte) p);
         enough = ltb-false (length cs) (2 * (walk.used + coordinates_taken byte)) s;
@@ -119,42 +120,38 @@ module _ (m : FixedMatrix) (cs : List ℕ) (walk : Walk) (byte : ℕ) where
         on_grid = both_right (curve_in_range (curve_at cs walk byte)) (curve_on_grid m (curve_at cs walk byte)) (subst T (sym t) tt);
       }
 
-  pub ready_next : Ready cs walk → segment_code m cs walk byte ≡ 0 → Ready cs (walk_on cs walk byte)
+  pub ready_next : Ready cs walk → segment_code m cs walk byte ≡ Ok tt → Ready cs (walk_on cs walk byte)
   ready_next r z =
       let a = accepted z in
       record { held = near_after walk.pen byte (curve_at cs walk byte) r.held (near_curve (curve_at cs walk byte) a.in_range); there = a.enough }
 
-  pub supplied : Ready cs walk → segment_code m cs walk byte ≡ 0 → Supplied cs walk byte
+  pub supplied : Ready cs walk → segment_code m cs walk byte ≡ Ok tt → Supplied cs walk byte
   supplied r z =
       let a = accepted z in
       record { held = r.held; segment = a.segment; enough = a.enough }
 
   -- ---- as an answer
-  pub step_refused : (k : ℕ) → segment_code m cs walk byte ≡ k → (k ≡ 0 → ⊥) → Refused k ≡ step_of m cs walk byte
+  pub step_refused : (k : Code) → segment_code m cs walk byte ≡ Err k → Err k ≡ step_of m cs walk byte
   unfolding step_of
-  step_refused k e h = rw (e, ne_eqb k 0 h)
+  step_refused k e = rw e
 
-  pub step_drawn : segment_code m cs walk byte ≡ 0 → (t : Traced) → t ≡ traced_by cs walk byte → Drawn t ≡ step_of m cs walk byte
+  pub step_drawn : segment_code m cs walk byte ≡ Ok tt → (t : Traced) → t ≡ traced_by cs walk byte → Ok t ≡ step_of m cs walk byte
   unfolding step_of
   step_drawn e t q = rw (e, q)
 
-  pub from_drawn : (t : Traced) → Drawn t ≡ step_of m cs walk byte → (segment_code m cs walk byte ≡ 0) × (t ≡ traced_by cs walk byte)
+  pub from_drawn : (t : Traced) → Ok t ≡ step_of m cs walk byte → (segment_code m cs walk byte ≡ Ok tt) × (t ≡ traced_by cs walk byte)
   unfolding step_of
-  from_drawn t o = by (eqb (segment_code m cs walk byte) 0) refl o
+  from_drawn t o = by (segment_code m cs walk byte) refl o
     where
-      by : (s : Bool) → eqb (segment_code m cs walk byte) 0 ≡ s → Drawn t ≡ pick_step s (Drawn (traced_by cs walk byte)) (Refused (segment_code m cs walk byte))
-          → (segment_code m cs walk byte ≡ 0) × (t ≡ traced_by cs walk byte)
-      by true q o = (eqb-true (segment_code m cs walk byte) 0 q, cc)
-      by false q o = let z : ◌≡◌ {A = ℕ} 0 1 = cc in absurd (omega arith)
+      by : (r : Result Unit Code) → segment_code m cs walk byte ≡ r → Ok t ≡ result_and r (Ok (traced_by cs walk byte))
+          → (segment_code m cs walk byte ≡ Ok tt) × (t ≡ traced_by cs walk byte)
+      by (Ok u) q o = (q, cc)
+      by (Err e) q o = absurd (cc)
 
-  pub from_refused : (k : ℕ) → Refused k ≡ step_of m cs walk byte → (segment_code m cs walk byte ≡ k) × (k ≡ 0 → ⊥)
+  pub from_refused : (k : Code) → Err k ≡ step_of m cs walk byte → segment_code m cs walk byte ≡ Err k
   unfolding step_of
-  from_refused k o = by (eqb (segment_code m cs walk byte) 0) refl o
+  from_refused k o = by (segment_code m cs walk byte) refl o
     where
-      by : (s : Bool) → eqb (segment_code m cs walk byte) 0 ≡ s
-          → Refused k ≡ pick_step s (Drawn (traced_by cs walk byte)) (Refused (segment_code m cs walk byte))
-          → (segment_code m cs walk byte ≡ k) × (k ≡ 0 → ⊥)
-      by true q o = let z : ◌≡◌ {A = ℕ} 0 1 = cc in absurd (omega arith)
-      by false q o =
-          let e : segment_code m cs walk byte ≡ k = cc in
-          (e, λ z. eqb-false (segment_code m cs walk byte) 0 q (e ∙ z))
+      by : (r : Result Unit Code) → segment_code m cs walk byte ≡ r → Err k ≡ result_and r (Ok (traced_by cs walk byte)) → segment_code m cs walk byte ≡ Err k
+      by (Ok u) q o = absurd (cc)
+      by (Err e) q o = q ∙ cc

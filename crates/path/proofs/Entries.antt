@@ -1,10 +1,8 @@
 -- The entries of a matrix within its limits, and the sizes of the whole numbers that they become.
 use mathlib.Core.Path.{◌≡◌}
 use mathlib.Core.Bool.{true}
-use lib.Dec.{lit≤}
-use lib.Ieee.{Float}
 use Rattle.fixed.specs.Floats.{at_most}
-use Rattle.fixed.proofs.Scaled.{scaled_size, limit_raised}
+use Rattle.fixed.proofs.Scaled.{scaled_size}
 use Rattle.rect.proofs.Laws.{both}
 use Rattle.path.specs.declared.Matrix.{Matrix}
 use Rattle.path.specs.Matrices.{linear_limit, translation_limit, entries_in, matrix_in_limits, fixed_matrix}
@@ -26,23 +24,6 @@ entries m e =
     let b = both (at_most linear_limit m.shx) _ q.0 in
     let c = both (at_most translation_limit m.tx) _ q.1 in
     record { sx = a.0; shy = a.1; shx = b.0; sy = b.1; tx = c.0; ty = c.1 }
-
--- each is of a size that can be converted
-pub record Convertible (m : Matrix) : Type 0 where
-  pub sx : at_most translation_limit m.sx ≡ true
-  pub shy : at_most translation_limit m.shy ≡ true
-  pub shx : at_most translation_limit m.shx ≡ true
-  pub sy : at_most translation_limit m.sy ≡ true
-  pub tx : at_most translation_limit m.tx ≡ true
-  pub ty : at_most translation_limit m.ty ≡ true
-
-pub convertible : (m : Matrix) → matrix_in_limits m ≡ true → Convertible m
-convertible m e =
-    let k = entries m e in
-    record { sx = raised m.sx k.sx; shy = raised m.shy k.shy; shx = raised m.shx k.shx; sy = raised m.sy k.sy; tx = k.tx; ty = k.ty }
-  where
-    raised : (v : Float) → at_most linear_limit v ≡ true → at_most translation_limit v ≡ true
-    raised v = limit_raised linear_limit translation_limit v (lit≤ tt)
 
 -- and its whole number is small
 pub matrix_limited : (m : Matrix) → matrix_in_limits m ≡ true → Limited (fixed_matrix m)

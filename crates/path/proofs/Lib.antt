@@ -4,15 +4,11 @@
 --     Faults    the first fault of a path, and what a path without one has
 --     Untraced  plain segments under a small matrix are accepted
 -- For this crate alone:
---     Ands      two tests in a row
---     Sizes     a size judged by two tests
 --     Axes      one axis of a point: mirrored, with a coordinate added, transformed
 --     Traces    the points of a segment and the pen after it, by its kind
 pub mod Entries
 pub mod Codes
 pub mod Faults
 pub mod Untraced
-mod Ands
-mod Sizes
 mod Axes
 mod Traces

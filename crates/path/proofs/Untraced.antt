@@ -9,10 +9,10 @@ use native.Mathlib.Omega.{arith}
 use lib.Dec.{T, leb, eqb, le→leb}
 use lib.ListN.{length, get_or}
 use lib.IntN.{ℤ, pos, negsuc, nat_abs, ◌+ℤ◌, ◌*ℤ◌, +ℤ_idl}
-use borrow.Author.Tests.{leb-true, eqb-true, eq-eqb, le-leb, lt-leb}
+use borrow.Author.Tests.{leb-true, eqb-true}
 use mir.Syntax.{w16}
 use mir.Val.{SFits}
-use Rattle.codes.specs.Codes.{accepted_code}
+use Rattle.std.specs.Prelude.{Ok}
 use Rattle.rect.proofs.Laws.{both}
 use Rattle.fixed.specs.Little.{u16_at, i16_at}
 use Rattle.fixed.specs.Floor.{floor_div}
@@ -50,20 +50,6 @@ plain byte h =
     let b = both (eqb (byte % 2) 0) (leb byte 12) h in
     let e = eqb-true (byte % 2) 0 b.0 in
     record { absolute = rw e; few = leb-true byte 12 b.1 }
-
--- told by one number: an odd byte is raised above the last plain one
-pub is_plain_lem : (byte : ℕ) → byte + byte % 2 * 13 ≤ 12 → is_plain byte ≡ true
-is_plain_lem byte h =
-    let even : byte % 2 ≡ 0 = omega arith in
-    let few : byte ≤ 12 = omega arith in
-    rw (eq-eqb (byte % 2) 0 even, le-leb byte 12 few)
-
-pub not_plain : (byte : ℕ) → 12 < byte + byte % 2 * 13 → is_plain byte ≡ false
-not_plain byte h = by (eqb (byte % 2) 0) refl
-  where
-    by : (t : Bool) → eqb (byte % 2) 0 ≡ t → (t && leb byte 12) ≡ false
-    by true e = let even = eqb-true (byte % 2) 0 e in lt-leb byte 12 (omega arith)
-    by false e = refl
 
 pub plain_below : (ss : List ℕ) (n : ℕ) → plain_to ss n ≡ true → (i : ℕ) → i < n → get_or ss i 0 < 18
 plain_below ss zero h i l = absurd (not-suc-le-zero l)
@@ -152,7 +138,7 @@ module _ (m : FixedMatrix) (small : is_small m ≡ true) where
   -- ---- the walk over plain segments
   module _ (ss cs : List ℕ) (bytes : (i : ℕ) → get_or cs i 0 < 256) where
     record Walked (n : ℕ) : Type 0 where
-      pub fault : (fault_to m ss cs n).code ≡ 0
+      pub fault : fault_to m ss cs n ≡ Ok tt
       pub used : (walk_to ss cs n).used ≡ taken_to ss n
       pub start : T (in_range (walk_to ss cs n).pen.start)
       pub current : T (in_range (walk_to ss cs n).pen.current)
@@ -195,7 +181,7 @@ module _ (m : FixedMatrix) (small : is_small m ≡ true) where
         }
 
     pub plain_checked : (n u : ℕ) → plain_to ss n ≡ true → u ≡ taken_to ss n → 2 * u ≤ length cs
-        → record { fault = record { code = accepted_code; segment = n }; used = u } ≡ checked_to m ss cs n
+        → Ok u ≡ checked_to m ss cs n
     plain_checked n u h e l =
         let w = walked n h (rw e at l) in
-        rw (e ∙ sym w.used) (checked_accepted m ss cs n (walk_to ss cs n) w.fault refl)
+        checked_accepted m ss cs n u w.fault (e ∙ sym w.used)

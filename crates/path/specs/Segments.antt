@@ -3,8 +3,10 @@
 use Rattle.std.specs.Prelude.{ℕ, zero, suc, ◌+◌, ◌*◌, ◌/◌, ◌%◌, List, [], ◌∷◌, Bool, cond, ◌&&◌, get_or, length, leb, ltb, eqb, ℤ, pos, negsuc, ◌+ℤ◌, ◌-ℤ◌}
 use Rattle.std.specs.Prelude.{◌*ℤ◌}
 use Rattle.std.specs.Int.Signed.{le_z}
-use Rattle.codes.specs.Codes.{accepted_code, illegal_argument, unsupported_path_format}
-use Rattle.codes.specs.First.{soonest}
+use Rattle.std.specs.Prelude.{Result, Ok, Err}
+use Rattle.codes.specs.declared.Code.{Code}
+use Rattle.codes.specs.declared.Code.TheVariants.{IllegalArgument, UnsupportedPathFormat}
+use Rattle.codes.specs.First.{first_among}
 use Rattle.fixed.specs.Little.{i16_at}
 use Rattle.path.specs.Matrices.{transform, on_surface_grid}
 use Rattle.path.specs.declared.FixedMatrix.{FixedMatrix}
@@ -144,7 +146,7 @@ abbrev pub walk_to : List ℕ → List ℕ → ℕ → Walk
 walk_to segments coordinates zero = first_walk
 walk_to segments coordinates (suc n) = walk_on coordinates (walk_to segments coordinates n) (get_or segments n 0)
 
--- ---- the rules of a segment: 0, or the code of its refusal. A 567th coordinate, in edition 1 a 551st, is one past the
+-- ---- the rules of a segment: it is accepted, or refused with a code. A 567th coordinate, in edition 1 a 551st, is one past the
 -- bytes that a scene has for them
 abbrev pub curve_in_range : Curve → Bool
 curve_in_range c = in_range c.p1 && (in_range c.p2 && in_range c.p3)
@@ -152,21 +154,19 @@ curve_in_range c = in_range c.p1 && (in_range c.p2 && in_range c.p3)
 abbrev pub curve_on_grid : FixedMatrix → Curve → Bool
 curve_on_grid m c = on_surface_grid (transform m c.p1) && (on_surface_grid (transform m c.p2) && on_surface_grid (transform m c.p3))
 
-unfoldable pub segment_code : FixedMatrix → List ℕ → Walk → ℕ → ℕ
+unfoldable pub segment_code : FixedMatrix → List ℕ → Walk → ℕ → Result Unit Code
 segment_code m coordinates walk byte =
-    cond (is_arc byte) unsupported_path_format
-    (cond (is_none byte) illegal_argument
-    (cond (ltb (length coordinates) (2 * (walk.used + coordinates_taken byte))) illegal_argument
-    (cond (curve_in_range (curve_at coordinates walk byte) && curve_on_grid m (curve_at coordinates walk byte)) accepted_code illegal_argument)))
+    cond (is_arc byte) (Err UnsupportedPathFormat)
+    (cond (is_none byte) (Err IllegalArgument)
+    (cond (ltb (length coordinates) (2 * (walk.used + coordinates_taken byte))) (Err IllegalArgument)
+    (cond (curve_in_range (curve_at coordinates walk byte) && curve_on_grid m (curve_at coordinates walk byte)) (Ok tt) (Err IllegalArgument))))
 
--- a segment with that code: where it is 0, the walk goes on
-abbrev pub fault_at : ℕ → ℕ → PathFault
-fault_at code n = record { code = code; segment = cond (eqb code accepted_code) (suc n) n }
+-- what is found of segment n by its rules
+abbrev pub fault_at : Result Unit Code → ℕ → Result Unit PathFault
+fault_at (Ok _) n = Ok tt
+fault_at (Err code) n = Err (record { code = code; segment = n })
 
--- the first fault among the first n segments: its code and the segment's number; code 0 and n where there is none
-abbrev pub no_fault : PathFault
-no_fault = record { code = accepted_code; segment = 0 }
-
-abbrev pub fault_to : FixedMatrix → List ℕ → List ℕ → ℕ → PathFault
+-- the first fault among the first n segments: its code and the segment's number
+abbrev pub fault_to : FixedMatrix → List ℕ → List ℕ → ℕ → Result Unit PathFault
 fault_to m segments coordinates n =
-    soonest (λ f. f.code) no_fault n (λ i. fault_at (segment_code m coordinates (walk_to segments coordinates i) (get_or segments i 0)) i)
+    first_among n (λ i. fault_at (segment_code m coordinates (walk_to segments coordinates i) (get_or segments i 0)) i)

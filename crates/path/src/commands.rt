@@ -39,8 +39,7 @@ pub fn split(byte: u8) -> Segment
 pub fn returns(byte: u8) -> bool
     ensures { result ≡ leb (number byte) number_move }
 {
-    let s = split(byte);
-    s.command <= MOVE
+    split(byte).command <= MOVE
 }
 
 // How many coordinates a segment takes.
@@ -48,7 +47,6 @@ pub fn taken(byte: u8) -> usize
     requires { byte < 18 }
     ensures { (result ≡ coordinates_taken byte) × (result ≤ 6) }
 {
-    let s = split(byte);
-    let place = s.command as u64 * 4;
+    let place = split(byte).command as u64 * 4;
     (TAKEN >> place) as usize % 16
 }

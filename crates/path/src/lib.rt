@@ -10,6 +10,8 @@ pub mod rules;
 pub mod tracing;
 pub mod transform;
 
+use codes::Code;
+
 // The matrix before conversion.
 #[derive(Clone, Copy)]
 pub struct Matrix {
@@ -30,13 +32,6 @@ pub struct FixedMatrix {
     pub sy: i64,
     pub tx: i64,
     pub ty: i64,
-}
-
-// What a matrix of floats becomes.
-#[derive(Clone, Copy)]
-pub enum Converted {
-    Within(FixedMatrix),
-    OutOfLimits,
 }
 
 // A point: of a path in its own units, or on the surface in 1/256 pixel.
@@ -93,23 +88,9 @@ pub struct Traced {
     pub curve: Curve,
 }
 
-// The same, or the code of the segment's refusal.
-#[derive(Clone, Copy)]
-pub enum Step {
-    Drawn(Traced),
-    Refused(u32),
-}
-
-// A path's first refused segment and its code; code 0 where every segment is accepted.
-#[derive(Clone, Copy)]
+// A path's first refused segment, and the code of its refusal.
+#[derive(Clone, Copy, PartialEq, Eq)]
 pub struct PathFault {
-    pub code: u32,
+    pub code: Code,
     pub segment: usize,
-}
-
-// A path's fault, and the number of coordinates used where there is none.
-#[derive(Clone, Copy)]
-pub struct Checked {
-    pub fault: PathFault,
-    pub used: usize,
 }

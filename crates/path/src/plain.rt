@@ -18,14 +18,7 @@ pub fn is_plain(m: FixedMatrix, segments: &[u8], n: usize) -> bool
     requires { Limited m × (n ≤ length segments.now) }
     ensures { result ≡ (leb n 128 && (is_small m && plain_to segments.now n)) }
 {
-    if MOST_SEGMENTS < n {
-        return false;
-    }
-    if m.is_small() {
-        all_plain(segments, n)
-    } else {
-        false
-    }
+    n <= MOST_SEGMENTS && m.is_small() && all_plain(segments, n)
 }
 
 // Whether the first n segments are plain.
@@ -34,10 +27,8 @@ fn all_plain(segments: &[u8], n: usize) -> bool
     ensures { result ≡ plain_to segments.now n }
 {
     let mut plain = true;
-    let mut i = 0;
-    while i < n {
+    for i in 0..n {
         plain = still_plain(plain, segments[i]);
-        i += 1;
     }
     plain
 }
@@ -48,11 +39,7 @@ fn still_plain(all: bool, byte: u8) -> bool
     ensures { result ≡ (all && is_plain byte) }
 {
     let n = byte as u32;
-    if n + n % 2 * 13 <= LAST_PLAIN {
-        all
-    } else {
-        false
-    }
+    all && n + n % 2 * 13 <= LAST_PLAIN
 }
 
 // How many coordinates the first n segments take.
@@ -62,10 +49,8 @@ pub fn taken_by(segments: &[u8], n: usize) -> usize
     ensures { (result ≡ taken_to segments.now n) × (result ≤ 768) }
 {
     let mut used = 0;
-    let mut i = 0;
-    while i < n {
+    for i in 0..n {
         used += taken(segments[i]);
-        i += 1;
     }
     used
 }

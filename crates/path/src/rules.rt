@@ -7,84 +7,65 @@ ghost use Rattle.path.specs.Limits.{Limited, NearCurve, Ready};
 use crate::commands::{FIRST_ARC, LAST_ARC, split, taken};
 use crate::plain::{is_plain, taken_by};
 use crate::tracing::trace;
-use crate::{Checked, Curve, FixedMatrix, PathFault, Point, Step, Walk};
-use codes::{ACCEPTED, ILLEGAL_ARGUMENT, UNSUPPORTED_PATH_FORMAT};
+use crate::{Curve, FixedMatrix, PathFault, Point, Traced, Walk};
+use codes::Code;
 
-// The first fault among the first n segments.
-pub fn check(m: FixedMatrix, segments: &[u8], coordinates: &[u8], n: usize) -> Checked
+// How many coordinates the first n segments use, or the first fault among them.
+pub fn check(
+    m: FixedMatrix,
+    segments: &[u8],
+    coordinates: &[u8],
+    n: usize,
+) -> Result<usize, PathFault>
     requires { Limited m × (n ≤ length segments.now) }
     ensures { result ≡ checked_to m segments.now coordinates.now n }
 {
-    if !is_plain(m, segments, n) {
-        return check_each(m, segments, coordinates, n);
+    if is_plain(m, segments, n) {
+        let used = taken_by(segments, n);
+        if 2 * used <= coordinates.len() {
+            return Ok(used);
+        }
     }
-    let used = taken_by(segments, n);
-    if coordinates.len() < 2 * used {
-        return check_each(m, segments, coordinates, n);
-    }
-    Checked {
-        fault: PathFault {
-            code: ACCEPTED,
-            segment: n,
-        },
-        used,
-    }
+    check_each(m, segments, coordinates, n)
 }
 
 // The same, point by point.
-fn check_each(m: FixedMatrix, segments: &[u8], coordinates: &[u8], n: usize) -> Checked
+fn check_each(
+    m: FixedMatrix,
+    segments: &[u8],
+    coordinates: &[u8],
+    n: usize,
+) -> Result<usize, PathFault>
     requires { Limited m × (n ≤ length segments.now) }
     ensures { result ≡ checked_to m segments.now coordinates.now n }
 {
     let mut walk = Walk::new();
-    let mut i = 0;
-    while i < n {
-        let s = step(m, coordinates, walk, segments[i]);
-        match s {
-            Step::Drawn(t) => {
-                let next = t.walk;
-                walk = next;
-            }
-            Step::Refused(code) => {
-                return Checked {
-                    fault: PathFault { code, segment: i },
-                    used: 0,
-                };
-            }
+    for i in 0..n {
+        match step(m, coordinates, walk, segments[i]) {
+            Ok(t) => walk = t.walk,
+            Err(code) => return Err(PathFault { code, segment: i }),
         }
-        i += 1;
     }
-    Checked {
-        fault: PathFault {
-            code: ACCEPTED,
-            segment: n,
-        },
-        used: walk.used,
-    }
+    Ok(walk.used)
 }
 
-// What one segment makes of the walk before it.
-pub fn step(m: FixedMatrix, coordinates: &[u8], walk: Walk, byte: u8) -> Step
+// What one segment makes of the walk before it, or the code of its refusal.
+pub fn step(m: FixedMatrix, coordinates: &[u8], walk: Walk, byte: u8) -> Result<Traced, Code>
     requires { Limited m × Ready coordinates.now walk }
     ensures { result ≡ step_of m coordinates.now walk byte }
 {
-    let s = split(byte);
-    let command = s.command;
-    if FIRST_ARC <= command {
-        if command <= LAST_ARC {
-            return Step::Refused(UNSUPPORTED_PATH_FORMAT);
-        }
-        return Step::Refused(ILLEGAL_ARGUMENT);
+    let command = split(byte).command;
+    if FIRST_ARC <= command && command <= LAST_ARC {
+        return Err(Code::UnsupportedPathFormat);
     }
-    if coordinates.len() < 2 * (walk.used + taken(byte)) {
-        return Step::Refused(ILLEGAL_ARGUMENT);
+    if LAST_ARC < command || coordinates.len() < 2 * (walk.used + taken(byte)) {
+        return Err(Code::IllegalArgument);
     }
     let t = trace(coordinates, walk, byte);
-    let curve = t.curve;
-    if accepts(m, curve) {
-        Step::Drawn(t)
+    if accepts(m, t.curve) {
+        Ok(t)
     } else {
-        Step::Refused(ILLEGAL_ARGUMENT)
+        Err(Code::IllegalArgument)
     }
 }
 

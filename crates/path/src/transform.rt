@@ -6,7 +6,7 @@ ghost use Rattle.path.specs.Answers.{converted};
 ghost use Rattle.path.specs.Plain.{axis_small, is_small};
 ghost use Rattle.path.specs.Limits.{Limited, Near};
 
-use crate::{Converted, FixedMatrix, Matrix, Point};
+use crate::{FixedMatrix, Matrix, Point};
 use fixed::{at_most, to_whole};
 
 impl Matrix {
@@ -40,11 +40,12 @@ impl FixedMatrix {
     pub const ONE: u32 = 65536;
 
     // The floats in 1/65,536, if they are within their limits.
-    pub fn from_floats(m: Matrix) -> Converted
+    #[tactic(auto, unfolding(crate::specs::Answers::converted))]
+    pub fn from_floats(m: Matrix) -> Option<FixedMatrix>
         ensures { result ≡ converted m }
     {
         if m.in_limits() {
-            Converted::Within(FixedMatrix {
+            Some(FixedMatrix {
                 sx: to_whole(m.sx, FixedMatrix::ONE),
                 shy: to_whole(m.shy, FixedMatrix::ONE),
                 shx: to_whole(m.shx, FixedMatrix::ONE),
@@ -53,7 +54,7 @@ impl FixedMatrix {
                 ty: to_whole(m.ty, FixedMatrix::ONE),
             })
         } else {
-            Converted::OutOfLimits
+            None
         }
     }
 
@@ -66,6 +67,7 @@ impl FixedMatrix {
     }
 
     // Whether the sizes of the entries tell that every point in range is taken to one that is not too far out.
+    #[tactic(auto, unfolding(crate::specs::Plain::is_small))]
     pub fn is_small(self) -> bool
         requires { Limited self }
         ensures { result ≡ is_small self }
@@ -120,21 +122,11 @@ fn axis_small(a: i64, b: i64, t: i64) -> bool
     requires { (nat_abs a ≤ 16777216) × (nat_abs b ≤ 16777216) × (nat_abs t ≤ 2147483648) }
     ensures { result ≡ axis_small a b t }
 {
-    (size(a) + size(b)) * 32768 + size(t) <= 2147483520
-}
-
-// A number without its sign.
-fn size(z: i64) -> u64
-    ensures { result ≡ nat_abs z }
-{
-    if z < 0 {
-        return (-1 - z) as u64 + 1;
-    }
-    z as u64
+    (a.unsigned_abs() + b.unsigned_abs()) * 32768 + t.unsigned_abs() <= 2147483520
 }
 
 fn on_grid(z: i64) -> bool
     ensures { result ≡ leb (nat_abs z) surface_limit }
 {
-    -FixedMatrix::SURFACE_LIMIT <= z && z <= FixedMatrix::SURFACE_LIMIT
+    z.unsigned_abs() <= FixedMatrix::SURFACE_LIMIT as u64
 }

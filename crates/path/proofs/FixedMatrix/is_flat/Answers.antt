@@ -34,14 +34,6 @@ shears c = mul (entry c.args.self.shx c.requires.shx) (entry c.args.self.shy c.r
 abbrev difference : goal.After-struct_told-2-1 → Num
 difference c = sub (keep w64 (scales c.before.before.before.before) tt) (keep w64 (shears c) tt)
 
-pub overflow_mul-result : goal.overflow_mul-result
-overflow_mul-result c =
-    need (scales c.before.before.before) tt
-
-pub overflow_mul-result-2 : goal.overflow_mul-result-2
-overflow_mul-result-2 c =
-    need (shears c) tt
-
 pub overflow_sub-result : goal.overflow_sub-result
 overflow_sub-result c =
     need (difference c) tt

@@ -8,7 +8,7 @@ use Rattle.path.specs.declared.Point.{Point}
 use Rattle.path.specs.declared.Segment.{Segment}
 use Rattle.path.specs.Segments.{pair_at, base, coordinate_from}
 use Rattle.path.specs.Limits.{Near}
-use Rattle.path.proofs.Axes.{offset_asked, offset_told}
+use Rattle.path.proofs.Axes.{offset_told}
 use Rattle.path.proofs.Traces.{taken_by, enough_at, near_base, pen_close, pen_move, pen_line, pen_horizontal, pen_vertical}
 use Rattle.path.proofs.tracing.line_pen.Goals as goal
 use Rattle.path.proofs.tracing.line_pen.Tie as tie
@@ -34,23 +34,6 @@ enough split k e = enough_at split.args.coordinates.now split.args.walk split.ar
 at_base : (split : lts.After-split tie.the-claims reads.Pre reads.Post) (p : Point) → p ≡ pair_at split.base-base.result (coordinate split) 0
     → p ≡ pair_at (base split.args.byte split.args.walk.pen) (coordinate split) 0
 at_base split p e = e ∙ ap (λ (o : Point). pair_at o (coordinate split) 0) split.base-base.ensures
-
-pub pair_at-requires : goal.pair_at-requires
-pair_at-requires c =
-    (omega (arith, enough c.before.before 1 c.in-1.is), near c.before.before.before)
-
-pub pair_at-requires-in-2 : goal.pair_at-requires-in-2
-pair_at-requires-in-2 c =
-    (omega (arith, enough c.before.before 2 c.in-2.is), near c.before.before.before)
-
-pub offset-requires : goal.offset-requires
-offset-requires c =
-    (omega (arith, enough c.before.before.before 3 c.in-3.is), offset_asked c.base-base.result.x (near c.before.before.before.before).x)
-
-pub offset-requires-in_default : goal.offset-requires-in_default
-offset-requires-in_default c =
-    let vertical : c.split-s.result.command ≡ 4 = omega (arith, kind c.before.before.before _ refl) in
-    (omega (arith, enough c.before.before.before 4 vertical), offset_asked c.base-base.result.y (near c.before.before.before.before).y)
 
 pub returns-in-0 : goal.returns-in-0
 returns-in-0 c =

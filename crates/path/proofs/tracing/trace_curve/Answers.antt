@@ -12,7 +12,7 @@ use Rattle.path.specs.declared.Traced.{Traced}
 use Rattle.path.specs.Segments.{pair_at, base, quad_to, cubic_to, coordinate_from, coordinates_taken}
 use Rattle.path.specs.Answers.{traced_as, traced_by}
 use Rattle.path.specs.Limits.{Near}
-use Rattle.path.proofs.Traces.{taken_by, enough_at, curve_takes, near_base, traced_quad, traced_cubic, traced_smooth_quad, traced_smooth_cubic}
+use Rattle.path.proofs.Traces.{taken_by, enough_at, near_base, traced_quad, traced_cubic, traced_smooth_quad, traced_smooth_cubic}
 use Rattle.path.proofs.tracing.trace_curve.Goals as goal
 use Rattle.path.proofs.tracing.trace_curve.Tie as tie
 use Rattle.path.proofs.tracing.trace_curve.Lts as lts
@@ -44,44 +44,6 @@ kind split k e = sym (ap (λ (s : Segment). s.command) split.split-s.ensures) �
 enough : (split : lts.After-split tie.the-claims reads.Pre reads.Post) → (k : ℕ) → split.split-s.result.command ≡ k
     → 2 * (split.args.walk.used + taken_by k) ≤ length split.args.coordinates.now
 enough split k e = enough_at split.args.coordinates.now split.args.walk split.args.byte k split.requires.0 ((kind split k) e)
-
-pub taken-requires : goal.taken-requires
-taken-requires c =
-    let pre = c.requires in
-    pre.0.segment
-
-pub overflow_add-next : goal.overflow_add-next
-overflow_add-next c =
-    let pre = c.requires in
-    omega (arith, pre.0.enough)
-
-pub pair_at-p-requires : goal.pair_at-p-requires
-pair_at-p-requires c =
-    (omega (arith, c.requires.0.enough, curve_takes c.args.byte c.requires.0.segment c.requires.1), near c.before)
-
-pub pair_at-q-requires : goal.pair_at-q-requires
-pair_at-q-requires c =
-    (omega (arith, enough c.before.before 5 c.in-5.is), near c.before.before.before.before)
-
-pub pair_at-q-requires-in-6 : goal.pair_at-q-requires-in-6
-pair_at-q-requires-in-6 c =
-    (omega (arith, enough c.before.before 6 c.in-6.is), near c.before.before.before.before)
-
-pub pair_at-r-requires : goal.pair_at-r-requires
-pair_at-r-requires c =
-    (omega (arith, enough c.before.before.before 6 c.in-6.is), near c.before.before.before.before.before)
-
-pub reflected-c-requires : goal.reflected-c-requires
-reflected-c-requires c =
-    c.requires.0.held
-
-pub smooth_quad_to-requires : goal.smooth_quad_to-requires
-smooth_quad_to-requires c =
-    c.requires.0.held
-
-pub reflected-c-requires-in_default : goal.reflected-c-requires-in_default
-reflected-c-requires-in_default c =
-    c.requires.0.held
 
 pub pair_at-q-requires-in_default : goal.pair_at-q-requires-in_default
 pair_at-q-requires-in_default c =

@@ -1,26 +1,11 @@
 -- `path::tracing::trace_line` meets its contract. Assumes nothing.
 use mathlib.Core.Path.{ap, ◌∙◌}
 use Prim.Native.Nat.{◌+◌}
-use native.Mathlib.Omega.{arith}
 use Rattle.path.specs.declared.Pen.{Pen}
 use Rattle.path.specs.Segments.{line_to, coordinate_from}
 use Rattle.path.specs.Answers.{traced_as, traced_by}
 use Rattle.path.proofs.Traces.{line_end}
 use Rattle.path.proofs.tracing.trace_line.Goals as goal
-
-pub taken-requires : goal.taken-requires
-taken-requires c =
-    c.requires.0.segment
-
-pub overflow_add-next : goal.overflow_add-next
-overflow_add-next c =
-    let pre = c.requires in
-    omega (arith, pre.0.enough)
-
-pub line_pen-pen-requires : goal.line_pen-pen-requires
-line_pen-pen-requires c =
-    let pre = c.requires in
-    pre
 
 pub returns : goal.returns
 unfolding traced_by

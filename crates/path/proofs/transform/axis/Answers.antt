@@ -34,22 +34,6 @@ moved c = add (keep w64 (sum c) tt) (t c)
 abbrev half : goal.Start → Num
 half c = add (keep w64 (moved c) tt) (lit 128)
 
-pub overflow_cast-result : goal.overflow_cast-result
-overflow_cast-result c =
-    need (x c) tt
-
-pub overflow_mul-result : goal.overflow_mul-result
-overflow_mul-result c =
-    need (ax c) tt
-
-pub overflow_cast-result-2 : goal.overflow_cast-result-2
-overflow_cast-result-2 c =
-    need (y c) tt
-
-pub overflow_mul-result-2 : goal.overflow_mul-result-2
-overflow_mul-result-2 c =
-    need (by c) tt
-
 pub overflow_add-result : goal.overflow_add-result
 overflow_add-result c =
     need (sum c) tt
