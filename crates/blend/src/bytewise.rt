@@ -5,30 +5,16 @@ ghost use Rattle.blend.specs.PorterDuff.{mode_src_over, blended};
 ghost use Rattle.blend.specs.Unmasked.{unmasked_on};
 ghost use Rattle.blend.specs.Spans.{four_of, keep_pixel, stored_pixel, masked_pixel, word_of, Opaque};
 
-use crate::step::{least, masked_byte, stored_byte};
+use crate::step::{masked_byte, stored_byte};
 use color::Pixel;
-
-// All bytes of the paint.
-pub fn copy_row(src: &[u8], row: &mut [u8])
-    requires { length row.old ≡ length src.now }
-    ensures { row.new ≡ src.now }
-{
-    let mut i = 0;
-    while i < row.len() {
-        row[i] = src[i];
-        i += 1;
-    }
-}
 
 // n pixels of a paint that hides what is under it, under one coverage.
 pub fn store_row(coverage: u8, src: &[u8], row: &mut [u8], n: usize)
     requires { (coverage ≤ 16) × (length src.now ≡ n * 4) × (length row.old ≡ n * 4) }
     ensures { row.new ≡ run n (λ i. stored_pixel coverage (pixel_in src.now i) (pixel_in row.old i)) }
 {
-    let mut i = 0;
-    while i < row.len() {
+    for i in 0..row.len() {
         row[i] = stored_byte(coverage, src[i], row[i]);
-        i += 1;
     }
 }
 
@@ -38,10 +24,8 @@ pub fn over_row(src: &[u8], keep: &[u8], row: &mut [u8], n: usize)
     requires keep_value { keep.now ≡ run n (λ i. keep_pixel (pixel_in src.now i)) }
     ensures { row.new ≡ run n (λ i. unmasked_on mode_src_over 16 (pixel_in src.now i) (pixel_in row.old i)) }
 {
-    let mut i = 0;
-    while i < row.len() {
+    for i in 0..row.len() {
         row[i] = over_byte(src[i], keep[i], row[i]);
-        i += 1;
     }
 }
 
@@ -51,11 +35,9 @@ pub fn over_row_under(coverage: u8, src: &[u8], keep: &[u8], row: &mut [u8], n: 
     requires keep_value { keep.now ≡ run n (λ i. keep_pixel (pixel_in src.now i)) }
     ensures { row.new ≡ run n (λ i. unmasked_on mode_src_over coverage (pixel_in src.now i) (pixel_in row.old i)) }
 {
-    let mut i = 0;
-    while i < row.len() {
+    for i in 0..row.len() {
         let b = over_byte(src[i], keep[i], row[i]);
         row[i] = stored_byte(coverage, b, row[i]);
-        i += 1;
     }
 }
 
@@ -64,11 +46,9 @@ pub fn keep_row(src: &[u8], keep: &mut [u8], n: usize)
     requires { (length src.now ≡ n * 4) × (length keep.old ≡ n * 4) }
     ensures { keep.new ≡ run n (λ i. keep_pixel (pixel_in src.now i)) }
 {
-    let mut i = 0;
-    while i < n {
+    for i in 0..n {
         let p = raster::pixel(src, i);
         raster::put_pixel(keep, i, kept(p));
-        i += 1;
     }
 }
 
@@ -78,10 +58,8 @@ pub fn masked_row(coverage: u8, src: &[u8], wide: &[u8], row: &mut [u8], n: usiz
     ensures { row.new
         ≡ run n (λ i. masked_pixel coverage (pixel_in wide.now i) (pixel_in src.now i) (pixel_in row.old i)) }
 {
-    let mut i = 0;
-    while i < row.len() {
+    for i in 0..row.len() {
         row[i] = masked_byte(coverage, wide[i], src[i], row[i]);
-        i += 1;
     }
 }
 
@@ -90,10 +68,8 @@ pub fn spread_row(mask: &[u8], wide: &mut [u8], n: usize)
     requires { (length mask.now ≡ n) × (length wide.old ≡ n * 4) }
     ensures { wide.new ≡ run n (λ i. four_of (get_or mask.now i 0)) }
 {
-    let mut i = 0;
-    while i < n {
+    for i in 0..n {
         raster::put_pixel(wide, i, four(mask[i]));
-        i += 1;
     }
 }
 
@@ -103,10 +79,8 @@ pub fn is_opaque(src: &[u8], n: usize) -> bool
     ensures { result ≡ true → Opaque src.now n }
 {
     let mut all: u32 = 4294967295;
-    let mut i = 0;
-    while i < n {
-        all = all & word(raster::pixel(src, i));
-        i += 1;
+    for i in 0..n {
+        all &= word(raster::pixel(src, i));
     }
     all >= 4278190080
 }
@@ -116,7 +90,7 @@ fn over_byte(s: u8, keep: u8, d: u8) -> u8
     ensures { result ≡ blended s 255 d keep }
 {
     let x = (d as u16) * (keep as u16) + 128;
-    least((s as u16) + ((x + (x >> 8)) >> 8), 255) as u8
+    ((s as u16) + ((x + (x >> 8)) >> 8)).min(255) as u8
 }
 
 // What a pixel's bytes keep of what is under them. Made of the whole number and by `|`: a loop over the alpha alone, or with the product of `four`, becomes

@@ -3,8 +3,8 @@ ghost use Rattle.std.specs.Prelude.{◌≡◌, ◌*◌, ◌≤◌, length, get_o
 ghost use Rattle.raster.specs.Surface.{run, pixel_in};
 ghost use Rattle.blend.specs.PorterDuff.{composite_on};
 
-use crate::bytewise::{copy_row, masked_row, spread_row};
-use crate::span::{composite_painted, sooner};
+use crate::bytewise::{masked_row, spread_row};
+use crate::span::composite_painted;
 use crate::step::composite_on;
 
 // n pixels, with a pixel of paint and a byte of the mask for each.
@@ -31,8 +31,7 @@ fn mask_pixels(mode: u16, coverage: u8, mask: &[u8], src: &[u8], row: &mut [u8],
     ensures { row.new
         ≡ run n (λ i. composite_on mode coverage (get_or mask.now i 0) (pixel_in src.now i) (pixel_in row.old i)) }
 {
-    let mut i = 0;
-    while i < n {
+    for i in 0..n {
         let p = composite_on(
             mode,
             coverage,
@@ -41,7 +40,6 @@ fn mask_pixels(mode: u16, coverage: u8, mask: &[u8], src: &[u8], row: &mut [u8],
             raster::pixel(row, i),
         );
         raster::put_pixel(row, i, p);
-        i += 1;
     }
 }
 
@@ -63,7 +61,7 @@ fn masked_blocks(
 {
     let mut i = 0;
     while i < n {
-        let e = sooner(i + 128, n);
+        let e = (i + 128).min(n);
         let from = i * 4;
         let to = e * 4;
         let m = to - from;
@@ -97,7 +95,7 @@ fn masked_block(
     ensures { row.new
         ≡ run n (λ i. composite_on mode coverage (get_or mask.now i 0) (pixel_in src.now i) (pixel_in row.old i)) }
 {
-    copy_row(row, blended);
+    blended.copy_from_slice(row);
     composite_painted(mode, 16, src, blended, n);
     spread_row(mask, wide, n);
     masked_row(coverage, blended, wide, row, n);

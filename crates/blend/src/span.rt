@@ -5,7 +5,7 @@ ghost use Rattle.blend.specs.PorterDuff.{mode_src_over};
 ghost use Rattle.blend.specs.Unmasked.{unmasked_on};
 ghost use Rattle.blend.specs.Spans.{keep_pixel, stored_pixel, Hiding};
 
-use crate::bytewise::{copy_row, is_opaque, keep_row, over_row, over_row_under, store_row};
+use crate::bytewise::{is_opaque, keep_row, over_row, over_row_under, store_row};
 use crate::factor::{SRC, SRC_OVER, hides};
 use crate::step::{blend_pixel, stored_pixel};
 use color::Pixel;
@@ -78,11 +78,9 @@ fn store_pixels(coverage: u8, src: Pixel, row: &mut [u8], n: usize)
     requires { (coverage ≤ 16) × (length row.old ≡ n * 4) }
     ensures { row.new ≡ run n (λ i. stored_pixel coverage src (pixel_in row.old i)) }
 {
-    let mut i = 0;
-    while i < n {
+    for i in 0..n {
         let p = stored_pixel(coverage, src, raster::pixel(row, i));
         raster::put_pixel(row, i, p);
-        i += 1;
     }
 }
 
@@ -92,7 +90,7 @@ fn store_painted(coverage: u8, src: &[u8], row: &mut [u8], n: usize)
     ensures { row.new ≡ run n (λ i. stored_pixel coverage (pixel_in src.now i) (pixel_in row.old i)) }
 {
     if coverage == 16 {
-        copy_row(src, row);
+        row.copy_from_slice(src);
         return;
     }
     store_row(coverage, src, row, n);
@@ -110,7 +108,7 @@ pub fn over_laid(coverage: u8, paint: &[u8], keep: &[u8], row: &mut [u8], n: usi
     }
     let mut i = 0;
     while i < n {
-        let e = sooner(i + 16, n);
+        let e = (i + 16).min(n);
         let from = i * 4;
         let to = e * 4;
         let m = to - from;
@@ -155,7 +153,7 @@ fn over_kept(coverage: u8, src: &[u8], keep: &mut [u8], row: &mut [u8], n: usize
 {
     let mut i = 0;
     while i < n {
-        let e = sooner(i + 128, n);
+        let e = (i + 128).min(n);
         let from = i * 4;
         let to = e * 4;
         let m = to - from;
@@ -192,23 +190,14 @@ fn over_part(coverage: u8, src: &[u8], keep: &[u8], row: &mut [u8], n: usize)
     over_row_under(coverage, src, keep, row, n);
 }
 
-// The smaller of two places.
-pub fn sooner(a: usize, b: usize) -> usize
-    ensures { result ≡ min a b }
-{
-    if a < b { a } else { b }
-}
-
 // A pixel in any mode.
 fn blend_span(mode: u16, coverage: u8, src: Pixel, row: &mut [u8], n: usize)
     requires { (coverage ≤ 16) × (length row.old ≡ n * 4) }
     ensures { row.new ≡ run n (λ i. unmasked_on mode coverage src (pixel_in row.old i)) }
 {
-    let mut i = 0;
-    while i < n {
+    for i in 0..n {
         let p = blend_pixel(mode, coverage, src, raster::pixel(row, i));
         raster::put_pixel(row, i, p);
-        i += 1;
     }
 }
 
@@ -217,10 +206,8 @@ fn blend_painted(mode: u16, coverage: u8, src: &[u8], row: &mut [u8], n: usize)
     requires { (coverage ≤ 16) × (length src.now ≡ n * 4) × (length row.old ≡ n * 4) }
     ensures { row.new ≡ run n (λ i. unmasked_on mode coverage (pixel_in src.now i) (pixel_in row.old i)) }
 {
-    let mut i = 0;
-    while i < n {
+    for i in 0..n {
         let p = blend_pixel(mode, coverage, raster::pixel(src, i), raster::pixel(row, i));
         raster::put_pixel(row, i, p);
-        i += 1;
     }
 }

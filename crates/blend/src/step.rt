@@ -137,18 +137,11 @@ fn clamp(dst: Pixel) -> Pixel
     ensures { result ≡ clamped dst }
 {
     Pixel {
-        r: cut(dst.r, dst.a),
-        g: cut(dst.g, dst.a),
-        b: cut(dst.b, dst.a),
+        r: dst.r.min(dst.a),
+        g: dst.g.min(dst.a),
+        b: dst.b.min(dst.a),
         a: dst.a,
     }
-}
-
-// A channel, at most its alpha.
-fn cut(c: u8, a: u8) -> u8
-    ensures { result ≡ min c a }
-{
-    if c < a { c } else { a }
 }
 
 // B. What is divided by 255 may be up to 130,177; from 65,025 on B is 255, so it is cut where the division ends.
@@ -156,14 +149,7 @@ fn blended_byte(s: u8, fs: u8, d: u8, fd: u8) -> u8
     ensures { result ≡ blended s fs d fd }
 {
     let p = (s as u16) * (fs as u16) + 127;
-    over_255(p + least((d as u16) * (fd as u16), 65279 - p))
-}
-
-// The smaller of two.
-pub fn least(a: u16, b: u16) -> u16
-    ensures { result ≡ min a b }
-{
-    if a < b { a } else { b }
+    over_255(p + ((d as u16) * (fd as u16)).min(65279 - p))
 }
 
 // What is stored of B over d, without a mask.

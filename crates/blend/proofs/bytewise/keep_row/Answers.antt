@@ -3,26 +3,19 @@ use mathlib.Core.Path.{ap, ◌∙◌}
 use native.Mathlib.Omega.{arith}
 use Rattle.raster.proofs.Runs.{stored_none, stored_turn, stored_all}
 use Rattle.blend.specs.Spans.{keep_pixel}
-use borrow.Author.Rules.{rules}
 use Rattle.blend.proofs.bytewise.keep_row.Goals as goal
 
 pub loop-i-init : goal.loop-i-init
 loop-i-init c =
-    (omega arith, stored_none _ _)
-
-pub kept-requires : goal.kept-requires
-kept-requires c =
-    tt
+    stored_none _ _
 
 pub loop-i-preserved : goal.loop-i-preserved
 loop-i-preserved c =
     let made = c.kept in
-    let put = c.put_pixel in (
-      search rules,
-      stored_turn c.loop-i.invariant.1 put.new.s made.result put.ensures (made.ensures ∙ ap keep_pixel c.pixel-p.ensures)
-          (omega (arith, c.requires)),
-    )
+    let put = c.put_pixel in
+    stored_turn c.loop-i.invariant put.new.s made.result put.ensures (made.ensures ∙ ap keep_pixel c.pixel-p.ensures)
+          (omega (arith, c.requires))
 
 pub returns : goal.returns
 returns c =
-    stored_all c.loop-i.invariant.1 c.args.n (omega arith) c.requires.1
+    stored_all c.loop-i.invariant c.args.n (omega arith) c.requires.1

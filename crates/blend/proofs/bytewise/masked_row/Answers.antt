@@ -6,7 +6,6 @@ use lib.ListN.{get_or, length-set}
 use Rattle.lists.proofs.Laws.{tab_turn, tab_all, tab_read}
 use Rattle.blend.specs.PorterDuff.{stored}
 use Rattle.blend.proofs.Bytes.{masked_at, masked_bytes}
-use borrow.Author.Rules.{rules}
 use Rattle.blend.proofs.bytewise.masked_row.Goals as goal
 
 pub loop-i-preserved : goal.loop-i-preserved
@@ -14,19 +13,18 @@ loop-i-preserved c =
     let a = c.args in
     let l = c.loop-i in
     let f : ℕ → ℕ = masked_at a.coverage a.wide.now a.src.now a.row.now in (
-      search rules,
       simp length-set (omega arith),
       tab_turn f l.row a.row.now l.i c.masked_byte.result
           (c.masked_byte.ensures
           ∙ ap (λ (d : ℕ). stored a.coverage (get_or a.wide.now l.i 0) (get_or a.src.now l.i 0) d)
-          (tab_read f l.row a.row.now l.i 0 l.invariant.2))
-          l.invariant.2 (omega (arith, c.requires)),
+          (tab_read f l.row a.row.now l.i 0 l.invariant.1))
+          l.invariant.1 (omega (arith, c.requires)),
     )
 
 pub returns : goal.returns
 returns c =
     let a = c.args in
     let l = c.loop-i in
-    tab_all (masked_at a.coverage a.wide.now a.src.now a.row.now) l.row a.row.now l.i (a.n * 4) l.invariant.2 (omega arith)
+    tab_all (masked_at a.coverage a.wide.now a.src.now a.row.now) l.row a.row.now l.i (a.n * 4) l.invariant.1 (omega arith)
     (omega (arith, c.requires))
     ∙ masked_bytes a.n a.coverage a.wide.now a.src.now a.row.now

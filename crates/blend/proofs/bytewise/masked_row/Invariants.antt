@@ -1,6 +1,6 @@
 -- `blend::masked_row` meets its contract: the bytes before i are stored, and the others are as they were. Assumes nothing.
 use mathlib.Core.Path.{◌≡◌}
-use Prim.Native.Nat.{◌-◌, ◌*◌, ◌≤◌}
+use Prim.Native.Nat.{◌*◌}
 use lib.ListN.{length}
 use Rattle.lists.specs.Lists.{tab, over}
 use Rattle.blend.proofs.Bytes.{masked_at}
@@ -9,7 +9,4 @@ use Rattle.blend.proofs.bytewise.masked_row.Given as goal
 -- `blend::masked_row` meets its contract: the bytes before i are stored, and the others are as they were. Assumes nothing.
 abbrev pub invariant-loop-i : goal.invariant-loop-i
 invariant-loop-i l =
-    (l.i ≤ l.n * 4) × (length l.row ≡ l.n * 4) × (l.row ≡ over (tab l.i (masked_at l.coverage l.wide l.src l.initial.row)) l.initial.row)
-
-abbrev pub decreases-loop-i : goal.decreases-loop-i
-decreases-loop-i l = l.n * 4 - l.i
+    (length l.row ≡ l.n * 4) × (l.row ≡ over (tab l.i (masked_at l.coverage l.wide l.src l.initial.row)) l.initial.row)

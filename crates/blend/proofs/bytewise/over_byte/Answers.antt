@@ -24,14 +24,10 @@ pub overflow_add-s : goal.overflow_add-s
 overflow_add-s c =
     omega (arith, kept c)
 
-pub least-requires : goal.least-requires
-least-requires c =
-    tt
-
 pub overflow_cast-result : goal.overflow_cast-result
 overflow_cast-result c =
-    omega (arith, c.least.ensures)
+    omega (arith, c.min.ensures)
 
 pub returns : goal.returns
 returns c =
-    over_by_shifts c.args.s (c.args.d * c.args.keep) c.least.result (kept c.before) c.least.ensures
+    over_by_shifts c.args.s (c.args.d * c.args.keep) c.min.result (kept c.before) c.min.ensures

@@ -9,39 +9,32 @@ use Rattle.raster.proofs.Pixels.{run_length}
 use Rattle.blend.specs.PorterDuff.{blended, stored_unmasked}
 use Rattle.blend.specs.Spans.{keep_pixel}
 use Rattle.blend.proofs.Bytes.{over_stored_at, over_stored_bytes}
-use borrow.Author.Rules.{rules}
 use Rattle.blend.proofs.bytewise.over_row_under.Goals as goal
-use Rattle.blend.proofs.bytewise.over_row_under.Tie as tie
-use Rattle.blend.proofs.bytewise.over_row_under.Lts as lts
-use Rattle.blend.proofs.bytewise.over_row_under.Reads as reads
-
-keep-length : (c : lts.Start tie.the-claims reads.Pre reads.Post goal.the-invariant-loop-i goal.the-decreases-loop-i tie.handed_clauses)
-    → length c.args.keep.now ≡ c.args.n * 4
-keep-length c = ap length c.requires.keep_value ∙ run_length c.args.n (λ i. keep_pixel (pixel_in c.args.src.now i))
 
 pub bounds-keep-i : goal.bounds-keep-i
 bounds-keep-i c =
-    omega (arith, keep-length c.before.before.before.before.before.before.before.before)
+    let a = c.args in
+    let wide : length a.keep.now ≡ a.n * 4 = ap length c.requires.keep_value ∙ run_length a.n (λ i. keep_pixel (pixel_in a.src.now i)) in
+    omega arith
 
 pub loop-i-preserved : goal.loop-i-preserved
 loop-i-preserved c =
     let a = c.args in
     let l = c.loop-i in
     let f : ℕ → ℕ = over_stored_at a.coverage a.src.now a.keep.now a.row.now in (
-      search rules,
       simp length-set (omega arith),
       tab_turn f l.row a.row.now l.i c.stored_byte.result
           (c.stored_byte.ensures
           ∙ ap (λ (b : ℕ). stored_unmasked a.coverage b (get_or l.row l.i 0)) c.over_byte-b.ensures
           ∙ ap (λ (d : ℕ). stored_unmasked a.coverage (blended (get_or a.src.now l.i 0) 255 d (get_or a.keep.now l.i 0)) d)
-          (tab_read f l.row a.row.now l.i 0 l.invariant.2))
-          l.invariant.2 (omega (arith, c.requires)),
+          (tab_read f l.row a.row.now l.i 0 l.invariant.1))
+          l.invariant.1 (omega (arith, c.requires)),
     )
 
 pub returns : goal.returns
 returns c =
     let a = c.args in
     let l = c.loop-i in
-    tab_all (over_stored_at a.coverage a.src.now a.keep.now a.row.now) l.row a.row.now l.i (a.n * 4) l.invariant.2 (omega arith)
+    tab_all (over_stored_at a.coverage a.src.now a.keep.now a.row.now) l.row a.row.now l.i (a.n * 4) l.invariant.1 (omega arith)
     (omega (arith, c.requires))
     ∙ over_stored_bytes a.n a.src.now a.keep.now a.row.now c.requires.keep_value a.coverage

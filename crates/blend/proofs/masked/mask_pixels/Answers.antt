@@ -7,12 +7,11 @@ use Rattle.color.specs.declared.Pixel.{Pixel}
 use Rattle.raster.specs.Surface.{pixel_in}
 use Rattle.raster.proofs.Runs.{stored_none, stored_step, stored_all}
 use Rattle.blend.specs.PorterDuff.{composite_on}
-use borrow.Author.Rules.{rules}
 use Rattle.blend.proofs.masked.mask_pixels.Goals as goal
 
 pub loop-i-init : goal.loop-i-init
 loop-i-init c =
-    (omega arith, stored_none _ _)
+    stored_none _ _
 
 pub loop-i-preserved : goal.loop-i-preserved
 loop-i-preserved c =
@@ -20,13 +19,11 @@ loop-i-preserved c =
     let m = get_or a.mask.now c.loop-i.i 0 in
     let step : ℕ → Pixel → Pixel = λ j. composite_on a.mode a.coverage (get_or a.mask.now j 0) (pixel_in a.src.now j) in
     let made = c.composite_on-p in
-    let put = c.put_pixel in (
-      search rules,
-      stored_step step c.loop-i.invariant.1 put.new.s made.result put.ensures
+    let put = c.put_pixel in
+    stored_step step c.loop-i.invariant put.new.s made.result put.ensures
           (made.ensures ∙ ap₂ (composite_on a.mode a.coverage m) c.pixel.ensures c.pixel-in-loop-i.ensures)
-          (omega (arith, c.requires)),
-    )
+          (omega (arith, c.requires))
 
 pub returns : goal.returns
 returns c =
-    stored_all c.loop-i.invariant.1 c.args.n (omega arith) c.requires.3
+    stored_all c.loop-i.invariant c.args.n (omega arith) c.requires.3

@@ -13,12 +13,12 @@ use Rattle.blend.proofs.masked.masked_block.Goals as goal
 
 pub composite_painted-requires : goal.composite_painted-requires
 composite_painted-requires c =
-    (omega arith, c.requires.coverage_bound.2, ap length c.copy_row.ensures ∙ c.requires.coverage_bound.3)
+    (omega arith, c.requires.coverage_bound.2, ap length c.copy_from_slice.ensures.after ∙ c.requires.coverage_bound.3)
 
 pub masked_row-requires : goal.masked_row-requires
 masked_row-requires c =
     let a = c.args in
-    let b = c.copy_row.new.row in (
+    let b = c.copy_from_slice.new.self in (
       c.requires.coverage_bound.0,
       ap length c.composite_painted.ensures
           ∙ run_length a.n (λ i. unmasked_on a.mode 16 (pixel_in a.src.now i) (pixel_in b i)),
@@ -33,5 +33,5 @@ returns c =
     let spread = c.spread_row in
     masked_pixels a.n a.mode a.coverage a.mask.now a.src.now a.row.now made.new.row spread.new.wide _
     (made.ensures
-    ∙ ap (λ (d : List ℕ). run a.n (λ i. unmasked_on a.mode 16 (pixel_in a.src.now i) (pixel_in d i))) c.copy_row.ensures)
+    ∙ ap (λ (d : List ℕ). run a.n (λ i. unmasked_on a.mode 16 (pixel_in a.src.now i) (pixel_in d i))) c.copy_from_slice.ensures.after)
     spread.ensures c.masked_row.ensures

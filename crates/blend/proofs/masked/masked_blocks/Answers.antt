@@ -19,8 +19,8 @@ pub masked_block-requires : goal.masked_block-requires
 masked_block-requires c =
     let p = c.requires.coverage_bound in
     let l = c.loop-i in
-    let e = c.sooner-e.result in
-    let t = c.sooner-e.ensures in
+    let e = c.min-e.result in
+    let t = c.min-e.ensures in
     let low : l.i * 4 ≤ e * 4 = omega (arith, t) in
     let size : e * 4 - l.i * 4 ≡ (e - l.i) * 4 = omega arith in
     let m : e * 4 - l.i * 4 - 0 ≡ (e - l.i) * 4 = omega arith in
@@ -39,14 +39,14 @@ masked_block-requires c =
 
 pub loop-i-smaller : goal.loop-i-smaller
 loop-i-smaller c =
-    omega (arith, c.sooner-e.ensures)
+    omega (arith, c.min-e.ensures)
 
 pub loop-i-preserved : goal.loop-i-preserved
 loop-i-preserved c =
     let a = c.args in
     let l = c.loop-i in
-    let e = c.sooner-e.result in
-    let t = c.sooner-e.ensures in
+    let e = c.min-e.result in
+    let t = c.min-e.ensures in
     let call = c.masked_block in
     let step : ℕ → Pixel → Pixel = λ j. composite_on a.mode a.coverage (get_or a.mask.now j 0) (pixel_in a.src.now j) in
     let lent : ℕ → Pixel → Pixel = λ j.

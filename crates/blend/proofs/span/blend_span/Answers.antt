@@ -5,24 +5,21 @@ use native.Mathlib.Omega.{arith}
 use Rattle.color.specs.declared.Pixel.{Pixel}
 use Rattle.raster.proofs.Runs.{stored_none, stored_step, stored_all}
 use Rattle.blend.specs.Unmasked.{unmasked_on}
-use borrow.Author.Rules.{rules}
 use Rattle.blend.proofs.span.blend_span.Goals as goal
 
 pub loop-i-init : goal.loop-i-init
 loop-i-init c =
-    (omega arith, stored_none _ _)
+    stored_none _ _
 
 pub loop-i-preserved : goal.loop-i-preserved
 loop-i-preserved c =
     let a = c.args in
     let step : ℕ → Pixel → Pixel = λ j. unmasked_on a.mode a.coverage a.src in
     let made = c.blend_pixel-p in
-    let put = c.put_pixel in (
-      search rules,
-      stored_step step c.loop-i.invariant.1 put.new.s made.result put.ensures (made.ensures
-          ∙ ap (step 0) c.pixel.ensures) (omega arith),
-    )
+    let put = c.put_pixel in
+    stored_step step c.loop-i.invariant put.new.s made.result put.ensures (made.ensures
+          ∙ ap (step 0) c.pixel.ensures) (omega arith)
 
 pub returns : goal.returns
 returns c =
-    stored_all c.loop-i.invariant.1 c.args.n (omega arith) c.requires.1
+    stored_all c.loop-i.invariant c.args.n (omega arith) c.requires.1

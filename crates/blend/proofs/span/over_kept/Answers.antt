@@ -20,8 +20,8 @@ loop-i-init c =
 pub over_block-requires : goal.over_block-requires
 over_block-requires c =
     let l = c.loop-i in
-    let e = c.sooner-e.result in
-    let t = c.sooner-e.ensures in
+    let e = c.min-e.result in
+    let t = c.min-e.ensures in
     let low : l.i * 4 ≤ e * 4 = omega (arith, t) in
     let size : e * 4 - l.i * 4 ≡ (e - l.i) * 4 = omega arith in (
       c.requires.0,
@@ -32,14 +32,14 @@ over_block-requires c =
 
 pub loop-i-smaller : goal.loop-i-smaller
 loop-i-smaller c =
-    omega (arith, c.sooner-e.ensures)
+    omega (arith, c.min-e.ensures)
 
 pub loop-i-preserved : goal.loop-i-preserved
 loop-i-preserved c =
     let a = c.args in
     let l = c.loop-i in
-    let e = c.sooner-e.result in
-    let t = c.sooner-e.ensures in
+    let e = c.min-e.result in
+    let t = c.min-e.ensures in
     let call = c.over_block in
     let step : ℕ → Pixel → Pixel = λ j. unmasked_on mode_src_over a.coverage (pixel_in a.src.now j) in (
       omega (arith, t),

@@ -49,27 +49,27 @@ loop-i-init c =
 
 pub slice_bounds-over_part-end : goal.slice_bounds-over_part-end
 slice_bounds-over_part-end c =
-    omega (arith, c.sooner-e.ensures, paint-length c.before.before.before.before.before.before.before.before)
+    omega (arith, c.min-e.ensures, paint-length c.before.before.before.before.before.before.before.before)
 
 pub slice_bounds-over_part-end-in-loop-i : goal.slice_bounds-over_part-end-in-loop-i
 slice_bounds-over_part-end-in-loop-i c =
-    omega (arith, c.sooner-e.ensures, keep-length c.before.before.before.before.before.before.before.before.before)
+    omega (arith, c.min-e.ensures, keep-length c.before.before.before.before.before.before.before.before.before)
 
 pub over_part-requires : goal.over_part-requires
 over_part-requires c =
     let a = c.args in
     let first = pixel_in a.paint.now 0 in
     let l = c.loop-i in
-    let e = c.sooner-e.result in
+    let e = c.min-e.result in
     let m = e - l.i in
     let w : e * 4 - l.i * 4 - 0 ≡ m * 4 = omega arith in
-    let few : m ≤ 16 = omega (arith, c.sooner-e.ensures) in
+    let few : m ≤ 16 = omega (arith, c.min-e.ensures) in
     record {
       coverage_bound = (
         c.requires.coverage_bound.0,
         ap length (laid c.before.before.before.before.before.before.before.before.before.before.before m (e * 4 - l.i * 4 - 0) few w)
             ∙ run_length m (λ i. first),
-        part_length l.row (l.i * 4) (e * 4) (omega (arith, c.sooner-e.ensures)) (omega (arith, c.sooner-e.ensures)) ∙ omega arith,
+        part_length l.row (l.i * 4) (e * 4) (omega (arith, c.min-e.ensures)) (omega (arith, c.min-e.ensures)) ∙ omega arith,
       );
       keep_value = laid_part 16 m (e * 4 - l.i * 4 - 0) (keep_pixel first) a.keep.now c.requires.paint_value.1 few w
           ∙ run_same m (λ j. keep_pixel first) _ (λ j h. ap keep_pixel
@@ -78,23 +78,23 @@ over_part-requires c =
 
 pub loop-i-smaller : goal.loop-i-smaller
 loop-i-smaller c =
-    omega (arith, c.sooner-e.ensures)
+    omega (arith, c.min-e.ensures)
 
 pub loop-i-preserved : goal.loop-i-preserved
 loop-i-preserved c =
     let a = c.args in
     let first = pixel_in a.paint.now 0 in
     let l = c.loop-i in
-    let e = c.sooner-e.result in
+    let e = c.min-e.result in
     let m = e - l.i in
     let w : e * 4 - l.i * 4 - 0 ≡ m * 4 = omega arith in
-    let few : m ≤ 16 = omega (arith, c.sooner-e.ensures) in
+    let few : m ≤ 16 = omega (arith, c.min-e.ensures) in
     let call = c.over_part in (
-      omega (arith, c.sooner-e.ensures),
+      omega (arith, c.min-e.ensures),
       part_turn (λ j p. unmasked_on mode_src_over a.coverage first p)
           (λ j p. unmasked_on mode_src_over a.coverage (pixel_in (take (e * 4 - l.i * 4 - 0) a.paint.now) j) p)
-          l.row a.row.now call.new.row l.i e (omega (arith, c.sooner-e.ensures))
-          (omega (arith, c.sooner-e.ensures, c.requires.coverage_bound.1)) l.invariant.1
+          l.row a.row.now call.new.row l.i e (omega (arith, c.min-e.ensures))
+          (omega (arith, c.min-e.ensures, c.requires.coverage_bound.1)) l.invariant.1
           (λ j h p. ap (λ (q : Pixel). unmasked_on mode_src_over a.coverage q p)
           (laid_at c.before.before.before.before.before.before.before.before.before.before.before.before.before.before m (e * 4 - l.i * 4 - 0) j few w
           h)) call.ensures,

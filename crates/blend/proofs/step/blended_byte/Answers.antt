@@ -28,19 +28,15 @@ pub overflow_sub-p : goal.overflow_sub-p
 overflow_sub-p c =
     omega (arith, source c)
 
-pub least-requires : goal.least-requires
-least-requires c =
-    tt
-
 pub overflow_add-p-2 : goal.overflow_add-p-2
 overflow_add-p-2 c =
-    omega (arith, source c.before, c.least.ensures)
+    omega (arith, source c.before, c.min.ensures)
 
 pub over_255-requires : goal.over_255-requires
 over_255-requires c =
-    omega (arith, source c.before, c.least.ensures)
+    omega (arith, source c.before, c.min.ensures)
 
 pub returns : goal.returns
 returns c =
     let a = c.args in
-    c.over_255.ensures ∙ cut_quotient (a.s * a.fs) (a.d * a.fd) c.least.result (source c.before.before) c.least.ensures
+    c.over_255.ensures ∙ cut_quotient (a.s * a.fs) (a.d * a.fd) c.min.result (source c.before.before) c.min.ensures
