@@ -16,7 +16,7 @@ loop-i-preserved c =
     let s = c.args.src.now in
     let w = c.word-all.result in
     below_more (λ j. bit_and l.all w ≤ word_of (pixel_in s j)) l.i (λ j h. le_trans (and_le_l l.all w) (l.invariant j h))
-          (rw (c.word-all.ensures.0, c.pixel.ensures) (and_le_r l.all (word_of (pixel_in s l.i))))
+    (rw (c.word-all.ensures.0, c.pixel.ensures) (and_le_r l.all (word_of (pixel_in s l.i))))
 
 pub returns : goal.returns
 returns c =

@@ -14,7 +14,7 @@ loop-i-preserved c =
     let made = c.kept in
     let put = c.put_pixel in
     stored_turn c.loop-i.invariant put.new.s made.result put.ensures (made.ensures ∙ ap keep_pixel c.pixel-p.ensures)
-          (omega (arith, c.requires))
+    (omega (arith, c.requires))
 
 pub returns : goal.returns
 returns c =

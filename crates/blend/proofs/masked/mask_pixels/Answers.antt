@@ -21,8 +21,8 @@ loop-i-preserved c =
     let made = c.composite_on-p in
     let put = c.put_pixel in
     stored_step step c.loop-i.invariant put.new.s made.result put.ensures
-          (made.ensures ∙ ap₂ (composite_on a.mode a.coverage m) c.pixel.ensures c.pixel-in-loop-i.ensures)
-          (omega (arith, c.requires))
+    (made.ensures ∙ ap₂ (composite_on a.mode a.coverage m) c.pixel.ensures c.pixel-in-loop-i.ensures)
+    (omega (arith, c.requires))
 
 pub returns : goal.returns
 returns c =

@@ -19,8 +19,8 @@ loop-i-preserved c =
     let made = c.blend_pixel-p in
     let put = c.put_pixel in
     stored_step step c.loop-i.invariant put.new.s made.result put.ensures
-          (made.ensures ∙ ap₂ (unmasked_on a.mode a.coverage) c.pixel.ensures c.pixel-in-loop-i.ensures)
-          (omega (arith, c.requires))
+    (made.ensures ∙ ap₂ (unmasked_on a.mode a.coverage) c.pixel.ensures c.pixel-in-loop-i.ensures)
+    (omega (arith, c.requires))
 
 pub returns : goal.returns
 returns c =

@@ -18,7 +18,7 @@ loop-i-preserved c =
     let made = c.blend_pixel-p in
     let put = c.put_pixel in
     stored_step step c.loop-i.invariant put.new.s made.result put.ensures (made.ensures
-          ∙ ap (step 0) c.pixel.ensures) (omega arith)
+    ∙ ap (step 0) c.pixel.ensures) (omega arith)
 
 pub returns : goal.returns
 returns c =
