@@ -53,6 +53,7 @@ pub fn composite_on(mode: u16, coverage: u8, mask: u8, src: Pixel, read: Pixel) 
 }
 
 // Its four bytes under a mask.
+#[tactic(auto, unfolding(crate::specs::PorterDuff::composite_byte))]
 fn masked_pixel(mode: u16, coverage: u8, mask: u8, src: Pixel, read: Pixel) -> Pixel
     requires { coverage ≤ 16 }
     ensures { result ≡ composite_on mode coverage mask src read }
@@ -60,12 +61,7 @@ fn masked_pixel(mode: u16, coverage: u8, mask: u8, src: Pixel, read: Pixel) -> P
     let fs = source_factor(mode, read.a);
     let fd = destination_factor(mode, src.a);
     let b = blended_pixel(src, fs, read, fd);
-    Pixel {
-        r: masked_byte(coverage, mask, b.r, read.r),
-        g: masked_byte(coverage, mask, b.g, read.g),
-        b: masked_byte(coverage, mask, b.b, read.b),
-        a: masked_byte(coverage, mask, b.a, read.a),
-    }
+    b.zip(read, |b, d| masked_byte(coverage, mask, b, d))
 }
 
 // The step without a mask, with what needs no arithmetic first: no sample covered keeps the pixel, and the whole of the paint replaces it.
@@ -99,24 +95,14 @@ pub fn stored_pixel(coverage: u8, b: Pixel, d: Pixel) -> Pixel
     requires { coverage ≤ 16 }
     ensures { result ≡ stored_pixel coverage b d }
 {
-    Pixel {
-        r: stored_byte(coverage, b.r, d.r),
-        g: stored_byte(coverage, b.g, d.g),
-        b: stored_byte(coverage, b.b, d.b),
-        a: stored_byte(coverage, b.a, d.a),
-    }
+    b.zip(d, |b, d| stored_byte(coverage, b, d))
 }
 
 // B of each channel.
 fn blended_pixel(src: Pixel, fs: u8, dst: Pixel, fd: u8) -> Pixel
     ensures { result ≡ blended_pixel src fs dst fd }
 {
-    Pixel {
-        r: blended_byte(src.r, fs, dst.r, fd),
-        g: blended_byte(src.g, fs, dst.g, fd),
-        b: blended_byte(src.b, fs, dst.b, fd),
-        a: blended_byte(src.a, fs, dst.a, fd),
-    }
+    src.zip(dst, |s, d| blended_byte(s, fs, d, fd))
 }
 
 // What the step called alone takes. A mode has 16 bits, as in the scene file; a larger number is none.
@@ -136,12 +122,7 @@ fn accepts(mode: u32, coverage: u32, mask: u32) -> bool
 fn clamp(dst: Pixel) -> Pixel
     ensures { result ≡ clamped dst }
 {
-    Pixel {
-        r: dst.r.min(dst.a),
-        g: dst.g.min(dst.a),
-        b: dst.b.min(dst.a),
-        a: dst.a,
-    }
+    dst.map(|c| c.min(dst.a))
 }
 
 // B. What is divided by 255 may be up to 130,177; from 65,025 on B is 255, so it is cut where the division ends.

@@ -1,13 +1,9 @@
 -- `blend::keep_row` meets its contract: the pixels before i are stored, and the others are as they were. Assumes nothing.
 use mathlib.Core.Path.{ap, ◌∙◌}
 use native.Mathlib.Omega.{arith}
-use Rattle.raster.proofs.Runs.{stored_none, stored_turn, stored_all}
+use Rattle.raster.proofs.Runs.{stored_turn, stored_all}
 use Rattle.blend.specs.Spans.{keep_pixel}
 use Rattle.blend.proofs.bytewise.keep_row.Goals as goal
-
-pub loop-i-init : goal.loop-i-init
-loop-i-init c =
-    stored_none _ _
 
 pub loop-i-preserved : goal.loop-i-preserved
 loop-i-preserved c =

@@ -2,17 +2,7 @@
 use Prim.Native.Nat.{◌-◌}
 use native.Mathlib.Omega.{arith}
 use Rattle.blend.proofs.Bytes.{four_bytes, left_laid}
-use borrow.Author.Rules.{rules}
 use Rattle.blend.proofs.bytewise.kept.Goals as goal
-
-pub overflow_mul-w : goal.overflow_mul-w
-overflow_mul-w c =
-    rw (left_laid c.word.result _ (omega arith) c.word.ensures.1).0 (search rules)
-
-pub overflow_cast-result-4 : goal.overflow_cast-result-4
-overflow_cast-result-4 c =
-    let laid = left_laid c.word.result _ (omega arith) c.word.ensures.1 in
-    rw (laid.0, laid.1) (search rules)
 
 pub returns : goal.returns
 returns c =

@@ -1,11 +1,7 @@
 -- `blend::spread_row` meets its contract: the pixels before i are stored, and the others are as they were. Assumes nothing.
 use native.Mathlib.Omega.{arith}
-use Rattle.raster.proofs.Runs.{stored_none, stored_turn, stored_all}
+use Rattle.raster.proofs.Runs.{stored_turn, stored_all}
 use Rattle.blend.proofs.bytewise.spread_row.Goals as goal
-
-pub loop-i-init : goal.loop-i-init
-loop-i-init c =
-    stored_none _ _
 
 pub loop-i-preserved : goal.loop-i-preserved
 loop-i-preserved c =

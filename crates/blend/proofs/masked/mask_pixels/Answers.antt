@@ -5,13 +5,9 @@ use native.Mathlib.Omega.{arith}
 use lib.ListN.{get_or}
 use Rattle.color.specs.declared.Pixel.{Pixel}
 use Rattle.raster.specs.Surface.{pixel_in}
-use Rattle.raster.proofs.Runs.{stored_none, stored_step, stored_all}
+use Rattle.raster.proofs.Runs.{stored_step, stored_all}
 use Rattle.blend.specs.PorterDuff.{composite_on}
 use Rattle.blend.proofs.masked.mask_pixels.Goals as goal
-
-pub loop-i-init : goal.loop-i-init
-loop-i-init c =
-    stored_none _ _
 
 pub loop-i-preserved : goal.loop-i-preserved
 loop-i-preserved c =

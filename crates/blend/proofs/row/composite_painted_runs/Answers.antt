@@ -8,7 +8,7 @@ use Rattle.runs.specs.Runs.{end_of, start_of, level_of, expand}
 use Rattle.runs.proofs.Expand.{starts_rise, runs_at, runs_length}
 use Rattle.color.specs.declared.Pixel.{Pixel}
 use Rattle.raster.specs.Surface.{pixel_in}
-use Rattle.raster.proofs.Runs.{run_same, stored_none, stored_all}
+use Rattle.raster.proofs.Runs.{run_same, stored_all}
 use Rattle.blend.specs.PorterDuff.{composite_on}
 use Rattle.blend.specs.Unmasked.{unmasked_on}
 use Rattle.blend.specs.Spans.{length_of}
@@ -37,77 +37,9 @@ long : (c : lts.In-loop tie.the-claims reads.Pre reads.Post goal.the-invariant-l
     → length c.loop-j.row ≡ length c.args.src.now
 long c = c.loop-j.invariant.2.long ∙ c.requires.src_len.1 ∙ sym c.requires.src_len.0
 
-pub start-first-requires : goal.start-first-requires
-start-first-requires c =
-    omega (arith, c.requires.runs.1, c.requires.runs.2, c.requires.runs.3)
-
-pub loop-j-init : goal.loop-j-init
-loop-j-init c =
-    (c.requires.runs.1, omega (arith, c.start-first.ensures), stored_none _ _)
-
-pub offset_bounds-runs-j : goal.offset_bounds-runs-j
-offset_bounds-runs-j c =
-    omega (arith, (turn c.before).there)
-
-pub bounds-runs-j : goal.bounds-runs-j
-bounds-runs-j c =
-    (turn c.before.before).there
-
-pub overflow_cast-e : goal.overflow_cast-e
-overflow_cast-e c =
-    omega (arith, c.shared_slice_known-in-loop-j-1.given c.loop-j.j)
-
-pub overflow_sub-e : goal.overflow_sub-e
-overflow_sub-e c =
-    (turn c.before.before).low
-
-pub overflow_mul-from : goal.overflow_mul-from
-overflow_mul-from c =
-    omega (arith, (turn c.before.before).some, (turn c.before.before).within)
-
-pub overflow_mul-to : goal.overflow_mul-to
-overflow_mul-to c =
-    omega (arith, (turn c.before.before).within)
-
-pub offset_bounds-runs-j-in-loop-j : goal.offset_bounds-runs-j-in-loop-j
-offset_bounds-runs-j-in-loop-j c =
-    omega (arith, (turn c.before.before).there)
-
-pub bounds-runs-j-in-loop-j : goal.bounds-runs-j-in-loop-j
-bounds-runs-j-in-loop-j c =
-    (turn c.before.before.before).there
-
-pub overflow_cast-runs : goal.overflow_cast-runs
-overflow_cast-runs c =
-    omega arith
-
-pub slice_bounds-composite_painted-count : goal.slice_bounds-composite_painted-count
-slice_bounds-composite_painted-count c =
-    omega (arith, (turn c.before.before.before).some)
-
-pub slice_bounds-composite_painted-start : goal.slice_bounds-composite_painted-start
-slice_bounds-composite_painted-start c =
-    omega (arith, (turn c.before.before.before).some)
-
 pub slice_bounds-composite_painted-end : goal.slice_bounds-composite_painted-end
 slice_bounds-composite_painted-end c =
     (turn c.before.before.before).within
-
-pub slice_bounds-composite_painted-count-in-loop-j : goal.slice_bounds-composite_painted-count-in-loop-j
-slice_bounds-composite_painted-count-in-loop-j c =
-    omega (arith, (turn c.before.before.before.before).some)
-
-pub slice_bounds-composite_painted-start-in-loop-j : goal.slice_bounds-composite_painted-start-in-loop-j
-slice_bounds-composite_painted-start-in-loop-j c =
-    omega (arith, (turn c.before.before.before.before).some)
-
-pub slice_bounds-composite_painted-end-in-loop-j : goal.slice_bounds-composite_painted-end-in-loop-j
-slice_bounds-composite_painted-end-in-loop-j c =
-    omega (arith, (turn c.before.before.before.before).within, long c.before.before.before.before)
-
-pub overflow_sub-e-in-loop-j : goal.overflow_sub-e-in-loop-j
-overflow_sub-e-in-loop-j c =
-    (turn c.before.before.before.before.before).some
 
 pub composite_painted-requires : goal.composite_painted-requires
 composite_painted-requires c =

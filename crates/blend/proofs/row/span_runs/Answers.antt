@@ -1,9 +1,8 @@
 -- `blend::span_runs` meets its contract: the runs before j are stored, and the other pixels are as they were. Assumes nothing.
-use mathlib.Core.Path.{◌≡◌, refl, sym, ap, ◌∙◌}
+use mathlib.Core.Path.{◌≡◌, sym, ap, ◌∙◌}
 use native.Mathlib.Omega.{arith}
 use lib.ListN.{length}
 use Rattle.runs.specs.Runs.{start_of}
-use Rattle.raster.proofs.Runs.{stored_none}
 use Rattle.blend.proofs.Spans.{next_start, LentRun, run_lent, run_asks, run_turn}
 use Rattle.blend.proofs.Masks.{runs_blended}
 use Rattle.blend.proofs.row.span_runs.Goals as goal
@@ -22,57 +21,9 @@ turn c =
     run_lent a.runs.now a.n a.w p.runs.0 l.j a.n 0 l.a (length a.row.now) c.loop-j-test.true (omega arith) p.runs.1
     (omega (arith, l.invariant.1)) (omega (arith, p.runs.2, p.runs.0.last))
 
-pub loop-j-init : goal.loop-j-init
-loop-j-init c =
-    (omega arith, refl, stored_none _ _)
-
-pub offset_bounds-runs-j : goal.offset_bounds-runs-j
-offset_bounds-runs-j c =
-    omega (arith, (turn c.before).there)
-
-pub bounds-runs-j : goal.bounds-runs-j
-bounds-runs-j c =
-    (turn c.before.before).there
-
-pub overflow_cast-e : goal.overflow_cast-e
-overflow_cast-e c =
-    omega (arith, c.shared_slice_known-in-loop-j-1.given c.loop-j.j)
-
-pub overflow_mul-from : goal.overflow_mul-from
-overflow_mul-from c =
-    omega (arith, (turn c.before.before).some, (turn c.before.before).within)
-
-pub overflow_mul-to : goal.overflow_mul-to
-overflow_mul-to c =
-    omega (arith, (turn c.before.before).within)
-
-pub offset_bounds-runs-j-in-loop-j : goal.offset_bounds-runs-j-in-loop-j
-offset_bounds-runs-j-in-loop-j c =
-    omega (arith, (turn c.before.before).there)
-
-pub bounds-runs-j-in-loop-j : goal.bounds-runs-j-in-loop-j
-bounds-runs-j-in-loop-j c =
-    (turn c.before.before.before).there
-
-pub overflow_cast-runs : goal.overflow_cast-runs
-overflow_cast-runs c =
-    omega arith
-
-pub slice_bounds-composite_span-count : goal.slice_bounds-composite_span-count
-slice_bounds-composite_span-count c =
-    omega (arith, (turn c.before.before.before).some)
-
-pub slice_bounds-composite_span-start : goal.slice_bounds-composite_span-start
-slice_bounds-composite_span-start c =
-    omega (arith, (turn c.before.before.before).some)
-
 pub slice_bounds-composite_span-end : goal.slice_bounds-composite_span-end
 slice_bounds-composite_span-end c =
     omega (arith, (turn c.before.before.before).within, c.loop-j.invariant.2.long)
-
-pub overflow_sub-e : goal.overflow_sub-e
-overflow_sub-e c =
-    omega (arith, (turn c.before.before.before.before).some)
 
 pub composite_span-requires : goal.composite_span-requires
 composite_span-requires c =

@@ -4,13 +4,9 @@ use Prim.Native.Nat.{ℕ}
 use native.Mathlib.Omega.{arith}
 use Rattle.color.specs.declared.Pixel.{Pixel}
 use Rattle.raster.specs.Surface.{pixel_in}
-use Rattle.raster.proofs.Runs.{stored_none, stored_step, stored_all}
+use Rattle.raster.proofs.Runs.{stored_step, stored_all}
 use Rattle.blend.specs.Unmasked.{unmasked_on}
 use Rattle.blend.proofs.span.blend_painted.Goals as goal
-
-pub loop-i-init : goal.loop-i-init
-loop-i-init c =
-    stored_none _ _
 
 pub loop-i-preserved : goal.loop-i-preserved
 loop-i-preserved c =

@@ -28,11 +28,3 @@ returns-then-hides_all c =
     (λ i l.
     sym (hiding_stores a.mode a.coverage (pixel_in a.src.now i) (pixel_in a.row.now i) (byte (i * 4)) (byte (i * 4 + 1)) (byte (i * 4 + 2))
     (byte (i * 4 + 3)) (c.hides_all.ensures c.if-hides_all.true i l)))
-
-pub returns-then-mode-eq-SRC_OVER : goal.returns-then-mode-eq-SRC_OVER
-returns-then-mode-eq-SRC_OVER c =
-    rw c.if-mode-eq-SRC_OVER.true c.over_painted.ensures
-
-pub returns : goal.returns
-returns c =
-    c.blend_painted.ensures

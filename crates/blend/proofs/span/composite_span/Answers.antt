@@ -15,10 +15,6 @@ returns-then-coverage-eq0 c =
     (run_is a.n (λ i. unmasked_on a.mode 0 a.src (pixel_in a.row.now i)) a.row.now (omega arith)
     (λ i l. sym (uncovered_stores a.mode a.src (pixel_in a.row.now i))))
 
-pub hides-requires : goal.hides-requires
-hides-requires c =
-    tt
-
 pub returns-then-hides : goal.returns-then-hides
 returns-then-hides c =
     let a = c.args in
@@ -28,7 +24,3 @@ returns-then-hides c =
     (λ i l.
     sym (hiding_stores a.mode a.coverage a.src (pixel_in a.row.now i) (omega arith) (omega arith) (omega arith) (omega arith)
     (sym c.hides.ensures ∙ c.if-hides.true)))
-
-pub returns : goal.returns
-returns c =
-    c.blend_span.ensures

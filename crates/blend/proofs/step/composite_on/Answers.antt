@@ -12,7 +12,3 @@ pub returns-then-coverage-eq0 : goal.returns-then-coverage-eq0
 returns-then-coverage-eq0 c =
     let a = c.args in
     rw c.if-coverage-eq0.true (sym (uncovered_masked a.mode a.mask a.src a.read))
-
-pub returns : goal.returns
-returns c =
-    c.masked_pixel.ensures

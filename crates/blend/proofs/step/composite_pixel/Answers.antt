@@ -3,10 +3,6 @@ use mathlib.Core.Path.{sym, ◌∙◌}
 use Rattle.blend.proofs.Shortcuts.{uncovered_keeps, covered_reads}
 use Rattle.blend.proofs.step.composite_pixel.Goals as goal
 
-pub clamp-read-requires : goal.clamp-read-requires
-clamp-read-requires c =
-    tt
-
 pub returns-then-coverage-eq0 : goal.returns-then-coverage-eq0
 returns-then-coverage-eq0 c =
     rw c.if-coverage-eq0.true (sym (uncovered_keeps c.args.mode c.args.mask c.args.src c.args.dst))

@@ -8,17 +8,9 @@ pub returns-then-coverage-eq0 : goal.returns-then-coverage-eq0
 returns-then-coverage-eq0 c =
     rw c.if-coverage-eq0.true (sym (uncovered_stores c.args.mode c.args.src c.args.read))
 
-pub hides-requires : goal.hides-requires
-hides-requires c =
-    tt
-
 pub returns-then-hides : goal.returns-then-hides
 returns-then-hides c =
     let a = c.args in
     rw c.if-coverage-eq16.true
     (sym (hiding_replaces a.mode a.src a.read (omega arith) (omega arith) (omega arith) (omega arith) (sym c.hides.ensures
     ∙ c.if-hides.true)))
-
-pub returns : goal.returns
-returns c =
-    c.blend_pixel.ensures
