@@ -7,7 +7,6 @@ use mathlib.Core.Logic.{⊎_elim}
 use Prim.Native.Nat.{ℕ, zero, suc, ◌+◌, ◌≤◌, ◌<◌}
 use native.Mathlib.Nat.{eq-or-lt_of_le}
 use native.Mathlib.Omega.{arith}
-use lib.ListN.{length}
 use Rattle.rect.proofs.Laws.{either}
 use Rattle.difference.specs.Compare.{picked, Rising}
 

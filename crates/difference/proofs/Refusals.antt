@@ -2,8 +2,7 @@
 use mathlib.Core.Path.{◌≡◌, ◌∙◌}
 use mathlib.Core.Bool.{true, false, ◌&&◌}
 use mathlib.Core.List.{List}
-use Prim.Native.Nat.{ℕ, ◌*◌, ◌≤◌, ◌<◌}
-use native.Mathlib.Nat.{mul-le-mul}
+use Prim.Native.Nat.{ℕ, ◌*◌, ◌<◌}
 use native.Mathlib.Omega.{arith}
 use lib.ListN.{length}
 use lib.Dec.{eqb}
@@ -25,9 +24,6 @@ module _ (w h : ℕ) where
 
   pub sides_allowed : Allowed w h → (allowed_side w && allowed_side h) ≡ true
   sides_allowed s = rw (le-leb 1 w s.some_wide, le-leb w 1024 s.wide, le-leb 1 h s.some_high, le-leb h 1024 s.high)
-
-  pub few_pixels : Allowed w h → w * h ≤ 1024 * 1024
-  few_pixels s = mul-le-mul s.wide s.high
 
 -- ---- codes, in their order
 module _ (w h a b : ℕ) where

@@ -21,8 +21,8 @@ use Rattle.difference.proofs.Greatest.{greatest_more, greatest_same, no_gap_same
 use Rattle.difference.proofs.Boxes.{rect_more, column_of_lem, row_of}
 
 -- ---- one pixel more of a row
-pub differs_is : (a b : List ℕ) (x : ℕ) (p q : Pixel) (t : Bool) → t ≡ same_pixel p q → p ≡ pixel_in a x → q ≡ pixel_in b x → differs a b x ≡ not t
-differs_is a b x p q t e f g = ap not (sym (e ∙ ap₂ same_pixel f g))
+pub differs_is : (a b : List ℕ) (x : ℕ) (p q : Pixel) (t : Bool) → t ≡ not (same_pixel p q) → p ≡ pixel_in a x → q ≡ pixel_in b x → differs a b x ≡ t
+differs_is a b x p q t e f g = sym (e ∙ ap₂ (λ s r. not (same_pixel s r)) f g)
 
 module _ (w y : ℕ) (a b : List ℕ) (f : Found) where
   pub pixel_same : (x z m n : ℕ) → suc x ≡ z → suc n ≡ m → differs a b x ≡ false → with_pixels w y a b x m f ≡ with_pixels w y a b z n f

@@ -3,11 +3,12 @@
 
 pub mod rows;
 
-ghost use Rattle.std.specs.Prelude.{◌≡◌, cond, ◌&&◌, ◌*◌, ◌≤◌, ◌<◌, length, eqb};
+ghost use Rattle.std.specs.Prelude.{◌≡◌, ◌&&◌, ◌*◌, ◌≤◌, ◌<◌, length};
+ghost use Rattle.codes.specs.Number.{number_of, number_told};
 ghost use Rattle.difference.specs.Compare.{allowed_side, refusal_code, refused, report, compare_answer};
 ghost use Rattle.difference.specs.Rows.{all_found, Noted, Small};
 
-use codes::{ACCEPTED, ILLEGAL_ARGUMENT, UNSUPPORTED_IMAGE_FORMAT};
+use codes::{ACCEPTED, Code};
 use rect::Rect;
 
 // The largest width and height.
@@ -16,7 +17,7 @@ const SIDE_LIMIT: u32 = 1024;
 // The answer: a code, 0 if the pictures were compared; 1 if they are equal; the number of differing pixels; the smallest rectangle that holds
 // them; the largest difference of any channel; the least y * width + x of a differing pixel.
 #[repr(C)]
-#[derive(Clone, Copy)]
+#[derive(Clone, Copy, PartialEq, Eq)]
 pub struct Comparison {
     pub code: u32,
     pub equal: u32,
@@ -31,7 +32,7 @@ pub struct Comparison {
 
 // What is found of the rows so far: the number of differing pixels, the smallest rectangle that holds them, the largest difference of any
 // channel, and the least number of a differing pixel.
-#[derive(Clone, Copy)]
+#[derive(Clone, Copy, PartialEq, Eq)]
 pub struct Found {
     pub count: usize,
     pub area: Rect,
@@ -40,47 +41,36 @@ pub struct Found {
 }
 
 // Compares two surfaces of that size.
+#[tactic(auto, unfolding(crate::specs::Compare::compare_answer))]
 pub fn compare(width: u32, height: u32, a: &[u8], b: &[u8]) -> Comparison
     ensures { result ≡ compare_answer width height a.now b.now }
 {
-    let code = judge(width, height, a.len(), b.len());
-    if code != ACCEPTED {
-        return refusal(code);
+    match judge(width, height, a.len(), b.len()) {
+        Ok(()) => answer(find(a, b, width as usize, height as usize)),
+        Err(code) => refusal(code),
     }
-    answer(find(a, b, width as usize, height as usize))
 }
 
 // Whether pictures have that size.
 pub fn is_allowed(width: u32, height: u32) -> bool
     ensures { result ≡ allowed_side width && allowed_side height }
 {
-    if width < 1 {
-        return false;
-    }
-    if SIDE_LIMIT < width {
-        return false;
-    }
-    if height < 1 {
-        return false;
-    }
-    height <= SIDE_LIMIT
+    1 <= width && width <= SIDE_LIMIT && 1 <= height && height <= SIDE_LIMIT
 }
 
-// The code for surfaces of so many bytes.
-fn judge(width: u32, height: u32, a: usize, b: usize) -> u32
-    ensures { result ≡ refusal_code width height a b }
+// Judges surfaces of so many bytes.
+#[tactic(auto, unfolding(crate::specs::Compare::refusal_code))]
+fn judge(width: u32, height: u32, a: usize, b: usize) -> Result<(), Code>
+    ensures { number_told (λ code. code) result ≡ refusal_code width height a b }
 {
     if !is_allowed(width, height) {
-        return ILLEGAL_ARGUMENT;
+        return Err(Code::IllegalArgument);
     }
     let n = 4 * ((width as usize) * (height as usize));
-    if a != n {
-        return UNSUPPORTED_IMAGE_FORMAT;
+    if a != n || b != n {
+        return Err(Code::UnsupportedImageFormat);
     }
-    if b != n {
-        return UNSUPPORTED_IMAGE_FORMAT;
-    }
-    ACCEPTED
+    Ok(())
 }
 
 // Rows are taken from the top one down, as pictures are printed. So the pixel that is noted last has the least number.
@@ -91,9 +81,7 @@ fn find(a: &[u8], b: &[u8], width: usize, height: usize) -> Found
     ensures noted { Noted width 0 result }
 {
     let mut found = Found::nothing();
-    let mut y = height;
-    while 0 < y {
-        y -= 1;
+    for y in (0..height).rev() {
         let at = y * (width * 4);
         let e = at + width * 4;
         found = found.with_row(&a[at..e], &b[at..e], width, y);
@@ -108,29 +96,22 @@ pub fn answer(f: Found) -> Comparison
 {
     Comparison {
         code: ACCEPTED,
-        equal: is_zero(f.count),
+        equal: u32::from(f.count == 0),
         count: f.count as u32,
         x: f.area.x0 as u32,
         y: f.area.y0 as u32,
         width: (f.area.x1 - f.area.x0) as u32,
         height: (f.area.y1 - f.area.y0) as u32,
-        largest: f.largest as u32,
+        largest: u32::from(f.largest),
         least: f.least as u32,
     }
 }
 
-// 1 for 0, 0 for any other.
-fn is_zero(n: usize) -> u32
-    ensures { result ≡ cond (eqb n 0) 1 0 }
-{
-    if n == 0 { 1 } else { 0 }
-}
-
-fn refusal(code: u32) -> Comparison
-    ensures { result ≡ refused code }
+fn refusal(code: Code) -> Comparison
+    ensures { result ≡ refused (number_of code) }
 {
     Comparison {
-        code,
+        code: code.number(),
         equal: 0,
         count: 0,
         x: 0,

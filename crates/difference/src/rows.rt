@@ -1,11 +1,10 @@
 // What is found of two pictures row by row, from the top one down. A row without a difference is told by its bytes' largest difference,
 // many bytes at a time; only in other rows are pixels looked at.
-ghost use Rattle.std.specs.Prelude.{◌≡◌, ◌+◌, ◌*◌, ◌-◌, ◌≤◌, ◌<◌, min, max, length};
-ghost use Rattle.difference.specs.Compare.{same_pixel, apart, gap_at, greatest};
+ghost use Rattle.std.specs.Prelude.{◌≡◌, ◌+◌, ◌*◌, ◌-◌, ◌≤◌, ◌<◌, length};
+ghost use Rattle.difference.specs.Compare.{gap_at, greatest};
 ghost use Rattle.difference.specs.Rows.{nothing_found, with_pixel, with_pixels, with_largest, with_row, Noted};
 
 use crate::Found;
-use color::Pixel;
 use rect::Rect;
 
 impl Found {
@@ -15,12 +14,7 @@ impl Found {
     {
         Found {
             count: 0,
-            area: Rect {
-                x0: 0,
-                y0: 0,
-                x1: 0,
-                y1: 0,
-            },
+            area: Rect::EMPTY,
             largest: 0,
             least: 0,
         }
@@ -43,12 +37,9 @@ impl Found {
     fn with_largest(self, gap: u8) -> Found
         ensures { result ≡ with_largest gap self }
     {
-        let area = self.area;
         Found {
-            count: self.count,
-            area,
-            largest: most(self.largest, gap),
-            least: self.least,
+            largest: self.largest.max(gap),
+            ..self
         }
     }
 
@@ -63,12 +54,11 @@ impl Found {
             x1: x + 1,
             y1: y + 1,
         };
-        let area = rect::join(self.area, pixel);
         Found {
             count: self.count + 1,
-            area,
-            largest: self.largest,
+            area: self.area.join(pixel),
             least: y * width + x,
+            ..self
         }
     }
 }
@@ -78,11 +68,9 @@ pub fn largest(a: &[u8], b: &[u8]) -> u8
     requires { length b.now ≡ length a.now }
     ensures { result ≡ greatest (length a.now) (gap_at a.now b.now) }
 {
-    let mut gap = 0;
-    let mut j = 0;
-    while j < a.len() {
-        gap = most(gap, difference(a[j], b[j]));
-        j += 1;
+    let mut gap: u8 = 0;
+    for j in 0..a.len() {
+        gap = gap.max(a[j].abs_diff(b[j]));
     }
     gap
 }
@@ -95,45 +83,10 @@ fn with_pixels(f: Found, a: &[u8], b: &[u8], width: usize, y: usize) -> Found
     ensures noted_2 { Noted width y result }
 {
     let mut found = f;
-    let mut x = width;
-    while 0 < x {
-        x -= 1;
-        if !is_same(raster::pixel(a, x), raster::pixel(b, x)) {
+    for x in (0..width).rev() {
+        if raster::pixel(a, x) != raster::pixel(b, x) {
             found = found.with_pixel(width, y, x);
         }
     }
     found
-}
-
-fn is_same(p: Pixel, q: Pixel) -> bool
-    ensures { result ≡ same_pixel p q }
-{
-    if p.r != q.r {
-        return false;
-    }
-    if p.g != q.g {
-        return false;
-    }
-    if p.b != q.b {
-        return false;
-    }
-    p.a == q.a
-}
-
-fn difference(m: u8, n: u8) -> u8
-    ensures { result ≡ apart m n }
-{
-    most(m, n) - least(m, n)
-}
-
-fn most(m: u8, n: u8) -> u8
-    ensures { result ≡ max m n }
-{
-    if m < n { n } else { m }
-}
-
-fn least(m: u8, n: u8) -> u8
-    ensures { result ≡ min m n }
-{
-    if m < n { m } else { n }
 }

@@ -2,7 +2,6 @@
 use mathlib.Core.Path.{◌≡◌, refl, sym, ap, ◌∙◌}
 use mathlib.Core.List.{List, ◌++◌}
 use Prim.Native.Nat.{ℕ, ◌+◌, ◌-◌, ◌*◌, ◌≤◌, ◌<◌}
-use native.Mathlib.Nat.{mul-le-mul}
 use native.Mathlib.Omega.{arith}
 use lib.ListN.{length, take, drop, length-append, length-drop, length-take}
 use Rattle.lists.proofs.Laws.{run_fits, part_length}
@@ -10,7 +9,7 @@ use Rattle.rect.specs.declared.Rect.{Rect}
 use Rattle.rect.specs.Rects.{Inside}
 use Rattle.color.specs.declared.Pixel.{Pixel}
 use Rattle.raster.specs.Surface.{run, pixel_in, pixel_of, overlay}
-use Rattle.raster.specs.Rows.{Placed, Part, stepped, rows_to, Rows}
+use Rattle.raster.specs.Rows.{Part, stepped, rows_to, Rows}
 use Rattle.raster.specs.declared.Target.{Target}
 use Rattle.raster.proofs.Pixels.{run_length, pixel_before_lem, pixel_after, pixel_take, pixel_drop, run_at}
 use Rattle.raster.proofs.Runs.{run_same}
@@ -100,12 +99,6 @@ module _ (w h : ℕ) (a : Rect) (f : ℕ → ℕ → Pixel) (s d : List ℕ) (y 
       (λ c4. put_after s q n m b fits (v * w + x) (rw u (omega arith)) ∙ s_out x v k l (λ u. omega (arith, u.above))))))))
 
 -- ---- the loop
--- a row's places are small numbers
-pub row_small : (t : Target) → Placed t → (y : ℕ) → y < t.area.y1 → (y * t.width + t.width) * 4 ≤ 4194304
-row_small t p y l =
-    let e : y * t.width + t.width ≤ t.height * t.width = run_fits t.width y t.height (omega (arith, p.on.high)) in
-    omega (arith, mul-le-mul {n₁ = t.height} {m₁ = t.width} {n₂ = 1024} {m₂ = 1024} p.high p.wide)
-
 -- what a turn has of row y, whose bytes from `from` to before `to` are lent, and given back as q with g done at each pixel
 pub record Lent (t : Target) (g : ℕ → ℕ → Pixel → Pixel) (d : List ℕ) (y : ℕ) (s : List ℕ) (from to : ℕ) : Type 0 where
   pub across : from ≤ to

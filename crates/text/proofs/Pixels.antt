@@ -1,18 +1,12 @@
 -- A pixel's text, stored byte by byte.
 use mathlib.Core.Path.{◌≡◌, refl, sym, ◌∙◌}
-use mathlib.Core.List.{List, [], ◌∷◌, ◌++◌, append_assoc}
-use Prim.Native.Nat.{ℕ, ◌+◌, ◌/◌, ◌%◌, ◌<◌}
+use mathlib.Core.List.{List, [], ◌∷◌, ◌++◌}
+use Prim.Native.Nat.{ℕ}
 use native.Mathlib.Omega.{arith}
 use lib.ListN.{length, set, take, length-set}
 use Rattle.lists.proofs.Laws.{take_put, take_all_of}
 use Rattle.color.specs.declared.Pixel.{Pixel}
-use Rattle.text.specs.Text.{hex_digit, byte_text, pixel_text}
-
--- two digits stored right after what is there
-pub stored_byte : (s : List ℕ) (i b x y : ℕ) → x ≡ hex_digit (b / 16) → y ≡ hex_digit (b % 16) → i + 1 < length s
-    → take (i + 2) (set (set s i x) (i + 1) y) ≡ take i s ++ byte_text b
-stored_byte s i b x y e f l =
-    rw (take_put (set s i x) (i + 1) (i + 2) y (omega arith) (simp length-set (omega arith)), take_put s i (i + 1) x refl (omega arith), append_assoc, e, f)
+use Rattle.text.specs.Text.{byte_text, pixel_text}
 
 -- four bytes, each after those before it, and what follows them
 pub stored_pixel_lem : (s t u v w : List ℕ) (p : Pixel) (z : ℕ) → take 2 t ≡ take 0 s ++ byte_text p.r → take 4 u ≡ take 2 t ++ byte_text p.g

@@ -14,12 +14,10 @@ pub fn row(pixels: &[u8], n: usize, out: &mut [u8])
     requires { (length pixels.now ≡ n * 4) × (length out.old ≡ n * 9) }
     ensures { out.new ≡ row_text n pixels.now }
 {
-    let mut x = 0;
-    while x < n {
+    for x in 0..n {
         let at = x * PIXEL_TEXT;
         let e = at + PIXEL_TEXT;
         put_pixel(raster::pixel(pixels, x), separator(n, x), &mut out[at..e]);
-        x += 1;
     }
 }
 
@@ -48,7 +46,7 @@ fn digit(d: u8) -> u8
     requires { d < 16 }
     ensures { result ≡ hex_digit d }
 {
-    if d < 10 { 48 + d } else { 87 + d }
+    if d < 10 { b'0' + d } else { b'a' + (d - 10) }
 }
 
 fn separator(n: usize, x: usize) -> u8

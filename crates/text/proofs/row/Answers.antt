@@ -1,16 +1,10 @@
 use mathlib.Core.Path.{◌≡◌, refl, ap, ◌∙◌}
 use mathlib.Core.List.{[], ◌∷◌, ◌++◌}
-use Prim.Native.Nat.{◌+◌, ◌-◌, ◌*◌, ◌≤◌}
+use Prim.Native.Nat.{◌+◌, ◌-◌, ◌*◌}
 use native.Mathlib.Omega.{arith}
-use lib.ListN.{length}
-use Rattle.lists.specs.Lists.{upto, over}
-use Rattle.lists.proofs.Laws.{emit_part, emit_all, emit_length, part_length}
+use Rattle.lists.proofs.Laws.{emit_part, emit_all, part_length}
 use Rattle.raster.specs.Surface.{pixel_in}
 use Rattle.text.specs.Text.{pixel_text, cell_text, row_text}
-use borrow.Author.Rules.{rules}
-use Rattle.raster.proofs.pixel.Reads as pixel-reads
-use Rattle.text.proofs.put_pixel.Reads as put-pixel-reads
-use Rattle.text.proofs.separator.Reads as separator-reads
 use Rattle.text.proofs.row.Goals as goal
 
 pub put_pixel-requires : goal.put_pixel-requires
@@ -27,13 +21,13 @@ loop-x-preserved c =
     let q : p.new.out ≡ f l.x =
     p.ensures ∙ ap (λ t. pixel_text t ++ (c.separator.result ∷ [])) c.pixel.ensures
     ∙ ap (λ t. pixel_text (pixel_in a.pixels.now l.x) ++ (t ∷ [])) c.separator.ensures in
-    let o = emit_part 9 f l.out a.out.now p.new.out l.x (l.x * 9) (l.x + 1) (l.x * 9 + 9 - l.x * 9) (λ k. refl) q l.invariant.2 refl refl
+    let o = emit_part 9 f l.out a.out.now p.new.out l.x (l.x * 9) (l.x + 1) (l.x * 9 + 9 - l.x * 9) (λ k. refl) q l.invariant refl refl
     (omega arith) (omega arith) in
-    (search rules, emit_length 9 f _ a.out.now (l.x + 1) (λ k. refl) o (omega arith), o)
+    o
 
 pub returns : goal.returns
 unfolding row_text
 returns c =
     let l = c.loop-x in
     let a = c.args in
-    emit_all 9 (cell_text a.n a.pixels.now) l.out a.out.now l.x a.n (λ k. refl) l.invariant.2 (omega arith) (omega arith)
+    emit_all 9 (cell_text a.n a.pixels.now) l.out a.out.now l.x a.n (λ k. refl) l.invariant (omega arith) (omega arith)

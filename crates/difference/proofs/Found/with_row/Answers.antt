@@ -3,7 +3,6 @@ use Rattle.difference.specs.Rows.{with_pixels}
 use Rattle.difference.specs.Compare.{gap_at, greatest}
 use Prim.Native.Nat.{ℕ, ◌+◌}
 use mathlib.Core.Path.{ap, ◌∙◌, sym}
-use borrow.Author.Rules.{rules}
 use Rattle.difference.proofs.Found.with_row.Goals as goal
 
 pub returns-then-gap-eq0 : goal.returns-then-gap-eq0
