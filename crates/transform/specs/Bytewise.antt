@@ -22,7 +22,7 @@ abbrev pub addend : ℤ → ℤ
 addend bias = pos 255 *ℤ bias +ℤ pos 128
 
 -- the numbers of four channels, for each byte of 16 pixels
-unfoldable pub laid : ℤ → ℤ → ℤ → ℤ → List ℤ
+unfoldable pub laid : {A : Type 0} → A → A → A → A → List A
 laid r g b a = upto 16 (λ i. r ∷ g ∷ b ∷ a ∷ [])
 
 abbrev pub scales_of : FixedTransform → List ℤ

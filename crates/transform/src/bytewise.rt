@@ -30,10 +30,8 @@ pub fn is_opaque(row: &[u8], n: usize) -> bool
     ensures { result ≡ true → Opaque row.now n }
 {
     let mut all: u32 = 4294967295;
-    let mut i = 0;
-    while i < n {
-        all = all & word(raster::pixel(row, i));
-        i += 1;
+    for i in 0..n {
+        all &= word(raster::pixel(row, i));
     }
     all >= 4278190080
 }
@@ -49,37 +47,22 @@ pub fn word(p: Pixel) -> u32
 pub fn is_narrow(t: FixedTransform) -> bool
     ensures { result ≡ true → Narrow t }
 {
-    if are_within(SCALE_LIMIT, t.sr, t.sg, t.sb, t.sa) {
-        return are_within(BIAS_LIMIT, t.br, t.bg, t.bb, t.ba);
-    }
-    false
+    are_within(SCALE_LIMIT, t.sr, t.sg, t.sb, t.sa)
+        && are_within(BIAS_LIMIT, t.br, t.bg, t.bb, t.ba)
 }
 
 // Whether the numbers of four channels are all within a limit.
 fn are_within(limit: u16, r: i32, g: i32, b: i32, a: i32) -> bool
     ensures { result ≡ true → AllWithin limit r g b a }
 {
-    if !is_within(limit, r) {
-        return false;
-    }
-    if !is_within(limit, g) {
-        return false;
-    }
-    if !is_within(limit, b) {
-        return false;
-    }
-    is_within(limit, a)
+    is_within(limit, r) && is_within(limit, g) && is_within(limit, b) && is_within(limit, a)
 }
 
 // Whether z is between the limit and its opposite.
 fn is_within(limit: u16, z: i32) -> bool
     ensures { result ≡ true → nat_abs z ≤ limit }
 {
-    let most = limit as i32;
-    if z < 0 - most {
-        return false;
-    }
-    z <= most
+    z.unsigned_abs() <= limit as u32
 }
 
 // Each channel of a row's n pixels, as it stands.
@@ -99,7 +82,7 @@ fn lay_scales(t: FixedTransform, scales: &mut [i16])
     requires { Narrow t × (length scales.old ≡ 64) }
     ensures { scales.new ≡ scales_of t }
 {
-    lay_narrow(
+    lay(
         narrowed(t.sr),
         narrowed(t.sg),
         narrowed(t.sb),
@@ -116,19 +99,17 @@ fn narrowed(scale: i32) -> i16
     scale as i16
 }
 
-// Four numbers of 16 bits, again and again.
-fn lay_narrow(r: i16, g: i16, b: i16, a: i16, s: &mut [i16])
+// Four numbers, again and again.
+fn lay<T: Copy>(r: T, g: T, b: T, a: T, s: &mut [T])
     requires { length s.old ≡ 64 }
     ensures { s.new ≡ laid r g b a }
 {
-    let mut i = 0;
-    while i < BLOCK {
+    for i in 0..BLOCK {
         let at = i * 4;
         s[at] = r;
         s[at + 1] = g;
         s[at + 2] = b;
         s[at + 3] = a;
-        i += 1;
     }
 }
 
@@ -137,7 +118,7 @@ fn lay_addends(t: FixedTransform, addends: &mut [i32])
     requires { Narrow t × (length addends.old ≡ 64) }
     ensures { addends.new ≡ addends_of t }
 {
-    lay_wide(
+    lay(
         addend(t.br),
         addend(t.bg),
         addend(t.bb),
@@ -154,22 +135,6 @@ fn addend(bias: i32) -> i32
     255 * bias + 128
 }
 
-// Four numbers of 32 bits, again and again.
-fn lay_wide(r: i32, g: i32, b: i32, a: i32, s: &mut [i32])
-    requires { length s.old ≡ 64 }
-    ensures { s.new ≡ laid r g b a }
-{
-    let mut i = 0;
-    while i < BLOCK {
-        let at = i * 4;
-        s[at] = r;
-        s[at + 1] = g;
-        s[at + 2] = b;
-        s[at + 3] = a;
-        i += 1;
-    }
-}
-
 // The row, 16 pixels at a time.
 fn transform_blocks(t: FixedTransform, scales: &[i16], addends: &[i32], row: &mut [u8], n: usize)
     requires narrow { Narrow t × (scales.now ≡ scales_of t) × (addends.now ≡ addends_of t) }
@@ -178,19 +143,12 @@ fn transform_blocks(t: FixedTransform, scales: &[i16], addends: &[i32], row: &mu
 {
     let mut i = 0;
     while i < n {
-        let end = sooner(i + BLOCK, n);
+        let end = (i + BLOCK).min(n);
         let from = i * 4;
         let to = end * 4;
         transform_block(t, scales, addends, &mut row[from..to], end - i);
         i = end;
     }
-}
-
-// The smaller of two places.
-fn sooner(a: usize, b: usize) -> usize
-    ensures { result ≡ min a b }
-{
-    if a < b { a } else { b }
 }
 
 // At most 16 pixels.
@@ -199,10 +157,8 @@ fn transform_block(t: FixedTransform, scales: &[i16], addends: &[i32], row: &mut
     requires row_len { (length row.old ≡ n * 4) × (n ≤ 16) }
     ensures { row.new ≡ run n (λ i. transform_channels t (pixel_in row.old i)) }
 {
-    let mut i = 0;
-    while i < row.len() {
+    for i in 0..row.len() {
         row[i] = transform_byte(row[i], scales[i], addends[i]);
-        i += 1;
     }
 }
 
@@ -212,20 +168,5 @@ fn transform_byte(c: u8, scale: i16, addend: i32) -> u8
     ensures { result ≡ byte_in (floor_div (pos c *ℤ scale +ℤ addend) 256) }
 {
     let z = ((c as i32) * (scale as i32) + addend) >> 8;
-    clamp_below(clamp_above(z)) as u8
-}
-
-// z, or 255 where it is above: both are the same byte.
-fn clamp_above(z: i32) -> i32
-    ensures { (byte_in result ≡ byte_in z) × (lt_z (pos 255) result ≡ false) }
-{
-    if z < 255 { z } else { 255 }
-}
-
-// z, or 0 where it is below.
-fn clamp_below(z: i32) -> i32
-    requires { lt_z (pos 255) z ≡ false }
-    ensures { result ≡ pos (byte_in z) }
-{
-    if z < 0 { 0 } else { z }
+    z.clamp(0, 255) as u8
 }

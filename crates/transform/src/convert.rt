@@ -45,7 +45,7 @@ fn in_256ths(v: f32) -> i32
     to_whole(v, 256) as i32
 }
 
-// v cut to −limit..limit.
+// v cut to −limit..limit; no call of clamp, which keeps a NaN, where the definition `cut` gives −limit.
 fn cut(v: f32, limit: f32) -> f32
     ensures { result ≡ cut limit v }
 {

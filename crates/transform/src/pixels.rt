@@ -23,11 +23,9 @@ pub fn transform_row(t: FixedTransform, row: &mut [u8], n: usize)
     requires { length row.old ≡ n * 4 }
     ensures { row.new ≡ run n (λ i. transformed t (pixel_in row.old i)) }
 {
-    if keeps_opaque(t) {
-        if is_opaque(row, n) {
-            transform_channels(t, row, n);
-            return;
-        }
+    if keeps_opaque(t) && is_opaque(row, n) {
+        transform_channels(t, row, n);
+        return;
     }
     let table = reciprocals::table();
     transform_pixels(t, &table, row, n);
@@ -37,10 +35,7 @@ pub fn transform_row(t: FixedTransform, row: &mut [u8], n: usize)
 fn keeps_opaque(t: FixedTransform) -> bool
     ensures { result ≡ true → (transform_channel t.sa t.ba 255 ≡ 255) × Narrow t }
 {
-    if transform_channel(255, t.sa, t.ba) == 255 {
-        return is_narrow(t);
-    }
-    false
+    transform_channel(255, t.sa, t.ba) == 255 && is_narrow(t)
 }
 
 // The pixels of a row with the table lent. A pixel that is equal to the one before it, as it often is in a gradient, takes its colour.
@@ -53,13 +48,11 @@ fn transform_pixels(t: FixedTransform, table: &[u32], row: &mut [u8], n: usize)
     }
     let mut last = raster::pixel(row, 0);
     let mut q = transform_by(t, reciprocal(table, last.a), last);
-    let mut i = 0;
-    while i < n {
+    for i in 0..n {
         let p = raster::pixel(row, i);
         q = transform_after(t, table, last, q, p);
         raster::put_pixel(row, i, q);
         last = p;
-        i += 1;
     }
 }
 
@@ -110,8 +103,5 @@ fn transform_channel(c: u16, scale: i32, bias: i32) -> u8
 fn byte_in(z: i64) -> u8
     ensures { result ≡ byte_in z }
 {
-    if z < 0 {
-        return 0;
-    }
-    if 255 < z { 255 } else { z as u8 }
+    z.clamp(0, 255) as u8
 }

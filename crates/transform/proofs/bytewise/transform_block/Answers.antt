@@ -12,7 +12,6 @@ use Rattle.fixed.proofs.Signed.{clean}
 use Rattle.transform.specs.Transforms.{byte_in}
 use Rattle.transform.specs.Bytewise.{addend}
 use Rattle.transform.proofs.Laid.{laid_length, laid_within, addend_within, byte_at, laid_bytes}
-use borrow.Author.Rules.{rules}
 use Rattle.transform.proofs.bytewise.transform_block.Goals as goal
 use Rattle.transform.proofs.bytewise.transform_block.Tie as tie
 use Rattle.transform.proofs.bytewise.transform_block.Lts as lts
@@ -57,13 +56,12 @@ loop-i-preserved c =
       to_z-of_z {w = w16} (record { sfits = c.transform_byte-arg-1.given }),
       to_z-of_z {w = w32} (record { sfits = c.transform_byte-arg-in-loop-i-1.given }),
     ) at c.transform_byte.ensures in (
-      search rules,
       simp length-set (omega arith),
       tab_turn f l.row a.row.now l.i c.transform_byte.result
           (byte
           ∙ ap (λ (d : ℕ). byte_in (floor_div (pos d *ℤ get_or a.scales.now l.i (pos 0) +ℤ get_or a.addends.now l.i (pos 0)) 256))
-          (tab_read f l.row a.row.now l.i 0 l.invariant.2))
-          l.invariant.2 (omega (arith, c.requires.row_len)),
+          (tab_read f l.row a.row.now l.i 0 l.invariant.1))
+          l.invariant.1 (omega (arith, c.requires.row_len)),
     )
 
 pub returns : goal.returns
@@ -71,5 +69,5 @@ returns c =
     let a = c.args in
     let l = c.loop-i in
     let f : ℕ → ℕ = byte_at a.scales.now a.addends.now a.row.now in
-    tab_all f l.row a.row.now l.i (a.n * 4) l.invariant.2 (omega arith) (omega (arith, c.requires.row_len))
+    tab_all f l.row a.row.now l.i (a.n * 4) l.invariant.1 (omega arith) (omega (arith, c.requires.row_len))
     ∙ rw (c.requires.narrow.1, c.requires.narrow.2) (laid_bytes a.t a.row.now a.n c.requires.row_len.1)

@@ -1,14 +1,10 @@
 -- `transform::bytewise::transform_block` meets its contract: the bytes before i are transformed, and the others are as they were.
 use mathlib.Core.Path.{◌≡◌}
-use Prim.Native.Nat.{◌-◌, ◌*◌, ◌≤◌}
+use Prim.Native.Nat.{◌*◌}
 use lib.ListN.{length}
 use Rattle.lists.specs.Lists.{tab, over}
 use Rattle.transform.proofs.Laid.{byte_at}
 use Rattle.transform.proofs.bytewise.transform_block.Given as goal
 
--- `transform::bytewise::transform_block` meets its contract: the bytes before i are transformed, and the others are as they were.
 abbrev pub invariant-loop-i : goal.invariant-loop-i
-invariant-loop-i l = (l.i ≤ l.n * 4) × (length l.row ≡ l.n * 4) × (l.row ≡ over (tab l.i (byte_at l.scales l.addends l.initial.row)) l.initial.row)
-
-abbrev pub decreases-loop-i : goal.decreases-loop-i
-decreases-loop-i l = l.n * 4 - l.i
+invariant-loop-i l = (length l.row ≡ l.n * 4) × (l.row ≡ over (tab l.i (byte_at l.scales l.addends l.initial.row)) l.initial.row)

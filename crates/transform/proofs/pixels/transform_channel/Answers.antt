@@ -24,22 +24,6 @@ both s = add (keep w64 (scaled s) tt) (keep w64 (added s) tt)
 abbrev half_up : goal.Start → Num
 half_up s = add (keep w64 (both s) tt) (lit 128)
 
-pub overflow_cast-scale : goal.overflow_cast-scale
-overflow_cast-scale c =
-    need (scale c) tt
-
-pub overflow_mul-c : goal.overflow_mul-c
-overflow_mul-c c =
-    need (scaled c) tt
-
-pub overflow_cast-bias : goal.overflow_cast-bias
-overflow_cast-bias c =
-    need (bias c) tt
-
-pub overflow_mul-bias : goal.overflow_mul-bias
-overflow_mul-bias c =
-    need (added c) tt
-
 pub overflow_add-c : goal.overflow_add-c
 overflow_add-c c =
     need (both c) tt

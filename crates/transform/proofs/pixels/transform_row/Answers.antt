@@ -6,10 +6,6 @@ use Rattle.transform.specs.Transforms.{transform_channels, transformed}
 use Rattle.transform.proofs.Opaque.{opaque_transformed}
 use Rattle.transform.proofs.pixels.transform_row.Goals as goal
 
-pub transform_channels-requires : goal.transform_channels-requires
-transform_channels-requires c =
-    ((c.keeps_opaque.ensures c.if-keeps_opaque.true).1, c.requires)
-
 pub returns-then-is_opaque : goal.returns-then-is_opaque
 returns-then-is_opaque c =
     let a = c.args in
