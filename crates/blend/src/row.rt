@@ -34,14 +34,12 @@ fn span_runs(mode: u16, runs: &[u16], n: usize, src: Pixel, row: &mut [u8], w: u
     ensures { row.new ≡ composite_row mode (expand runs.now n) (λ i. 255) (λ i. src) row.old }
 {
     let mut a = 0;
-    let mut j = 0;
-    while j < n {
+    for j in 0..n {
         let e = (runs[j] / 32) as usize;
         let from = a * 4;
         let to = e * 4;
         composite_span(mode, (runs[j] % 32) as u8, src, &mut row[from..to], e - a);
         a = e;
-        j += 1;
     }
 }
 
@@ -66,14 +64,12 @@ fn laid_runs(runs: &[u16], n: usize, paint: &[u8], keep: &[u8], row: &mut [u8], 
     ensures { row.new ≡ composite_row mode_src_over (expand runs.now n) (λ i. 255) (λ i. pixel_in paint.now 0) row.old }
 {
     let mut a = 0;
-    let mut j = 0;
-    while j < n {
+    for j in 0..n {
         let e = (runs[j] / 32) as usize;
         let from = a * 4;
         let to = e * 4;
         over_laid((runs[j] % 32) as u8, paint, keep, &mut row[from..to], e - a);
         a = e;
-        j += 1;
     }
 }
 
@@ -96,11 +92,9 @@ pub fn composite_painted_runs(
         (λ i. composite_on mode (get_or (expand runs.now n) (start_of runs.now some.from + i) 0) 255 (pixel_in src.now i)
         (pixel_in row.old i)) }
 {
-    let end = some.to;
     let first = runs::start(runs, some.from);
-    let mut j = some.from;
     let mut a = 0;
-    while j < end {
+    for j in some.from..some.to {
         let e = (runs[j] / 32) as usize - first;
         let from = a * 4;
         let to = e * 4;
@@ -112,7 +106,6 @@ pub fn composite_painted_runs(
             e - a,
         );
         a = e;
-        j += 1;
     }
 }
 
@@ -135,11 +128,9 @@ pub fn composite_masked_runs(
         (λ i. composite_on mode (get_or (expand runs.now n) (start_of runs.now some.from + i) 0) (get_or mask.now i 0)
         (pixel_in src.now i) (pixel_in row.old i)) }
 {
-    let end = some.to;
     let first = runs::start(runs, some.from);
-    let mut j = some.from;
     let mut a = 0;
-    while j < end {
+    for j in some.from..some.to {
         let e = (runs[j] / 32) as usize - first;
         let from = a * 4;
         let to = e * 4;
@@ -152,6 +143,5 @@ pub fn composite_masked_runs(
             e - a,
         );
         a = e;
-        j += 1;
     }
 }

@@ -7,13 +7,11 @@ use Rattle.raster.specs.Surface.{pixel_in}
 use Rattle.blend.specs.PorterDuff.{mode_src_over}
 use Rattle.blend.proofs.Spans.{next_start, LentRun, run_lent, run_asks, run_turn}
 use Rattle.blend.proofs.Masks.{runs_blended}
+use Rattle.blend.proofs.row.laid_runs.Goals.{In-loop-j}
 use Rattle.blend.proofs.row.laid_runs.Goals as goal
-use Rattle.blend.proofs.row.laid_runs.Tie as tie
-use Rattle.blend.proofs.row.laid_runs.Lts as lts
-use Rattle.blend.proofs.row.laid_runs.Reads as reads
 
 -- the run of the turn
-turn : (c : lts.In-loop tie.the-claims reads.Pre reads.Post goal.the-invariant-loop-j goal.the-decreases-loop-j tie.handed_clauses) → let l = c.loop-j in
+turn : (c : In-loop-j) → let l = c.loop-j in
     let a = c.args in
     LentRun a.runs.now l.j 0 l.a (length a.row.now)
 turn c =
@@ -21,22 +19,22 @@ turn c =
     let a = c.args in
     let p = c.requires in
     run_lent a.runs.now a.n a.w p.runs.0 l.j a.n 0 l.a (length a.row.now) c.loop-j-test.true (omega arith) p.runs.1
-    (omega (arith, l.invariant.1)) (omega (arith, p.runs.2, p.runs.0.last))
+    (omega (arith, l.invariant.0)) (omega (arith, p.runs.2, p.runs.0.last))
 
 pub over_laid-requires : goal.over_laid-requires
 over_laid-requires c =
     let a = c.args in
     let l = c.loop-j in
     record {
-      coverage_bound = run_asks a.runs.now a.n a.w c.requires.runs.0 l.j l.a c.loop-j-test.true l.row a.row.now (turn c.before.before.before.before)
+      coverage_bound = run_asks a.runs.now a.n a.w c.requires.runs.0 l.j l.a c.loop-j-test.true l.row a.row.now (turn (goal.at.over_laid-requires c).In-loop-j)
           c.requires.coverage
-          l.invariant.2.long;
+          l.invariant.1.long;
       paint_value = c.requires.paint_value;
     }
 
 pub slice_bounds-over_laid-end : goal.slice_bounds-over_laid-end
 slice_bounds-over_laid-end c =
-    omega (arith, (turn c.before.before.before).within, c.loop-j.invariant.2.long)
+    omega (arith, (turn (goal.at.slice_bounds-over_laid-end c).In-loop-j).within, c.loop-j.invariant.1.long)
 
 pub loop-j-preserved : goal.loop-j-preserved
 loop-j-preserved c =
@@ -44,11 +42,10 @@ loop-j-preserved c =
     let l = c.loop-j in
     let below = c.loop-j-test.true in
     let call = c.over_laid in (
-      omega (arith, below),
       sym (next_start a.runs.now l.j),
-      run_turn a.runs.now a.n a.w c.requires.runs.0 l.j l.a below l.row a.row.now (turn c.before.before.before.before.before.before.before) mode_src_over
+      run_turn a.runs.now a.n a.w c.requires.runs.0 l.j l.a below l.row a.row.now (turn (goal.at.loop-j-preserved c).In-loop-j) mode_src_over
           (pixel_in a.paint.now 0)
-          call.new.row l.invariant.1 l.invariant.2 call.ensures,
+          call.new.row l.invariant.0 l.invariant.1 call.ensures,
     )
 
 pub returns : goal.returns
@@ -57,4 +54,4 @@ returns c =
     let l = c.loop-j in
     let all : l.j ≡ a.n = omega arith in
     runs_blended mode_src_over a.runs.now a.n a.w c.requires.runs.0 c.requires.coverage (pixel_in a.paint.now 0) l.row a.row.now l.a
-    c.requires.runs.2 (l.invariant.1 ∙ ap (start_of a.runs.now) all) l.invariant.2
+    c.requires.runs.2 (l.invariant.0 ∙ ap (start_of a.runs.now) all) l.invariant.1

@@ -1,6 +1,5 @@
 -- `blend::laid_runs` meets its contract: the runs before j are stored, and the other pixels are as they were. Assumes nothing.
 use mathlib.Core.Path.{◌≡◌}
-use Prim.Native.Nat.{◌-◌, ◌≤◌}
 use lib.ListN.{get_or}
 use Rattle.runs.specs.Runs.{start_of, expand}
 use Rattle.raster.specs.Surface.{pixel_in}
@@ -12,8 +11,5 @@ use Rattle.blend.proofs.row.laid_runs.Given as goal
 -- `blend::laid_runs` meets its contract: the runs before j are stored, and the other pixels are as they were. Assumes nothing.
 abbrev pub invariant-loop-j : goal.invariant-loop-j
 invariant-loop-j l =
-    (l.j ≤ l.n) × (l.a ≡ start_of l.runs l.j) × Stored (λ i. unmasked_on mode_src_over (get_or (expand l.runs l.n) i 0) (pixel_in l.paint 0)
+    (l.a ≡ start_of l.runs l.j) × Stored (λ i. unmasked_on mode_src_over (get_or (expand l.runs l.n) i 0) (pixel_in l.paint 0)
     (pixel_in l.initial.row i)) l.initial.row l.a l.row
-
-abbrev pub decreases-loop-j : goal.decreases-loop-j
-decreases-loop-j l = l.n - l.j
