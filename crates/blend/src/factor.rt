@@ -18,53 +18,42 @@ pub const DST_IN: u16 = 0x2004;
 pub fn is_mode(mode: u16) -> bool
     ensures { result ≡ is_mode mode }
 {
-    if mode < SRC {
-        return false;
-    }
-    mode <= DST_IN
+    SRC <= mode && mode <= DST_IN
 }
 
 // How much of the source is taken, under the destination's alpha.
+#[tactic(auto, unfolding(crate::specs::PorterDuff::source_factor))]
 pub fn source_factor(mode: u16, da: u8) -> u8
     ensures { result ≡ source_factor mode da }
 {
-    if mode == DST_OVER {
-        return 255 - da;
+    match mode {
+        DST_OVER => 255 - da,
+        SRC_IN => da,
+        DST_IN => 0,
+        _ => 255,
     }
-    if mode == SRC_IN {
-        return da;
-    }
-    if mode == DST_IN {
-        return 0;
-    }
-    255
 }
 
 // How much of the destination is kept, under the source's alpha.
+#[tactic(auto, unfolding(crate::specs::PorterDuff::destination_factor))]
 pub fn destination_factor(mode: u16, sa: u8) -> u8
     ensures { result ≡ destination_factor mode sa }
 {
-    if mode == SRC_OVER {
-        return 255 - sa;
+    match mode {
+        SRC_OVER => 255 - sa,
+        DST_OVER => 255,
+        DST_IN => sa,
+        _ => 0,
     }
-    if mode == DST_OVER {
-        return 255;
-    }
-    if mode == DST_IN {
-        return sa;
-    }
-    0
 }
 
 // Whether the source is taken whole and nothing of the destination is kept.
 pub fn hides(mode: u16, sa: u8) -> bool
     ensures { result ≡ hides mode sa }
 {
-    if mode == SRC {
-        return true;
+    match mode {
+        SRC => true,
+        SRC_OVER => sa == 255,
+        _ => false,
     }
-    if mode == SRC_OVER {
-        return sa == 255;
-    }
-    false
 }
