@@ -8,9 +8,10 @@ use lib.ListN.{get_or, take, drop}
 use lib.Seq.{get_or-take, get_or-drop}
 use lib.Dec.{eqb}
 use borrow.Author.Tests.{eqb-true, eqb-false}
-use Rattle.codes.specs.Codes.{bad_checksum}
-use Rattle.codes.proofs.Refusals.{refuses}
-use Rattle.codes.proofs.First.{sooner_none, soonest_none, first_hit}
+use Rattle.std.specs.Prelude.{Ok, Err}
+use Rattle.codes.specs.declared.Code.TheVariants.{BadChecksum}
+use Rattle.codes.specs.First.{first_among}
+use Rattle.codes.proofs.Judged.{both_accept, all_accept, refuse_turn}
 use Rattle.lists.specs.Lists.{total}
 use Rattle.lists.proofs.Laws.{total_same}
 use Rattle.rect.proofs.Laws.{both, either}
@@ -18,8 +19,8 @@ use Rattle.fixed.specs.Little.{u16_at}
 use Rattle.scene.specs.Layout.{block_bytes, payload_bytes, payload_words, check_modulus, draw_blocks}
 use Rattle.scene.specs.Blocks.{checksum_of, block_number, block_right_from, block_right, block_of, draw_of}
 use Rattle.scene.specs.Header.{count_of, edition_of}
-use Rattle.scene.specs.Faults.{accepted, fault, demand, first_fault}
-use Rattle.scene.specs.Rules.{draw_rules, in_draw, check_faults_from, draw_fault_from, draw_fault, scene_fault_from, scene_fault}
+use Rattle.scene.specs.Faults.{fault, demand}
+use Rattle.scene.specs.Rules.{draw_rules, in_draw, told_by, check_faults_from, draw_fault_from, draw_fault, scene_fault_from, scene_fault}
 use Rattle.scene.specs.declared.Fault.{Fault}
 use Rattle.scene.proofs.Accepted.{met, passed, header_count}
 use Rattle.scene.proofs.Verdicts.{by_draws}
@@ -89,17 +90,16 @@ module _ (k : List ℕ) (a b : ℕ) where
 
 -- ---- every block of an accepted file is right
 module _ (start : ℕ → ℕ) (lent : Bool) (s : List ℕ) where
-  draw_block : (i j : ℕ) → j < draw_blocks → (draw_fault_from start lent s i).code ≡ 0 → block_right_from start s (block_of i + j) ≡ true
+  draw_block : (i j : ℕ) → j < draw_blocks → draw_fault_from start lent s i ≡ Ok tt → block_right_from start s (block_of i + j) ≡ true
   unfolding draw_fault_from check_faults_from
   draw_block i j l h =
       let right : ℕ → Bool = λ k. block_right_from start s (block_of i + k) in
-      let wrong : ℕ → Fault = λ k. fault bad_checksum i (block_bytes * (block_of i + k) + payload_bytes) in
-      let checks : Fault = first_fault draw_blocks (λ k. demand (right k) (wrong k)) in
-      met (right j) (wrong j) (refuses bad_checksum refl)
-      (soonest_none (λ f. f.code) accepted (λ k. demand (right k) (wrong k)) draw_blocks
-      (sooner_none (λ f. f.code) checks (in_draw i (draw_rules lent (edition_of s) (draw_of s i))) h).0 j l)
+      let wrong : ℕ → Fault = λ k. fault BadChecksum i (block_bytes * (block_of i + k) + payload_bytes) in
+      met (right j) (wrong j)
+      (all_accept (λ k. demand (right k) (wrong k)) draw_blocks
+      (both_accept (first_among draw_blocks (λ k. demand (right k) (wrong k))) (told_by (in_draw i) (draw_rules lent (edition_of s) (draw_of s i))) h).0 j l)
 
-  pub accepted_blocks : (scene_fault_from start lent s).code ≡ 0 → (b : ℕ) → b < block_of (count_of s) → block_right_from start s b ≡ true
+  pub accepted_blocks : scene_fault_from start lent s ≡ Ok tt → (b : ℕ) → b < block_of (count_of s) → block_right_from start s b ≡ true
   accepted_blocks h b l =
       either (eqb b 0)
       (λ z. rw (eqb-true b 0 z) (passed start lent s h).first)
@@ -117,7 +117,7 @@ module _ (s t : List ℕ) (a b : ℕ) (same : block_at s a ≡ block_at t b) whe
       (sym (block_alone block_number t b) ∙ q)
 
   -- in accepted scenes, with or without a mask, they stand in the same place: no file with a block of an accepted one at another number is accepted
-  pub accepted_in_place : (masked masked' : Bool) → (scene_fault masked s).code ≡ 0 → (scene_fault masked' t).code ≡ 0
+  pub accepted_in_place : (masked masked' : Bool) → scene_fault masked s ≡ Ok tt → scene_fault masked' t ≡ Ok tt
       → a < block_of (count_of s) → b < block_of (count_of t) → a ≡ b
   accepted_in_place masked masked' g h l m =
       let x = header_count s (passed block_number masked s g).header in
@@ -132,7 +132,7 @@ unfolding block_right_from
 first_block_as_before s = refl
 
 -- a scene that was accepted then and that has draws is refused at the check of block 1
-module _ (lent : Bool) (s : List ℕ) (old : (scene_fault_from (λ _. 0) lent s).code ≡ 0) (drawn : 1 ≤ count_of s) where
+module _ (lent : Bool) (s : List ℕ) (old : scene_fault_from (λ _. 0) lent s ≡ Ok tt) (drawn : 1 ≤ count_of s) where
   block_1_wrong : block_right s 1 ≡ false
   block_1_wrong =
       either (block_right s 1)
@@ -143,13 +143,12 @@ module _ (lent : Bool) (s : List ℕ) (old : (scene_fault_from (λ _. 0) lent s)
       absurd (omega arith))
       (λ r. r)
 
-  draw_0_refused : draw_fault lent s 0 ≡ fault bad_checksum 0 (block_bytes + payload_bytes)
+  draw_0_refused : draw_fault lent s 0 ≡ Err (fault BadChecksum 0 (block_bytes + payload_bytes))
   unfolding draw_fault_from check_faults_from
   draw_0_refused = rw block_1_wrong
 
-  pub old_scene_refused : scene_fault lent s ≡ fault bad_checksum 0 (block_bytes + payload_bytes)
+  pub old_scene_refused : scene_fault lent s ≡ Err (fault BadChecksum 0 (block_bytes + payload_bytes))
   old_scene_refused =
       let p = passed (λ _. 0) lent s old in
       by_draws lent s p.whole (first_block_as_before s ∙ p.first) p.header p.bytes
-      ∙ first_hit (λ f. f.code) accepted (draw_fault lent s) 0 (count_of s) drawn refl (rw draw_0_refused (refuses bad_checksum refl))
-      ∙ draw_0_refused
+      ∙ refuse_turn (draw_fault lent s) 0 (count_of s) _ drawn refl draw_0_refused

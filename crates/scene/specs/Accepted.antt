@@ -1,6 +1,6 @@
 -- What a scene and a draw have that the rules accept, for the contracts and proofs of those that take them. A reviewer of the paper need not
 -- read it: all of it follows from the rules.
-use Rattle.std.specs.Prelude.{ℕ, ◌+◌, ◌*◌, ◌≤◌, ◌<◌, ◌≡◌, List, true, false, length}
+use Rattle.std.specs.Prelude.{ℕ, ◌+◌, ◌*◌, ◌≤◌, ◌<◌, ◌≡◌, List, true, false, length, Ok}
 use Rattle.std.specs.Float.Ieee.{is_nan}
 use Rattle.fixed.specs.Floats.{f32_at, at_most}
 use Rattle.blend.specs.PorterDuff.{is_mode}
@@ -32,7 +32,7 @@ pub record AcceptedFields (d : List ℕ) : Type 0 where
 
 pub record AcceptedDraw (edition : ℕ) (d : List ℕ) : Type 0 where
   pub fields : AcceptedFields d
-  pub path : (fault_to (fixed_matrix (matrix_of d)) (segments_of d) (coordinates_of edition d) (segment_count d)).code ≡ 0
+  pub path : fault_to (fixed_matrix (matrix_of d)) (segments_of d) (coordinates_of edition d) (segment_count d) ≡ Ok tt
 
 pub record AcceptedScene (s : List ℕ) : Type 0 where
   pub width_least : 1 ≤ width_of s

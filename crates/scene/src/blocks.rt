@@ -20,15 +20,11 @@ pub fn checksum(start: u32, s: &[u8], at: usize) -> Checksum
     let mut plain = start;
     let mut weighted = start;
     let mut late = 0;
-    let mut place = at;
-    let mut l: u32 = 0;
-    while l < STRIP_WORDS {
-        let c = column(s, place);
-        l += 1;
+    for l in 0..STRIP_WORDS {
+        let c = column(s, at + 2 * l as usize);
         plain += c.all;
         late += c.late;
-        weighted += l * c.all;
-        place += 2;
+        weighted += (l + 1) * c.all;
     }
     let x = u16_at(s, at + 504);
     let y = u16_at(s, at + 506);
@@ -73,27 +69,10 @@ pub fn read_draw(s: &[u8], i: usize, out: &mut [u8])
     ensures { out.new ≡ draw_of s.now i }
 {
     let first = 1 + DRAW_BLOCKS * i;
-    let mut j = 0;
-    while j < DRAW_BLOCKS {
+    for j in 0..DRAW_BLOCKS {
         let at = PAYLOAD_BYTES * j;
-        copy(
-            s,
-            BLOCK_BYTES * (first + j),
-            &mut out[at..at + PAYLOAD_BYTES],
-        );
-        j += 1;
-    }
-}
-
-// The bytes from a place on, as many as out takes.
-pub fn copy(s: &[u8], at: usize, out: &mut [u8])
-    requires { at + length out.old ≤ length s.now }
-    ensures { out.new ≡ take (length out.old) (drop at s.now) }
-{
-    let mut i = 0;
-    while i < out.len() {
-        out[i] = s[at + i];
-        i += 1;
+        let from = BLOCK_BYTES * (first + j);
+        out[at..at + PAYLOAD_BYTES].copy_from_slice(&s[from..from + PAYLOAD_BYTES]);
     }
 }
 
@@ -103,10 +82,8 @@ pub fn same_draw(s: &[u8], t: &[u8], i: usize) -> bool
     ensures { result ≡ same_draw (draw_of s.now i) (draw_of t.now i) }
 {
     let mut same = true;
-    let mut j = 0;
-    while j < DRAW_BLOCKS {
+    for j in 0..DRAW_BLOCKS {
         same = same_block(same, s, t, i, j);
-        j += 1;
     }
     same
 }
@@ -119,10 +96,8 @@ fn same_block(before: bool, s: &[u8], t: &[u8], i: usize, j: usize) -> bool
 {
     let at = BLOCK_BYTES * (1 + DRAW_BLOCKS * i + j);
     let mut same = before;
-    let mut k = 0;
-    while k < PAYLOAD_BYTES {
+    for k in 0..PAYLOAD_BYTES {
         same = still_same(same, s[at + k], t[at + k]);
-        k += 1;
     }
     same
 }
@@ -131,5 +106,5 @@ fn same_block(before: bool, s: &[u8], t: &[u8], i: usize, j: usize) -> bool
 pub fn still_same(all: bool, x: u8, y: u8) -> bool
     ensures { result ≡ (all && eqb x y) }
 {
-    if x == y { all } else { false }
+    all & (x == y)
 }

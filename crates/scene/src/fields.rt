@@ -1,6 +1,5 @@
 // A draw's fields, of its 2,032 bytes, and of the scene's edition where they depend on it.
 ghost use Rattle.std.specs.Prelude.{◌≡◌, true, ◌+◌, ◌≤◌, ◌<◌, length};
-ghost use Rattle.std.specs.Float.{nan};
 ghost use Rattle.fixed.specs.Floats.{f32_at};
 ghost use Rattle.paint.specs.Paints.{paint_type};
 ghost use Rattle.path.specs.Matrices.{matrix_in_limits, fixed_matrix};
@@ -19,9 +18,9 @@ use crate::layout::{
     STOP_BYTES, STOP_COUNT_AT, STOPS_AT, TRANSFORM_AT, TRANSLATION_AT,
 };
 use color::Color;
-use fixed::{Real, f32_at, u16_at};
+use fixed::{f32_at, u16_at};
 use paint::{LinearPoints, Paint, RadialPoints};
-use path::{Converted, FixedMatrix, Matrix};
+use path::{FixedMatrix, Matrix};
 use transform::ColorTransform;
 
 // Whether the fill rule is non-zero; else it is even-odd.
@@ -104,27 +103,21 @@ pub fn segment_count(d: &[u8]) -> usize
     requires { length d.now ≡ draw_bytes }
     ensures { (result ≡ segment_count d.now) × (result < 256) }
 {
-    wide(d[SEGMENT_COUNT_AT])
+    usize::from(d[SEGMENT_COUNT_AT])
 }
 
 pub fn scissor_count(d: &[u8]) -> usize
     requires { length d.now ≡ draw_bytes }
     ensures { (result ≡ scissor_count d.now) × (result < 256) }
 {
-    wide(d[SCISSOR_COUNT_AT])
+    usize::from(d[SCISSOR_COUNT_AT])
 }
 
 pub fn stop_count(d: &[u8]) -> usize
     requires { length d.now ≡ draw_bytes }
     ensures { (result ≡ stop_count d.now) × (result < 256) }
 {
-    wide(d[STOP_COUNT_AT])
-}
-
-fn wide(b: u8) -> usize
-    ensures { (result ≡ b) × (result < 256) }
-{
-    b as usize
+    usize::from(d[STOP_COUNT_AT])
 }
 
 // The matrix before conversion.
@@ -143,22 +136,12 @@ pub fn matrix(d: &[u8]) -> Matrix
 }
 
 // The matrix in 1/65,536, where its entries are within their limits.
+#[tactic(auto, unfolding(path::specs::Answers::converted))]
 pub fn fixed_matrix(d: &[u8]) -> FixedMatrix
     requires { (length d.now ≡ draw_bytes) × (matrix_in_limits (matrix_of d.now) ≡ true) }
     ensures { result ≡ fixed_matrix (matrix_of d.now) }
 {
-    let c = FixedMatrix::from_floats(matrix(d));
-    match c {
-        Converted::Within(m) => m,
-        Converted::OutOfLimits => FixedMatrix {
-            sx: 0,
-            shy: 0,
-            shx: 0,
-            sy: 0,
-            tx: 0,
-            ty: 0,
-        },
-    }
+    FixedMatrix::from_floats(matrix(d)).unwrap()
 }
 
 // What the draw paints with.
@@ -236,18 +219,7 @@ fn float_at(d: &[u8], at: usize) -> f32
     requires { at + 4 ≤ length d.now }
     ensures { result ≡ f32_at d.now at }
 {
-    let v = f32_at(d, at);
-    match v {
-        Real::Number(x) => x,
-        Real::Nan => not_a_number(),
-    }
-}
-
-fn not_a_number() -> f32
-    ensures { result ≡ nan }
-{
-    let zero: f32 = 0.0;
-    zero / zero
+    f32_at(d, at).unwrap_or(f32::NAN)
 }
 
 // The bytes of the scissors.

@@ -7,7 +7,7 @@ ghost use Rattle.scene.specs.Faults as Faults;
 ghost use Rattle.scene.specs.Rules.{is_side, header_rules};
 
 use crate::FieldFault;
-use crate::faults::{must, or_else, unused};
+use crate::faults::{must, unused};
 use crate::layout::{
     BACKGROUND_AT, COUNT_AT, DRAW_LIMIT, EDITION_AT, HEADER_END, HEIGHT_AT, NEW_EDITION,
     PAYLOAD_BYTES, SIDE_LIMIT, WIDTH_AT,
@@ -61,24 +61,20 @@ pub fn background(s: &[u8]) -> Pixel
 }
 
 // The fields in order.
-pub fn header_rules(s: &[u8]) -> FieldFault
+#[tactic(auto, using(crate::proofs::First::in_order), unfolding(crate::specs::Rules::header_rules))]
+pub fn header_rules(s: &[u8]) -> Result<(), FieldFault>
     requires { block_bytes ≤ length s.now }
     ensures { result ≡ header_rules s.now }
 {
-    let zeros = unused(s, HEADER_END, PAYLOAD_BYTES);
-    let from_edition = or_else(must(edition(s) <= NEW_EDITION, EDITION_AT), zeros);
-    let from_count = or_else(
-        must(u16_at(s, COUNT_AT) <= DRAW_LIMIT, COUNT_AT),
-        from_edition,
-    );
-    or_else(
-        side_rule(s, WIDTH_AT),
-        or_else(side_rule(s, HEIGHT_AT), from_count),
-    )
+    side_rule(s, WIDTH_AT)?;
+    side_rule(s, HEIGHT_AT)?;
+    must(u16_at(s, COUNT_AT) <= DRAW_LIMIT, COUNT_AT)?;
+    must(edition(s) <= NEW_EDITION, EDITION_AT)?;
+    unused(s, HEADER_END, PAYLOAD_BYTES)
 }
 
 // A side of a picture: 1 to 1,024 pixels.
-fn side_rule(s: &[u8], at: usize) -> FieldFault
+fn side_rule(s: &[u8], at: usize) -> Result<(), FieldFault>
     requires { (block_bytes ≤ length s.now) × (at < header_end) }
     ensures { result ≡ Faults.must (is_side (u16_at s.now at)) at }
 {

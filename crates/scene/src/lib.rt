@@ -9,8 +9,10 @@ pub mod layout;
 pub mod rules;
 pub mod verdict;
 
+use codes::Code;
+
 // The two sums of a block's check.
-#[derive(Clone, Copy)]
+#[derive(Clone, Copy, PartialEq, Eq)]
 pub struct Checksum {
     pub plain: u16,
     pub weighted: u16,
@@ -23,17 +25,17 @@ pub struct Column {
     pub late: u32,
 }
 
-// The first fault among fields: its code, 0 for none, and the place that the rules met, in the bytes that are judged.
-#[derive(Clone, Copy)]
+// The first fault among fields: its code, and the place that the rules met, in the bytes that are judged.
+#[derive(Clone, Copy, PartialEq, Eq)]
 pub struct FieldFault {
-    pub code: u32,
+    pub code: Code,
     pub place: u16,
 }
 
-// A scene's first fault: its code, 0 for none, the draw number, and the offset in the file.
-#[derive(Clone, Copy)]
+// A scene's first fault: its code, the draw number, and the offset in the file.
+#[derive(Clone, Copy, PartialEq, Eq)]
 pub struct Fault {
-    pub code: u32,
+    pub code: Code,
     pub draw: usize,
     pub offset: usize,
 }

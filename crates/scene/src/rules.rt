@@ -1,17 +1,17 @@
 // The rules of a draw, judged by its own bytes and the scene's edition: fields in layout order, then the path, then what is left unused.
-ghost use Rattle.std.specs.Prelude.{◌≡◌, true, ◌≤◌, ◌<◌, get_or, length, leb};
+ghost use Rattle.std.specs.Prelude.{◌≡◌, true, ◌≤◌, ◌<◌, get_or, length, leb, Ok};
 ghost use Rattle.blend.specs.PorterDuff.{is_mode};
 ghost use Rattle.path.specs.Matrices.{matrix_in_limits};
 ghost use Rattle.scene.specs.Layout.{draw_bytes, segment_limit, radial_at, radial_floats, flags_limit, flags_at, blend_at, paint_type_at, spread_at};
 ghost use Rattle.scene.specs.Fields.{blend_of, paint_type_of, spread_of, segment_count, stop_count, matrix_of};
 ghost use Rattle.scene.specs.Faults as Faults;
-ghost use Rattle.scene.specs.Faults.{or_else};
+ghost use Rattle.codes.specs.First.{first_of};
 ghost use Rattle.scene.specs.Rules.{is_gradient, is_paint, is_spread, flags_allowed, head_rules, stop_limit_of, count_rules, float_rules};
-ghost use Rattle.scene.specs.Rules.{radial_limit, focal_rule, circle_rules, stop_rules, list_rules, transform_rules, flat_rule, path_rules, rest_rules};
+ghost use Rattle.scene.specs.Rules.{radial_limit, focal_rule, circle_rules, stop_rules, list_rules, transform_rules, flat_rule, in_path, path_rules, rest_rules};
 ghost use Rattle.scene.specs.Rules.{draw_rules};
 
 use crate::FieldFault;
-use crate::faults::{limited, must, numbers, or_else, unused};
+use crate::faults::{limited, must, numbers, unused};
 use crate::fields::{
     blend_mode, coordinates, coordinates_at, first_stop, fixed_matrix, is_radial, paint_type,
     radial_points, scissor_count, segment_count, segments, spread, stop_count, uses_mask,
@@ -25,59 +25,40 @@ use crate::layout::{
     STOP_FLOATS, STOP_LIMIT, STOPS_AT, TRANSFORM_AT, TRANSFORM_FLOATS, TRANSLATION_AT,
 };
 use blend::factor::is_mode;
-use codes::ACCEPTED;
 use fixed::u16_at;
 use paint::radial::{fixed_circle, focal_allowed};
-use path::FixedMatrix;
 use path::rules::check;
+use path::{FixedMatrix, PathFault};
 
 // A draw of a scene of that edition, judged by itself, where a mask is lent or is not.
-pub fn draw_rules(d: &[u8], lent: bool, edition: u32) -> FieldFault
+#[tactic(auto, using(crate::proofs::First::in_order), unfolding(crate::specs::Rules::draw_rules))]
+pub fn draw_rules(d: &[u8], lent: bool, edition: u32) -> Result<(), FieldFault>
     requires { length d.now ≡ draw_bytes }
     ensures { result ≡ draw_rules lent edition d.now }
 {
-    let head = head_rules(d, lent, edition);
-    if head.code != ACCEPTED {
-        return head;
-    }
-    let floats = float_rules(d);
-    if floats.code != ACCEPTED {
-        return floats;
-    }
-    let lists = list_rules(d);
-    if lists.code != ACCEPTED {
-        return lists;
-    }
-    let transform = transform_rules(d, edition);
-    if transform.code != ACCEPTED {
-        return transform;
-    }
-    let flat = flat_rule(d);
-    if flat.code != ACCEPTED {
-        return flat;
-    }
+    head_rules(d, lent, edition)?;
+    float_rules(d)?;
+    list_rules(d)?;
+    transform_rules(d, edition)?;
+    flat_rule(d)?;
     path_rules(d, edition)
 }
 
 // Flags, blend mode, paint type, spread, then the counts.
-fn head_rules(d: &[u8], lent: bool, edition: u32) -> FieldFault
+#[tactic(auto, using(crate::proofs::First::in_order), unfolding(crate::specs::Rules::head_rules))]
+fn head_rules(d: &[u8], lent: bool, edition: u32) -> Result<(), FieldFault>
     requires { length d.now ≡ draw_bytes }
     ensures { result ≡ head_rules lent edition d.now }
 {
-    let from_spread = or_else(spread_rule(d), count_rules(d));
-    let from_paint = or_else(paint_rule(d), from_spread);
-    let from_blend = or_else(blend_rule(d), from_paint);
-    or_else(flags_rule(d, lent, edition), from_blend)
-}
-
-fn flags_rule(d: &[u8], lent: bool, edition: u32) -> FieldFault
-    requires { length d.now ≡ draw_bytes }
-    ensures { result ≡ Faults.must (flags_allowed lent edition d.now) flags_at }
-{
-    must(flags_allowed(d, lent, edition), FLAGS_AT)
+    must(flags_allowed(d, lent, edition), FLAGS_AT)?;
+    must(is_mode(blend_mode(d)), BLEND_AT)?;
+    must(is_paint(paint_type(d)), PAINT_TYPE_AT)?;
+    must(is_spread(spread(d)), SPREAD_AT)?;
+    count_rules(d)
 }
 
 // No bit without a meaning is set, and the mask's only where one is lent.
+#[tactic(auto, unfolding(crate::specs::Rules::flags_allowed))]
 fn flags_allowed(d: &[u8], lent: bool, edition: u32) -> bool
     requires { length d.now ≡ draw_bytes }
     ensures { result ≡ flags_allowed lent edition d.now }
@@ -89,6 +70,7 @@ fn flags_allowed(d: &[u8], lent: bool, edition: u32) -> bool
 }
 
 // What the flags stay below.
+#[tactic(auto, unfolding(crate::specs::Layout::flags_limit))]
 fn flags_limit(edition: u32) -> u32
     ensures { result ≡ flags_limit edition }
 {
@@ -99,42 +81,20 @@ fn flags_limit(edition: u32) -> u32
     }
 }
 
-fn blend_rule(d: &[u8]) -> FieldFault
-    requires { length d.now ≡ draw_bytes }
-    ensures { result ≡ Faults.must (is_mode (blend_of d.now)) blend_at }
-{
-    must(is_mode(blend_mode(d)), BLEND_AT)
-}
-
-fn paint_rule(d: &[u8]) -> FieldFault
-    requires { length d.now ≡ draw_bytes }
-    ensures { result ≡ Faults.must (is_paint (paint_type_of d.now)) paint_type_at }
-{
-    must(is_paint(paint_type(d)), PAINT_TYPE_AT)
-}
-
-fn spread_rule(d: &[u8]) -> FieldFault
-    requires { length d.now ≡ draw_bytes }
-    ensures { result ≡ Faults.must (is_spread (spread_of d.now)) spread_at }
-{
-    must(is_spread(spread(d)), SPREAD_AT)
-}
-
 // The counts, and the zero after them.
-fn count_rules(d: &[u8]) -> FieldFault
+#[tactic(auto, using(crate::proofs::First::in_order), unfolding(crate::specs::Rules::count_rules))]
+fn count_rules(d: &[u8]) -> Result<(), FieldFault>
     requires { length d.now ≡ draw_bytes }
     ensures { result ≡ count_rules d.now }
 {
-    let padding = must(d[PADDING_AT] == 0, PADDING_AT);
-    let from_stops = or_else(count_rule(d, STOP_COUNT_AT, stop_limit(d)), padding);
-    let from_scissors = or_else(count_rule(d, SCISSOR_COUNT_AT, SCISSOR_LIMIT), from_stops);
-    or_else(
-        count_rule(d, SEGMENT_COUNT_AT, SEGMENT_LIMIT),
-        from_scissors,
-    )
+    count_rule(d, SEGMENT_COUNT_AT, SEGMENT_LIMIT)?;
+    count_rule(d, SCISSOR_COUNT_AT, SCISSOR_LIMIT)?;
+    count_rule(d, STOP_COUNT_AT, stop_limit(d))?;
+    must(d[PADDING_AT] == 0, PADDING_AT)
 }
 
 // How many stops the draw may have.
+#[tactic(auto, unfolding(crate::specs::Rules::stop_limit_of))]
 fn stop_limit(d: &[u8]) -> u8
     requires { length d.now ≡ draw_bytes }
     ensures { result ≡ stop_limit_of d.now }
@@ -147,7 +107,7 @@ fn stop_limit(d: &[u8]) -> u8
 }
 
 // A byte that counts at most so many.
-fn count_rule(d: &[u8], at: usize, limit: u8) -> FieldFault
+fn count_rule(d: &[u8], at: usize, limit: u8) -> Result<(), FieldFault>
     requires { (length d.now ≡ draw_bytes) × (at < draw_bytes) }
     ensures { result ≡ Faults.must (leb (get_or d.now at 0) limit) at }
 {
@@ -173,107 +133,105 @@ fn is_spread(n: u32) -> bool
 }
 
 // Matrix, colour and linear points, whatever the paint type.
-fn float_rules(d: &[u8]) -> FieldFault
+#[tactic(auto, using(crate::proofs::First::in_order), unfolding(crate::specs::Rules::float_rules))]
+fn float_rules(d: &[u8]) -> Result<(), FieldFault>
     requires { length d.now ≡ draw_bytes }
     ensures { result ≡ float_rules d.now }
 {
-    let points = limited(d, POINT_LIMIT_LOG, LINEAR_POINTS_AT, 4);
-    let from_color = or_else(numbers(d, COLOR_AT, 4), points);
-    let from_translation = or_else(
-        limited(d, FixedMatrix::TRANSLATION_LIMIT_LOG, TRANSLATION_AT, 2),
-        from_color,
-    );
-    or_else(
-        limited(d, FixedMatrix::LINEAR_LIMIT_LOG, MATRIX_AT, 4),
-        from_translation,
-    )
+    limited(d, FixedMatrix::LINEAR_LIMIT_LOG, MATRIX_AT, 4)?;
+    limited(d, FixedMatrix::TRANSLATION_LIMIT_LOG, TRANSLATION_AT, 2)?;
+    numbers(d, COLOR_AT, 4)?;
+    limited(d, POINT_LIMIT_LOG, LINEAR_POINTS_AT, 4)
 }
 
 // Unused scissors, the circle, the stops.
-fn list_rules(d: &[u8]) -> FieldFault
+#[tactic(auto, using(crate::proofs::First::in_order), unfolding(crate::specs::Rules::list_rules))]
+fn list_rules(d: &[u8]) -> Result<(), FieldFault>
     requires { (length d.now ≡ draw_bytes) × (stop_count d.now ≤ stop_limit_of d.now) }
     ensures { result ≡ list_rules d.now }
 {
-    let scissors = scissor_count(d);
-    let from_circle = or_else(circle_rules(d), stop_rules(d));
-    or_else(
-        unused(d, SCISSORS_AT + SCISSOR_BYTES * scissors, STOPS_AT),
-        from_circle,
-    )
+    unused(d, SCISSORS_AT + SCISSOR_BYTES * scissor_count(d), STOPS_AT)?;
+    circle_rules(d)?;
+    stop_rules(d)
 }
 
 // A radial draw's circle: each of its values, then the focal point.
-fn circle_rules(d: &[u8]) -> FieldFault
+#[tactic(auto, using(crate::proofs::First::in_order), unfolding(crate::specs::Rules::circle_rules))]
+fn circle_rules(d: &[u8]) -> Result<(), FieldFault>
     requires { length d.now ≡ draw_bytes }
     ensures { result ≡ circle_rules d.now }
 {
     if !is_radial(d) {
-        return must(true, RADIAL_AT);
+        return Ok(());
     }
-    let values = limited(d, RADIAL_LIMIT_LOG, RADIAL_AT, RADIAL_FLOATS);
-    if values.code != ACCEPTED {
-        return values;
-    }
+    limited(d, RADIAL_LIMIT_LOG, RADIAL_AT, RADIAL_FLOATS)?;
     focal_rule(d)
 }
 
 // The focal point, of values within their limits.
-fn focal_rule(d: &[u8]) -> FieldFault
-    requires { (length d.now ≡ draw_bytes) × ((Faults.limited d.now radial_limit radial_at radial_floats).code ≡ 0) }
+#[tactic(auto, using(crate::proofs::First::in_order), unfolding(crate::specs::Rules::focal_rule))]
+fn focal_rule(d: &[u8]) -> Result<(), FieldFault>
+    requires { (length d.now ≡ draw_bytes) × (Faults.limited d.now radial_limit radial_at radial_floats ≡ Ok tt) }
     ensures { result ≡ focal_rule d.now }
 {
     must(focal_allowed(fixed_circle(radial_points(d))), RADIAL_AT)
 }
 
 // Used stops, unused stops.
-fn stop_rules(d: &[u8]) -> FieldFault
+#[tactic(auto, using(crate::proofs::First::in_order), unfolding(crate::specs::Rules::stop_rules))]
+fn stop_rules(d: &[u8]) -> Result<(), FieldFault>
     requires { (length d.now ≡ draw_bytes) × (stop_count d.now ≤ stop_limit_of d.now) }
     ensures { result ≡ stop_rules d.now }
 {
     let first = first_stop(d);
     let stops = stop_count(d);
-    let past_stops = unused(d, first + STOP_BYTES * stops, SEGMENTS_AT);
-    or_else(numbers(d, first, STOP_FLOATS * stops), past_stops)
+    numbers(d, first, STOP_FLOATS * stops)?;
+    unused(d, first + STOP_BYTES * stops, SEGMENTS_AT)
 }
 
 // Edition 1's colour transformation, on or off.
-fn transform_rules(d: &[u8], edition: u32) -> FieldFault
+#[tactic(auto, using(crate::proofs::First::in_order), unfolding(crate::specs::Rules::transform_rules))]
+fn transform_rules(d: &[u8], edition: u32) -> Result<(), FieldFault>
     requires { length d.now ≡ draw_bytes }
     ensures { result ≡ transform_rules edition d.now }
 {
     if edition != NEW_EDITION {
-        return must(true, TRANSFORM_AT);
+        return Ok(());
     }
     numbers(d, TRANSFORM_AT, TRANSFORM_FLOATS)
 }
 
 // A matrix that is not flat, where there are segments.
-fn flat_rule(d: &[u8]) -> FieldFault
+#[tactic(auto, using(crate::proofs::First::in_order), unfolding(crate::specs::Rules::flat_rule))]
+fn flat_rule(d: &[u8]) -> Result<(), FieldFault>
     requires { (length d.now ≡ draw_bytes) × (matrix_in_limits (matrix_of d.now) ≡ true) }
     ensures { result ≡ flat_rule d.now }
 {
     if segment_count(d) == 0 {
-        return must(true, MATRIX_AT);
+        return Ok(());
     }
     must(!fixed_matrix(d).is_flat(), MATRIX_AT)
 }
 
 // The path, segment by segment, then unused segments and coordinates.
-fn path_rules(d: &[u8], edition: u32) -> FieldFault
+fn path_rules(d: &[u8], edition: u32) -> Result<(), FieldFault>
     requires d_len { (length d.now ≡ draw_bytes) × (segment_count d.now ≤ segment_limit) }
     requires d_value { matrix_in_limits (matrix_of d.now) ≡ true }
-    ensures { result ≡ or_else (path_rules edition d.now) (rest_rules edition d.now) }
+    ensures { result ≡ first_of (path_rules edition d.now) (rest_rules edition d.now) }
 {
     let n = segment_count(d);
-    let checked = check(fixed_matrix(d), segments(d), coordinates(d, edition), n);
-    let fault = checked.fault;
-    if fault.code != ACCEPTED {
-        return FieldFault {
-            code: fault.code,
-            place: (SEGMENTS_AT + fault.segment) as u16,
-        };
+    let used = check(fixed_matrix(d), segments(d), coordinates(d, edition), n).map_err(in_path)?;
+    unused(d, SEGMENTS_AT + n, SEGMENTS_END)?;
+    unused(d, coordinates_at(edition) + 2 * used, DRAW_BYTES)
+}
+
+// A path's fault as one among fields: a segment is a byte.
+fn in_path(f: PathFault) -> FieldFault
+    requires { f.segment ≤ segment_limit }
+    ensures { result ≡ in_path f }
+{
+    FieldFault {
+        code: f.code,
+        place: (SEGMENTS_AT + f.segment) as u16,
     }
-    let past_used = coordinates_at(edition) + 2 * checked.used;
-    let past_coordinates = unused(d, past_used, DRAW_BYTES);
-    or_else(unused(d, SEGMENTS_AT + n, SEGMENTS_END), past_coordinates)
 }

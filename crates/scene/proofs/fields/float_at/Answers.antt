@@ -1,19 +1,20 @@
--- `scene::fields::float_at` meets its contract.
-use mathlib.Core.Path.{sym, ap, ◌∙◌}
-use lib.Ieee.{binary32, nan_bits, of_bits}
+use mathlib.Core.Path.{◌≡◌, refl, sym, ◌∙◌}
+use mathlib.Core.Bool.{Bool, true, false}
+use Prim.Native.Nat.{ℕ}
+use lib.Ieee.{nan, binary32, nan_bits, of_bits}
+use Rattle.std.specs.Prelude.{unwrap_or}
 use Rattle.fixed.specs.Little.{u32_at}
-use Rattle.fixed.proofs.Answers.{is_number, number_told, no_number_lem}
+use Rattle.fixed.specs.Floats.{real_of}
 use Rattle.fixed.proofs.Patterns.{nan_read}
 use Rattle.scene.proofs.fields.float_at.Goals as goal
 
-pub returns-in-Number : goal.returns-in-Number
-returns-in-Number c =
-    let a = c.args in
-    let n = u32_at a.d.now a.at in
-    (number_told (nan_bits binary32 n) (of_bits binary32 n) c.in-Number.x (sym c.f32_at-v.ensures ∙ c.in-Number.is)).0
+-- each NaN reads as the one that the definitions know
+read : (n : ℕ) (t : Bool) → nan_bits binary32 n ≡ t → unwrap_or (real_of t (of_bits binary32 n)) nan ≡ of_bits binary32 n
+read n true e = sym (nan_read n e)
+read n false e = refl
 
-pub returns-in-Nan : goal.returns-in-Nan
-returns-in-Nan c =
-    let a = c.args in
-    let n = u32_at a.d.now a.at in
-    c.not_a_number.ensures ∙ sym (nan_read n (no_number_lem (nan_bits binary32 n) (of_bits binary32 n) (ap is_number (sym c.f32_at-v.ensures ∙ c.in-Nan.is))))
+pub returns : goal.returns
+unfolding of_bits
+returns c =
+    let n = u32_at c.args.d.now c.args.at in
+    c.unwrap_or.ensures ∙ rw c.f32_at.ensures (read n (nan_bits binary32 n) refl)

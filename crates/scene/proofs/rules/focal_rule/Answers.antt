@@ -1,7 +1,6 @@
--- `scene::rules::focal_rule` meets its contract.
-use native.Mathlib.Omega.{arith}
+use Rattle.std.proofs.Common.{arith}
 use Rattle.scene.specs.Layout.{radial_at, radial_floats}
-use Rattle.scene.specs.Rules.{radial_limit, focal_rule}
+use Rattle.scene.specs.Rules.{radial_limit}
 use Rattle.scene.proofs.Accepted.{limits}
 use Rattle.scene.proofs.rules.focal_rule.Goals as goal
 
@@ -12,8 +11,3 @@ fixed_circle-requires c =
       cx_value = rw c.radial_points.ensures (a 0 (omega arith), a 1 (omega arith));
       fx_value = rw c.radial_points.ensures (a 2 (omega arith), a 3 (omega arith), a 4 (omega arith));
     }
-
-pub returns : goal.returns
-unfolding focal_rule
-returns c =
-    rw (c.must.ensures, c.focal_allowed.ensures, c.fixed_circle.ensures.0, c.radial_points.ensures)

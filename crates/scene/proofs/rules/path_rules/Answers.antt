@@ -1,83 +1,77 @@
--- `scene::rules::path_rules` meets its contract.
-use mathlib.Core.Path.{◌≡◌, ◌∙◌}
-use mathlib.Core.List.{List}
-use Prim.Native.Nat.{ℕ, ◌+◌, ◌*◌, ◌≤◌}
-use native.Mathlib.Omega.{arith}
-use Rattle.lists.proofs.Laws.{part_length}
-use Rattle.path.specs.Matrices.{fixed_matrix}
-use Rattle.path.specs.Answers.{checked_to}
+use Rattle.std.proofs.Common.{ℕ, ◌+◌, ◌*◌, arith, ap, ap₂, ◌∙◌}
 use Rattle.path.proofs.Entries.{matrix_limited}
-use Rattle.scene.specs.Layout.{segment_limit, segments_at, segments_end, draw_bytes}
-use Rattle.scene.specs.Fields.{matrix_of, segments_of, coordinates_of, segment_count}
-use Rattle.scene.proofs.Paths.{checked_of, path_segment, path_refused, path_used, path_accepted}
+use Rattle.lists.proofs.Laws.{part_length}
+use Rattle.scene.specs.Layout.{segments_at, segments_end, draw_bytes}
+use Rattle.scene.specs.Fields.{matrix_of}
+use Rattle.scene.specs.Faults.{unused}
+use Rattle.scene.specs.Rules.{rest_rules}
+use Rattle.scene.proofs.First.{stops, passes}
+use Rattle.scene.proofs.Paths.{checked_of, path_segment, path_met, path_kept, path_used, path_fits}
 use Rattle.scene.proofs.rules.path_rules.Goals as goal
-use Rattle.scene.proofs.rules.path_rules.Tie as tie
-use Rattle.scene.proofs.rules.path_rules.Lts as lts
-use Rattle.scene.proofs.rules.path_rules.Reads as reads
 
-abbrev draw : (walked : lts.After-check tie.the-claims reads.Pre reads.Post tie.handed_clauses) → List ℕ
-draw walked = walked.args.d.now
+pub check-requires : goal.check-requires
+check-requires c =
+    let d = c.args.d.now in
+    let long = part_length d segments_at segments_end (omega arith) (omega (arith, c.requires.d_len.0)) in
+    (rw c.fixed_matrix.ensures (matrix_limited (matrix_of d) c.requires.d_value), rw c.segments.ensures (omega (arith, long, c.segment_count-n.ensures.0, c.requires.d_len.1)))
 
-abbrev edition : (walked : lts.After-check tie.the-claims reads.Pre reads.Post tie.handed_clauses) → ℕ
-edition walked = walked.args.edition
+pub map_err-requires : goal.map_err-requires
+map_err-requires c =
+    let d = c.args.d.now in
+    let e = c.args.edition in
+    let walk =
+    checked_of e d c.fixed_matrix.result c.segments.result.now c.coordinates.result.now c.segment_count-n.result c.check.result
+    c.fixed_matrix.ensures c.segments.ensures c.coordinates.ensures c.segment_count-n.ensures.0 c.check.ensures in
+    λ f q. let s = path_segment e d c.check.result walk f q in omega (arith, s, c.requires.d_len.1)
 
-answer : (walked : lts.After-check tie.the-claims reads.Pre reads.Post tie.handed_clauses)
-    → walked.check-checked.result ≡ checked_to (fixed_matrix (matrix_of (draw walked))) (segments_of (draw walked)) (coordinates_of (edition walked)
-    (draw walked)) (segment_count (draw walked))
-answer walked =
-    checked_of (edition walked) (draw walked) _ _ _ _ walked.check-checked.result
-    walked.fixed_matrix.ensures walked.segments.ensures walked.coordinates.ensures walked.segment_count-n.ensures.0
-    walked.check-checked.ensures
+pub returns-in_err-used : goal.returns-in_err-used
+returns-in_err-used c =
+    let d = c.args.d.now in
+    let e = c.args.edition in
+    let walk =
+    checked_of e d c.fixed_matrix.result c.segments.result.now c.coordinates.result.now c.segment_count-n.result c.check.result
+    c.fixed_matrix.ensures c.segments.ensures c.coordinates.ensures c.segment_count-n.ensures.0 c.check.ensures in
+    stops c.from_residual.result _ _ _ c.from_residual.ensures.1 (path_met e d c.check.result walk c.map_err.result c.map_err.ensures.cases _ c.in_err-used.was)
 
--- the segment of a fault
-segment : (walked : lts.After-check tie.the-claims reads.Pre reads.Post tie.handed_clauses) → walked.check-checked.result.fault.segment ≤ segment_limit
-segment walked = omega (arith, path_segment (edition walked) (draw walked) walked.check-checked.result (answer walked), walked.requires.d_len.1)
+pub overflow_mul-used : goal.overflow_mul-used
+overflow_mul-used c =
+    let d = c.args.d.now in
+    let e = c.args.edition in
+    let walk =
+    checked_of e d c.fixed_matrix.result c.segments.result.now c.coordinates.result.now c.segment_count-n.result c.check.result
+    c.fixed_matrix.ensures c.segments.ensures c.coordinates.ensures c.segment_count-n.ensures.0 c.check.ensures in
+    let fits = path_fits e d c.check.result walk c.map_err.result c.map_err.ensures.cases c.in_ok-used.used c.in_ok-used.was c.requires.d_len.0 in
+    omega (arith, fits)
 
--- the coordinates used, where there is none
-used : (c : lts.After-struct_known3 tie.the-claims reads.Pre reads.Post tie.handed_clauses)
-    → c.coordinates_at.result + 2 * c.check-checked.result.used ≤ draw_bytes
-used c =
-    omega (
-      arith,
-      c.coordinates_at.ensures.0,
-      path_used (edition c.before.before.before.before.before) (draw c.before.before.before.before.before) c.check-checked.result
-          (answer c.before.before.before.before.before) c.if-fault-ne-ACCEPTED.false c.requires.d_len.0,
-    )
+pub overflow_add-coordinates_at : goal.overflow_add-coordinates_at
+overflow_add-coordinates_at c =
+    let d = c.args.d.now in
+    let e = c.args.edition in
+    let walk =
+    checked_of e d c.fixed_matrix.result c.segments.result.now c.coordinates.result.now c.segment_count-n.result c.check.result
+    c.fixed_matrix.ensures c.segments.ensures c.coordinates.ensures c.segment_count-n.ensures.0 c.check.ensures in
+    let fits = path_fits e d c.check.result walk c.map_err.result c.map_err.ensures.cases c.in_ok-used.used c.in_ok-used.was c.requires.d_len.0 in
+    omega (arith, fits, c.coordinates_at.ensures.0)
 
-pub check-checked-requires : goal.check-checked-requires
-check-checked-requires c =
-    let d = c.args.d.now in (
-      rw c.fixed_matrix.ensures (matrix_limited (matrix_of d) c.requires.d_value),
-      rw (c.segments.ensures, part_length d segments_at segments_end (omega arith) (omega arith))
-          (omega (arith, c.segment_count-n.ensures.0, c.requires.d_len.1)),
-    )
-
-pub overflow_add-result : goal.overflow_add-result
-overflow_add-result c =
-    omega (arith, segment c.before.before.before.before.before)
-
-pub overflow_cast-result : goal.overflow_cast-result
-overflow_cast-result c =
-    omega (arith, segment c.before.before.before.before.before)
-
-pub returns-then-fault-ne-ACCEPTED : goal.returns-then-fault-ne-ACCEPTED
-returns-then-fault-ne-ACCEPTED c =
-    path_refused (edition c.before.before.before.before.before) (draw c.before.before.before.before.before) c.check-checked.result
-    (answer c.before.before.before.before.before) c.if-fault-ne-ACCEPTED.true
-
-pub overflow_mul-past_used : goal.overflow_mul-past_used
-overflow_mul-past_used c =
-    omega (arith, used c.before)
-
-pub overflow_add-past_used : goal.overflow_add-past_used
-overflow_add-past_used c =
-    omega (arith, used c.before)
+pub returns-in_err-unused : goal.returns-in_err-unused
+unfolding rest_rules
+returns-in_err-unused c =
+    let d = c.args.d.now in
+    let e = c.args.edition in
+    let walk =
+    checked_of e d c.fixed_matrix.result c.segments.result.now c.coordinates.result.now c.segment_count-n.result c.check.result
+    c.fixed_matrix.ensures c.segments.ensures c.coordinates.ensures c.segment_count-n.ensures.0 c.check.ensures in
+    let kept = path_kept e d c.check.result walk c.map_err.result c.map_err.ensures.cases c.in_ok-used.used c.in_ok-used.was in
+    passes _ _ _ kept (stops c.from_residual-in_err-unused.result _ _ _ c.from_residual-in_err-unused.ensures.1 (c.in_err-unused.ensures ∙ ap (λ (n : ℕ). unused d (segments_at + n) segments_end) c.segment_count-n.ensures.0))
 
 pub returns : goal.returns
+unfolding rest_rules
 returns c =
-    let count = c.segment_count-n in
-    c.or_else.ensures
-    ∙ rw (c.unused.ensures, c.unused-past_coordinates.ensures, c.coordinates_at.ensures.0, count.ensures.0)
-    (path_accepted (edition c.before.before.before.before.before.before.before.before.before)
-    (draw c.before.before.before.before.before.before.before.before.before) c.check-checked.result
-    (answer c.before.before.before.before.before.before.before.before.before) c.if-fault-ne-ACCEPTED.false)
+    let d = c.args.d.now in
+    let e = c.args.edition in
+    let walk =
+    checked_of e d c.fixed_matrix.result c.segments.result.now c.coordinates.result.now c.segment_count-n.result c.check.result
+    c.fixed_matrix.ensures c.segments.ensures c.coordinates.ensures c.segment_count-n.ensures.0 c.check.ensures in
+    let kept = path_kept e d c.check.result walk c.map_err.result c.map_err.ensures.cases c.in_ok-used.used c.in_ok-used.was in
+    let used = path_used e d c.check.result walk c.map_err.result c.map_err.ensures.cases c.in_ok-used.used c.in_ok-used.was in
+    passes _ _ _ kept (passes _ _ _ (c.in_ok-unused.ensures ∙ ap (λ (n : ℕ). unused d (segments_at + n) segments_end) c.segment_count-n.ensures.0) (c.unused-2.ensures ∙ ap₂ (λ (a b : ℕ). unused d (a + 2 * b) draw_bytes) c.coordinates_at.ensures.0 used))
