@@ -84,9 +84,6 @@ weights_told {degree} {n} {w} k h c e f =
 pub square : (a b : ℕ) → a ≤ 16 → b ≤ 16 → a * b ≤ 256
 square a b h k = mul-le-mul {n₁ = a} {m₁ = b} {n₂ = 16} {m₂ = 16} h k
 
-pub cube : (a b c : ℕ) → a ≤ 16 → b ≤ 16 → c ≤ 16 → a * b * c ≤ 4096
-cube a b c h k l = mul-le-mul {n₁ = a * b} {m₁ = c} {n₂ = 256} {m₂ = 16} (square a b h k) l
-
 -- ---- the size of a cut point
 -- (z + m) / d rounded down, with m below d, is at most b in size if z is at most d b
 rounded : (d m b : ℕ) (z : ℤ) → m < d → Within (d * b) z → Within b (floor_div (z +ℤ pos m) d)

@@ -8,6 +8,7 @@ use native.Mathlib.Omega.{arith}
 use lib.ListN.{length, drop, get_or, length-drop}
 use lib.IntN.{ℤ, pos}
 use lib.Seq.{get_or-drop}
+use Rattle.std.specs.Prelude.{Ok}
 use Rattle.lists.specs.Lists.{tab}
 use Rattle.lists.proofs.Laws.{tab_at, tab_ext}
 use Rattle.path.specs.declared.FixedMatrix.{FixedMatrix}
@@ -32,7 +33,7 @@ pub record Flattened (m : FixedMatrix) (ss cs : List ℕ) (n : ℕ) (l q : List 
   pub small : (i : ℕ) → i < r → Small (edge_at q i)
   pub rest : drop (r * 4) q ≡ drop (r * 4) l
 
-pub flattened : (m : FixedMatrix) (ss cs : List ℕ) (n : ℕ) (l q : List ℤ) (r : ℕ) → n ≤ 128 → Limited m → (fault_to m ss cs n).code ≡ 0 → 8196 ≤ length l
+pub flattened : (m : FixedMatrix) (ss cs : List ℕ) (n : ℕ) (l q : List ℤ) (r : ℕ) → n ≤ 128 → Limited m → fault_to m ss cs n ≡ Ok tt → 8196 ≤ length l
     → q ≡ put_edges l 0 (path_edges m ss cs n) → r ≡ length (path_edges m ss cs n) → Flattened m ss cs n l q r
 flattened m ss cs n l q r few limited accepted room e f =
     let es = path_edges m ss cs n in

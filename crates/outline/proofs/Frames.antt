@@ -12,6 +12,7 @@ use lib.ListN.{length, get_or}
 use lib.IntN.{ℤ, pos, negsuc, nat_abs, ◌+ℤ◌, ◌*ℤ◌, +ℤ_idl}
 use lib.Signed.{le_z, ◌≤ℤ◌}
 use borrow.Author.Tests.{eqb-false}
+use Rattle.std.specs.Prelude.{Ok}
 use Rattle.rect.proofs.Laws.{both, either}
 use Rattle.fixed.specs.Little.{i16_at}
 use Rattle.fixed.proofs.Tests.{is_true}
@@ -37,10 +38,6 @@ use Rattle.outline.specs.Frames.{is_paired, paired_to, point_of, Framed, FramedB
 use Rattle.outline.proofs.Around.{wider_refl, grown_wider, over_wider, grown_from, four_over, around_more, start_around, points_around, floor_order}
 use Rattle.outline.proofs.Counts.{curve_line}
 use Rattle.outline.proofs.Outermost.{beyond_trans}
-
--- ---- the box of points, one point more
-pub framed_none : (c : Edge) (cs : List ℕ) → Framed c cs 0
-framed_none c cs = record { each = λ i l. absurd (not-suc-le-zero l) }
 
 module _ (c r : Edge) (p : Point) (e : r ≡ grown_by c (edge p p)) where
   pub framed_more : (cs : List ℕ) (n : ℕ) → p ≡ point_of cs n → Framed c cs n → Framed r cs (n + 1)
@@ -128,16 +125,13 @@ diagonals_take m b c d r e f = corners_take m b r by
     by false true = (four_over c d r _ _ _ _ e f).1.0
     by true false = (four_over c d r _ _ _ _ e f).1.1
 
-pub framed_taken : (m : FixedMatrix) (b r : Edge) (cs : List ℕ) (n : ℕ) → Framed b cs n → Takes m b r → FramedBy m r cs n
-framed_taken m b r cs n h t = record { each = λ i l. t.each (point_of cs i) (h.each i l) }
-
 -- ---- the coordinates of a path
 used_taken : (ss cs : List ℕ) (n : ℕ) → (walk_to ss cs n).used ≡ taken_to ss n
 used_taken ss cs zero = refl
 used_taken ss cs (suc n) = ap (λ (k : ℕ). k + coordinates_taken (get_or ss n 0)) (used_taken ss cs n)
 
 -- those of an accepted path are there
-pub taken_there : (m : FixedMatrix) (ss cs : List ℕ) (n : ℕ) → (fault_to m ss cs n).code ≡ 0 → 2 * taken_to ss n ≤ length cs
+pub taken_there : (m : FixedMatrix) (ss cs : List ℕ) (n : ℕ) → fault_to m ss cs n ≡ Ok tt → 2 * taken_to ss n ≤ length cs
 taken_there m ss cs n e = subst (λ (k : ℕ). 2 * k ≤ length cs) (used_taken ss cs n) (accepted_ready m ss cs n e).there
 
 pair_point : (cs : List ℕ) (used j : ℕ) → (used + j) % 2 ≡ 0 → point_of cs ((used + j) / 2) ≡ pair_at origin (coordinate_from cs used) j

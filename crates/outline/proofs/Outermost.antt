@@ -2,17 +2,16 @@
 use mathlib.Core.Path.{◌≡◌, refl, sym, ap, subst, ◌∙◌}
 use mathlib.Core.Bool.{Bool, true, false, true≢false}
 use mathlib.Core.List.{List, [], ◌∷◌, ◌++◌, foldl-append}
-use Prim.Native.Nat.{ℕ, min, ◌+◌, ◌^◌, ◌<◌}
+use Prim.Native.Nat.{ℕ, min, ◌+◌, ◌<◌}
 use native.Mathlib.Nat.{not-suc-le-zero}
 use native.Mathlib.Numerals.{add-one}
 use native.Mathlib.Omega.{arith}
 use lib.Dec.{T, lit<}
 use lib.ListN.{length}
 use lib.IntN.{ℤ, pos, negsuc, nat_abs}
-use lib.Signed.{le_z, mag, non_neg, ≤ℤ_refl, le_z_yes}
+use lib.Signed.{le_z, non_neg, ≤ℤ_refl, le_z_yes}
 use mir.Syntax.{w32}
-use mir.Val.{SFits, to_z, of_z}
-use mir.Facts.{to_z-of_z}
+use mir.Val.{SFits}
 use Rattle.lists.proofs.Laws.{tab_length}
 use Rattle.fixed.specs.Floor.{floor_div}
 use Rattle.fixed.proofs.Within.{Within, of_fits}
@@ -20,7 +19,6 @@ use Rattle.fixed.proofs.Poly.{var, from_within}
 use Rattle.fixed.proofs.Poly as P
 use Rattle.fixed.proofs.Means.{Num, keep, param, shr, tight}
 use Rattle.fixed.proofs.Round.{from_floor}
-use Rattle.fixed.proofs.Signed.{back}
 use Rattle.fixed.proofs.Tests.{≤ℤ_trans, le_z_not}
 use Rattle.rect.proofs.Laws.{either}
 use Rattle.path.specs.declared.Edge.{Edge}
@@ -79,11 +77,6 @@ corners_next l i h =
       x1 = outer_next true false l i h j;
       y1 = outer_next true true l i h j;
     })
-
--- the outer of two numbers that locals hold
-pub outer_told : (greater : Bool) (a b r : ℤ) → SFits w32 a → SFits w32 b → mag r < 2 ^ 31
-    → r ≡ outer greater (to_z w32 (of_z w32 a)) (to_z w32 (of_z w32 b)) → to_z w32 (of_z w32 r) ≡ outer greater a b
-outer_told greater a b r p q h e = back w32 r h ∙ rw (to_z-of_z p, to_z-of_z q) at e
 
 -- the column or row of a 32-bit coordinate, in a local
 pub pixel_size : (z : ℤ) → SFits w32 z → Within 8388608 (floor_div z 256)

@@ -8,6 +8,7 @@ use lib.Dec.{eqb, leb}
 use lib.ListN.{get_or}
 use lib.IntN.{ℤ, pos, nat_abs, ◌+ℤ◌}
 use borrow.Author.Tests.{eqb-true, eqb-false, leb-true, le-leb}
+use Rattle.std.specs.Prelude.{Ok}
 use Rattle.rect.proofs.Laws.{both, either}
 use Rattle.fixed.specs.Floor.{floor_div}
 use Rattle.fixed.proofs.Tests.{is_true, both_left, both_right}
@@ -103,11 +104,11 @@ shaped_degree c (twisted d e f) = (omega arith, omega arith)
 
 -- ---- an accepted path
 module _ (m : FixedMatrix) (ss cs : List ℕ) (limited : Limited m) where
-  accepted_to : (i n : ℕ) → i ≤ n → (fault_to m ss cs n).code ≡ 0 → (fault_to m ss cs i).code ≡ 0
-  accepted_to i n l e = let q : i + (n - i) ≡ n = omega arith in accepted_below m ss cs i (n - i) (ap (λ (k : ℕ). (fault_to m ss cs k).code) q ∙ e)
+  accepted_to : (i n : ℕ) → i ≤ n → fault_to m ss cs n ≡ Ok tt → fault_to m ss cs i ≡ Ok tt
+  accepted_to i n l e = let q : i + (n - i) ≡ n = omega arith in accepted_below m ss cs i (n - i) (ap (fault_to m ss cs) q ∙ e)
 
   -- the points of segment i
-  pub curve_placed : (i n : ℕ) → i < n → (fault_to m ss cs n).code ≡ 0 → CurvePlaced m (curve_at cs (walk_to ss cs i) (get_or ss i 0))
+  pub curve_placed : (i n : ℕ) → i < n → fault_to m ss cs n ≡ Ok tt → CurvePlaced m (curve_at cs (walk_to ss cs i) (get_or ss i 0))
   curve_placed i n l e =
       let w = walk_to ss cs i in
       let byte = get_or ss i 0 in
@@ -127,13 +128,13 @@ module _ (m : FixedMatrix) (ss cs : List ℕ) (limited : Limited m) where
         p3 = record { near = near.p3; there = is_true g3 (both_right g2 g3 t) };
       }
 
-  pub segment_supplied : (i n : ℕ) → i < n → (fault_to m ss cs n).code ≡ 0 → Supplied cs (walk_to ss cs i) (get_or ss i 0)
+  pub segment_supplied : (i n : ℕ) → i < n → fault_to m ss cs n ≡ Ok tt → Supplied cs (walk_to ss cs i) (get_or ss i 0)
   segment_supplied i n l e =
       supplied m cs (walk_to ss cs i) (get_or ss i 0) (accepted_ready m ss cs i (accepted_to i n (omega arith) e))
       (accepted_before m ss cs i (accepted_to (suc i) n l e)).1
 
   -- the pen before it
-  pub pen_placed : (i n : ℕ) → i ≤ n → (fault_to m ss cs n).code ≡ 0 → PenPlaced m (walk_to ss cs i).pen
+  pub pen_placed : (i n : ℕ) → i ≤ n → fault_to m ss cs n ≡ Ok tt → PenPlaced m (walk_to ss cs i).pen
   unfolding pen_after
   pen_placed zero n l e =
       let h = (accepted_ready m ss cs 0 refl).held in
@@ -146,7 +147,7 @@ module _ (m : FixedMatrix) (ss cs : List ℕ) (limited : Limited m) where
       by true h k = k
       by false h k = h
 
-  pub drawn_placed : (i n : ℕ) → i < n → (fault_to m ss cs n).code ≡ 0
+  pub drawn_placed : (i n : ℕ) → i < n → fault_to m ss cs n ≡ Ok tt
       → CurvePlaced m (drawn_by (walk_to ss cs i).pen (get_or ss i 0) (curve_at cs (walk_to ss cs i) (get_or ss i 0)))
   drawn_placed i n l e = by (leb (number (get_or ss i 0)) 2) (line_placed m _ (pen_placed i n (omega arith) e).start) (curve_placed i n l e)
     where
@@ -154,7 +155,7 @@ module _ (m : FixedMatrix) (ss cs : List ℕ) (limited : Limited m) where
       by true h k = h
       by false h k = k
 
-  pub path_small : (n : ℕ) → (fault_to m ss cs n).code ≡ 0 → Every Small (path_edges m ss cs n)
+  pub path_small : (n : ℕ) → fault_to m ss cs n ≡ Ok tt → Every Small (path_edges m ss cs n)
   unfolding path_edges
   path_small n e =
       let pen = (walk_to ss cs n).pen in

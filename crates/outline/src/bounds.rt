@@ -15,15 +15,9 @@ pub fn bounds(edges: &[i32], n: usize, width: usize, height: usize) -> Rect
     ensures { result ≡ box_of width height (edges_of edges.now n) }
 {
     if n == 0 {
-        return Rect {
-            x0: 0,
-            y0: 0,
-            x1: 0,
-            y1: 0,
-        };
+        return Rect::EMPTY;
     }
-    let c = corners(edges, n);
-    pixels(c, width, height)
+    pixels(corners(edges, n), width, height)
 }
 
 // The pixels from a least corner to a greatest, on a surface of that size.
@@ -60,22 +54,14 @@ fn within(n: usize, z: i32) -> usize
     requires { n ≤ 1024 }
     ensures { result ≡ within n z }
 {
-    if z <= 0 {
-        return 0;
-    }
-    let size = z as usize;
-    if size < n { size } else { n }
+    (z.max(0) as usize).min(n)
 }
 
 // The lesser of two, or the greater.
 fn outer_of(greater: bool, a: i32, b: i32) -> i32
     ensures { result ≡ outer greater a b }
 {
-    if a <= b {
-        if greater { b } else { a }
-    } else {
-        if greater { a } else { b }
-    }
+    if greater { a.max(b) } else { a.min(b) }
 }
 
 // The edge from the least corner of the first n edges to the greatest.
@@ -83,13 +69,9 @@ pub fn corners(edges: &[i32], n: usize) -> Edge
     requires { (0 < n) × (n * 4 ≤ length edges.now) }
     ensures { result ≡ corners (edges_of edges.now n) }
 {
-    let first = load(edges, 0);
-    let mut c = ordered(first);
-    let mut i = 1;
-    while i < n {
-        let e = load(edges, i);
-        c = grown(c, e);
-        i += 1;
+    let mut c = ordered(load(edges, 0));
+    for i in 1..n {
+        c = grown(c, load(edges, i));
     }
     c
 }

@@ -11,14 +11,10 @@ pub fn cut_point(o: Point, c: Curve, k: u32) -> Point
     requires { (OnGrid o × Drawable c) × ((2 ≤ c.degree) × (k ≤ 16)) }
     ensures { (result ≡ cut_point o c k) × OnGrid result }
 {
-    let degree = c.degree;
-    let a = c.p1;
-    let b = c.p2;
-    let e = c.p3;
-    let w = weights(degree, k);
+    let w = weights(c.degree, k);
     Point {
-        x: blend(degree, w, o.x, a.x, b.x, e.x),
-        y: blend(degree, w, o.y, a.y, b.y, e.y),
+        x: blend(c.degree, w, o.x, c.p1.x, c.p2.x, c.p3.x),
+        y: blend(c.degree, w, o.y, c.p1.y, c.p2.y, c.p3.y),
     }
 }
 

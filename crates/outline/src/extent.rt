@@ -1,5 +1,5 @@
 // The box of a path without a place for all its edges: what was met is kept as one edge from its least corner to its greatest.
-ghost use Rattle.std.specs.Prelude.{◌≡◌, ◌++◌, ◌*◌, ◌≤◌, length};
+ghost use Rattle.std.specs.Prelude.{◌≡◌, Ok, ◌++◌, ◌*◌, ◌≤◌, length};
 ghost use Rattle.path.specs.Boxes.{box_of};
 ghost use Rattle.path.specs.Limits.{Limited};
 ghost use Rattle.path.specs.Segments.{drawn_by, fault_to};
@@ -10,6 +10,7 @@ ghost use Rattle.outline.specs.Alike.{Alike};
 
 use crate::bounds::{bounds, corners};
 use crate::flatten::{store_closing, store_segment};
+use crate::store::put;
 use path::tracing::trace;
 use path::{Curve, FixedMatrix, Pen, Walk};
 use rect::Rect;
@@ -27,7 +28,7 @@ pub fn path_bounds(
     height: usize,
 ) -> Rect
     requires n_bound { (n ≤ 128) × (n ≤ length segments.now) }
-    requires limited { Limited m × ((fault_to m segments.now coordinates.now n).code ≡ 0) }
+    requires limited { Limited m × (fault_to m segments.now coordinates.now n ≡ Ok tt) }
     requires width_bound { (width ≤ 1024) × (height ≤ 1024) }
     ensures { result ≡ box_of width height (path_edges m segments.now coordinates.now n) }
 {
@@ -45,26 +46,20 @@ fn gather_path(
     ends: &mut [i32],
 ) -> usize
     requires n_bound { (n ≤ 128) × (n ≤ length segments.now) }
-    requires limited { Limited m × ((fault_to m segments.now coordinates.now n).code ≡ 0) }
+    requires limited { Limited m × (fault_to m segments.now coordinates.now n ≡ Ok tt) }
     requires in_bounds { 68 ≤ length ends.old }
     ensures alike { Alike (edges_of ends.new result) (path_edges m segments.now coordinates.now n) }
     ensures upper_bound { result ≤ 17 }
 {
     let mut walk = Walk::new();
     let mut count = 0;
-    let mut i = 0;
-    while i < n {
+    for i in 0..n {
         let byte = segments[i];
         let t = trace(coordinates, walk, byte);
-        let pen = walk.pen;
-        let curve = t.curve;
-        count = gather_segment(m, ends, count, pen, byte, curve);
-        let next = t.walk;
-        walk = next;
-        i += 1;
+        count = gather_segment(m, ends, count, walk.pen, byte, t.curve);
+        walk = t.walk;
     }
-    let last = walk.pen;
-    store_closing(m, ends, count, last)
+    store_closing(m, ends, count, walk.pen)
 }
 
 // The edges of a segment with that byte and those points join the n that are there.
@@ -88,13 +83,6 @@ fn merge(ends: &mut [i32], n: usize) -> usize
         return 0;
     }
     let c = corners(ends, n);
-    let x0 = c.x0;
-    let y0 = c.y0;
-    let x1 = c.x1;
-    let y1 = c.y1;
-    ends[0] = x0;
-    ends[1] = y0;
-    ends[2] = x1;
-    ends[3] = y1;
+    put(ends, 0, c);
     1
 }

@@ -1,5 +1,5 @@
 // A path's edges, segment by segment.
-ghost use Rattle.std.specs.Prelude.{◌≡◌, ◌+◌, ◌*◌, ◌≤◌, ◌<◌, length};
+ghost use Rattle.std.specs.Prelude.{◌≡◌, Ok, ◌+◌, ◌*◌, ◌≤◌, ◌<◌, length};
 ghost use Rattle.path.specs.Limits.{Limited};
 ghost use Rattle.path.specs.Segments.{line_to, drawn_by, fault_to};
 ghost use Rattle.path.specs.Curves.{transform_curve, drawn_edges, path_edges};
@@ -20,26 +20,20 @@ pub fn flatten(
     edges: &mut [i32],
 ) -> usize
     requires n_bound { (n ≤ 128) × (n ≤ length segments.now) }
-    requires limited { Limited m × ((fault_to m segments.now coordinates.now n).code ≡ 0) }
+    requires limited { Limited m × (fault_to m segments.now coordinates.now n ≡ Ok tt) }
     requires in_bounds { 8196 ≤ length edges.old }
     ensures edges_after { edges.new ≡ put_edges edges.old 0 (path_edges m segments.now coordinates.now n) }
     ensures value { result ≡ length (path_edges m segments.now coordinates.now n) }
 {
     let mut walk = Walk::new();
     let mut count = 0;
-    let mut i = 0;
-    while i < n {
+    for i in 0..n {
         let byte = segments[i];
         let t = trace(coordinates, walk, byte);
-        let pen = walk.pen;
-        let curve = t.curve;
-        count = store_segment(m, edges, count, pen, byte, curve);
-        let next = t.walk;
-        walk = next;
-        i += 1;
+        count = store_segment(m, edges, count, walk.pen, byte, t.curve);
+        walk = t.walk;
     }
-    let last = walk.pen;
-    store_closing(m, edges, count, last)
+    store_closing(m, edges, count, walk.pen)
 }
 
 // The edges of a segment with that byte and those points go after the n that are there. The number of edges then.
@@ -81,9 +75,10 @@ fn transform_curve(m: FixedMatrix, c: Curve) -> Curve
     requires { Limited m × CurvePlaced m c }
     ensures { (result ≡ transform_curve m c) × Drawable result }
 {
-    let degree = c.degree;
-    let p1 = m.apply(c.p1);
-    let p2 = m.apply(c.p2);
-    let p3 = m.apply(c.p3);
-    Curve { degree, p1, p2, p3 }
+    Curve {
+        degree: c.degree,
+        p1: m.apply(c.p1),
+        p2: m.apply(c.p2),
+        p3: m.apply(c.p3),
+    }
 }

@@ -20,22 +20,23 @@ const HORIZONTAL: u8 = 6;
 
 const VERTICAL: u8 = 8;
 
-// The largest size of a point on the surface: before the first point the least corner lies there, and the greatest on the other side.
-pub const FAR: i32 = 8388608;
+// The largest size of a point on the surface.
+const FAR: i32 = 8388608;
+
+// The box of no points: its least corner lies far out, and its greatest on the other side.
+pub const NOTHING: Edge = Edge {
+    x0: FAR,
+    y0: FAR,
+    x1: -FAR,
+    y1: -FAR,
+};
 
 // Whether the first of n segments is a move, and all of them give whole points, if they are plain.
 pub fn is_paired(segments: &[u8], n: usize) -> bool
     requires { n ≤ length segments.now }
     ensures { result ≡ (leb 1 n && (eqb (get_or segments.now 0 0) 2 && paired_to segments.now n)) }
 {
-    if n == 0 {
-        return false;
-    }
-    if segments[0] == MOVE {
-        all_paired(segments, n)
-    } else {
-        false
-    }
+    1 <= n && segments[0] == MOVE && all_paired(segments, n)
 }
 
 // Whether none of the first n segments is horizontal or vertical.
@@ -44,10 +45,8 @@ fn all_paired(segments: &[u8], n: usize) -> bool
     ensures { result ≡ paired_to segments.now n }
 {
     let mut paired = true;
-    let mut i = 0;
-    while i < n {
+    for i in 0..n {
         paired = still_paired(paired, segments[i]);
-        i += 1;
     }
     paired
 }
@@ -55,10 +54,7 @@ fn all_paired(segments: &[u8], n: usize) -> bool
 fn still_paired(all: bool, byte: u8) -> bool
     ensures { result ≡ (is_paired byte && all) }
 {
-    if byte == HORIZONTAL {
-        return false;
-    }
-    if byte == VERTICAL { false } else { all }
+    byte != HORIZONTAL && byte != VERTICAL && all
 }
 
 // A box that holds the first n points of the coordinates, where the matrix takes them.
@@ -66,8 +62,7 @@ pub fn frame(m: FixedMatrix, coordinates: &[u8], n: usize) -> Edge
     requires { (Limited m × (is_small m ≡ true)) × (n * 4 ≤ length coordinates.now) }
     ensures { FramedBy m result coordinates.now n }
 {
-    let b = point_box(coordinates, n);
-    corner_box(m, b)
+    corner_box(m, point_box(coordinates, n))
 }
 
 // The box of the first n points. Before the first its sides are the outermost numbers of 16 bits, the low ones on the high side.
@@ -81,11 +76,9 @@ fn point_box(coordinates: &[u8], n: usize) -> Edge
         x1: -32768,
         y1: -32768,
     };
-    let mut i = 0;
-    while i < n {
+    for i in 0..n {
         let p = point_at(coordinates, i);
         c = grown(c, between(p, p));
-        i += 1;
     }
     c
 }
@@ -113,13 +106,7 @@ fn corner_box(m: FixedMatrix, b: Edge) -> Edge
     requires { (Limited m × (is_small m ≡ true)) × NearEnds b }
     ensures { Takes m b result }
 {
-    let c = Edge {
-        x0: FAR,
-        y0: FAR,
-        x1: -FAR,
-        y1: -FAR,
-    };
-    let d = grown(c, moved(m, b));
+    let d = grown(NOTHING, moved(m, b));
     grown(d, moved(m, other_diagonal(b)))
 }
 

@@ -1,5 +1,5 @@
 // A rectangle that holds the box of a path, by its control points alone: no curve is cut.
-ghost use Rattle.std.specs.Prelude.{◌≡◌, ◌≤◌, length};
+ghost use Rattle.std.specs.Prelude.{◌≡◌, Ok, ◌≤◌, length};
 ghost use Rattle.rect.specs.Rects.{Holds};
 ghost use Rattle.path.specs.Boxes.{box_of};
 ghost use Rattle.path.specs.Limits.{Limited};
@@ -9,7 +9,7 @@ ghost use Rattle.outline.specs.Asked.{PenPlaced, CurvePlaced};
 ghost use Rattle.outline.specs.Around.{Wider, Around};
 
 use crate::bounds::{grown, pixels};
-use crate::frame::{FAR, between, frame, is_paired};
+use crate::frame::{NOTHING, between, frame, is_paired};
 use crate::store::same_point;
 use path::commands::returns;
 use path::plain::{is_plain, taken_by};
@@ -27,19 +27,18 @@ pub fn path_hull(
     height: usize,
 ) -> Rect
     requires n_bound { (n ≤ 128) × (n ≤ length segments.now) }
-    requires limited { Limited m × ((fault_to m segments.now coordinates.now n).code ≡ 0) }
+    requires limited { Limited m × (fault_to m segments.now coordinates.now n ≡ Ok tt) }
     requires width_bound { (width ≤ 1024) × (height ≤ 1024) }
     ensures { Holds result (box_of width height (path_edges m segments.now coordinates.now n)) }
 {
-    let c = control_box(m, segments, n, coordinates);
-    pixels(c, width, height)
+    pixels(control_box(m, segments, n, coordinates), width, height)
 }
 
 // From a least corner to a greatest: the edges of an accepted path of n segments lie between. Where the coordinates are x and y in turn, they
 // alone tell.
 fn control_box(m: FixedMatrix, segments: &[u8], n: usize, coordinates: &[u8]) -> Edge
     requires n_bound { (n ≤ 128) × (n ≤ length segments.now) }
-    requires limited { Limited m × ((fault_to m segments.now coordinates.now n).code ≡ 0) }
+    requires limited { Limited m × (fault_to m segments.now coordinates.now n ≡ Ok tt) }
     ensures { Around result (path_edges m segments.now coordinates.now n) }
 {
     if is_plain(m, segments, n) && is_paired(segments, n) {
@@ -51,29 +50,18 @@ fn control_box(m: FixedMatrix, segments: &[u8], n: usize, coordinates: &[u8]) ->
 // The same for any accepted path, point by point.
 fn surround(m: FixedMatrix, segments: &[u8], n: usize, coordinates: &[u8]) -> Edge
     requires n_bound { (n ≤ 128) × (n ≤ length segments.now) }
-    requires limited { Limited m × ((fault_to m segments.now coordinates.now n).code ≡ 0) }
+    requires limited { Limited m × (fault_to m segments.now coordinates.now n ≡ Ok tt) }
     ensures { Around result (path_edges m segments.now coordinates.now n) }
 {
     let mut walk = Walk::new();
-    let mut c = Edge {
-        x0: FAR,
-        y0: FAR,
-        x1: -FAR,
-        y1: -FAR,
-    };
-    let mut i = 0;
-    while i < n {
+    let mut c = NOTHING;
+    for i in 0..n {
         let byte = segments[i];
         let t = trace(coordinates, walk, byte);
-        let pen = walk.pen;
-        let curve = t.curve;
-        c = add_segment(m, c, pen, byte, curve);
-        let next = t.walk;
-        walk = next;
-        i += 1;
+        c = add_segment(m, c, walk.pen, byte, t.curve);
+        walk = t.walk;
     }
-    let last = walk.pen;
-    add_closing(m, c, last)
+    add_closing(m, c, walk.pen)
 }
 
 // The box c, and with it what a segment with that byte and those points draws.

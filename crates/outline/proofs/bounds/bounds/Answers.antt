@@ -18,5 +18,5 @@ pub returns : goal.returns
 returns c =
     let a = c.args in
     let some : 0 < a.n = omega (arith, c.if-n-eq0.false) in
-    c.pixels.ensures ∙ ap (pixels_of a.width a.height) c.corners-c.ensures
+    c.pixels.ensures ∙ ap (pixels_of a.width a.height) c.corners.ensures
     ∙ sym (box_some a.width a.height a.edges.now a.n some)

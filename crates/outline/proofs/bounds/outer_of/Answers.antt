@@ -1,36 +1,42 @@
 -- `outline::bounds::outer_of` meets its contract.
-use mathlib.Core.Path.{◌≡◌}
-use mathlib.Core.Bool.{Bool}
-use lib.Signed.{le_z}
+use Rattle.std.proofs.Common.{◌≡◌, ℕ, ℤ, pos, negsuc, Bool, true, false, not, cond, ltb, leb, refl, ◌∙◌}
+use borrow.Author.Rules.{sfits_of}
+use borrow.Author.Tests.{le-ltb, lt-ltb, leb-true, leb-false}
+use lib.Signed.{lt_z, le_z}
 use mir.Syntax.{w32}
-use mir.Val.{to_z, of_z}
 use mir.Facts.{to_z-of_z}
 use Rattle.path.specs.Boxes.{outer}
-use Rattle.fixed.proofs.Signed.{le_back}
 use Rattle.outline.proofs.bounds.outer_of.Goals as goal
-use Rattle.outline.proofs.bounds.outer_of.Lts as lts
-use Rattle.outline.proofs.bounds.outer_of.Reads as reads
 
--- the first test
-told : (s : lts.Start reads.Pre reads.Post) {t : Bool} → le_z (to_z w32 (of_z w32 s.args.a)) (to_z w32 (of_z w32 s.args.b)) ≡ t → le_z s.args.a s.args.b ≡ t
-told s e = le_back w32 s.args.a s.args.b s.ranges.a s.ranges.b e
+-- a test that turns another round picks the other
+less : (m n : ℕ) → ltb m n ≡ not (leb n m)
+less m n = by (leb n m) refl
+  where
+    by : (t : Bool) → leb n m ≡ t → ltb m n ≡ not t
+    by true e = le-ltb m n (leb-true n m e)
+    by false e = lt-ltb m n (leb-false n m e)
+
+below : (a b : ℤ) → lt_z b a ≡ not (le_z a b)
+below (pos a) (pos b) = less b a
+below (pos a) (negsuc b) = refl
+below (negsuc a) (pos b) = refl
+below (negsuc a) (negsuc b) = less a b
+
+picked : (a b x y : ℤ) → cond (lt_z b a) x y ≡ cond (le_z a b) y x
+picked a b x y = rw (below a b) (by (le_z a b))
+  where
+    by : (t : Bool) → cond (not t) x y ≡ cond t y x
+    by true = refl
+    by false = refl
 
 pub returns-then-greater : goal.returns-then-greater
 unfolding outer
 returns-then-greater c =
-    rw (to_z-of_z c.ranges.b, told c.before.before c.if-a-b.true, c.if-greater.true)
+    to_z-of_z {w = w32} (sfits_of c.max.type_inv)
+    ∙ rw (to_z-of_z c.ranges.a, to_z-of_z c.ranges.b) at c.max.ensures.value ∙ rw c.if-greater.true (picked c.args.a c.args.b c.args.a c.args.b)
 
 pub returns-else-greater : goal.returns-else-greater
 unfolding outer
 returns-else-greater c =
-    rw (to_z-of_z c.ranges.a, told c.before.before c.if-a-b.true, c.if-greater.false)
-
-pub returns-then-greater-2 : goal.returns-then-greater-2
-unfolding outer
-returns-then-greater-2 c =
-    rw (to_z-of_z c.ranges.a, told c.before.before c.if-a-b.false, c.if-greater-2.true)
-
-pub returns-else-greater-2 : goal.returns-else-greater-2
-unfolding outer
-returns-else-greater-2 c =
-    rw (to_z-of_z c.ranges.b, told c.before.before c.if-a-b.false, c.if-greater-2.false)
+    to_z-of_z {w = w32} (sfits_of c.min.type_inv)
+    ∙ rw (to_z-of_z c.ranges.a, to_z-of_z c.ranges.b) at c.min.ensures.value ∙ rw c.if-greater.false (picked c.args.a c.args.b c.args.b c.args.a)

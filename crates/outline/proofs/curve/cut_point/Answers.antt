@@ -27,20 +27,6 @@ told : (a b c d : ℤ) → (i : nat_abs a ≤ 8388608) → (j : nat_abs b ≤ 83
 told a b c d i j k l degree w v r h f e =
     back w32 r h ∙ e ∙ rw (clean w32 8388608 a tt i, clean w32 8388608 b tt j, clean w32 8388608 c tt k, clean w32 8388608 d tt l, f)
 
-pub blend-requires : goal.blend-requires
-blend-requires c =
-    let o = c.args.o in
-    let curve = c.args.c in
-    let d = c.requires.0.1 in
-    record { full = c.weights-w.ensures.1; a_bound = asked o.x curve.p1.x curve.p2.x curve.p3.x c.requires.0.0.x d.p1.x d.p2.x d.p3.x }
-
-pub blend-requires-2 : goal.blend-requires-2
-blend-requires-2 c =
-    let o = c.args.o in
-    let curve = c.args.c in
-    let d = c.requires.0.1 in
-    record { full = c.weights-w.ensures.1; a_bound = asked o.y curve.p1.y curve.p2.y curve.p3.y c.requires.0.0.y d.p1.y d.p2.y d.p3.y }
-
 pub returns : goal.returns
 unfolding cut
 returns c =

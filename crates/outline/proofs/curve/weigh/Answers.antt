@@ -31,29 +31,9 @@ three s = add (keep w64 (two s) tt) (keep w64 (third s) tt)
 abbrev four : Start → Num
 four s = add (keep w64 (three s) tt) (keep w64 (fourth s) tt)
 
-pub overflow_cast-result : goal.overflow_cast-result
-overflow_cast-result c =
-    need (param w32 c.args.a c.ranges.a) tt
-
-pub overflow_mul-result : goal.overflow_mul-result
-overflow_mul-result c =
-    need (first c.before.before.before.before) tt
-
-pub overflow_cast-result-2 : goal.overflow_cast-result-2
-overflow_cast-result-2 c =
-    need (param w32 c.args.b c.ranges.b) tt
-
-pub overflow_mul-result-2 : goal.overflow_mul-result-2
-overflow_mul-result-2 c =
-    need (second c.before.before.before.before) tt
-
 pub overflow_add-result : goal.overflow_add-result
 overflow_add-result c =
     need (two c.before.before.before.before) tt
-
-pub overflow_cast-result-3 : goal.overflow_cast-result-3
-overflow_cast-result-3 c =
-    need (param w32 c.args.c c.ranges.c) tt
 
 pub overflow_mul-result-3 : goal.overflow_mul-result-3
 overflow_mul-result-3 c =
@@ -62,10 +42,6 @@ overflow_mul-result-3 c =
 pub overflow_add-result-2 : goal.overflow_add-result-2
 overflow_add-result-2 c =
     need (three c.before.before.before.before) tt
-
-pub overflow_cast-result-4 : goal.overflow_cast-result-4
-overflow_cast-result-4 c =
-    need (param w32 c.args.d c.ranges.d) tt
 
 pub overflow_mul-result-4 : goal.overflow_mul-result-4
 overflow_mul-result-4 c =

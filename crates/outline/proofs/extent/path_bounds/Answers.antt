@@ -1,13 +1,7 @@
 -- `outline::extent::path_bounds` meets its contract.
 use mathlib.Core.Path.{◌∙◌}
-use native.Mathlib.Omega.{arith}
 use Rattle.outline.proofs.Merged.{alike_box}
 use Rattle.outline.proofs.extent.path_bounds.Goals as goal
-
-pub bounds-requires : goal.bounds-requires
-bounds-requires c =
-    let g = c.gather_path-count in
-    (omega (arith, g.ensures.upper_bound), c.requires.width_bound)
 
 pub returns : goal.returns
 returns c =

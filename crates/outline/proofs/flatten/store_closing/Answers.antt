@@ -3,14 +3,6 @@ use Rattle.outline.proofs.Stores.{puts_same}
 use Rattle.outline.proofs.Walked.{closing_edge}
 use Rattle.outline.proofs.flatten.store_closing.Goals as goal
 
-pub apply-from-requires : goal.apply-from-requires
-apply-from-requires c =
-    let h = c.requires.limited in ((h.0, h.1.current.near), h.1.current.there)
-
-pub apply-to-requires : goal.apply-to-requires
-apply-to-requires c =
-    let h = c.requires.limited in ((h.0, h.1.start.near), h.1.start.there)
-
 pub returns : goal.returns
 returns c =
     let a = c.args in

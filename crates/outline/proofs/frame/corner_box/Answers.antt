@@ -5,12 +5,8 @@ use Rattle.path.specs.Matrices.{transform}
 use Rattle.path.specs.Curves.{edge}
 use Rattle.outline.specs.Corners.{grown_by}
 use Rattle.outline.specs.Frames.{from_end, to_end}
-use Rattle.outline.proofs.Frames.{crossed_near, diagonals_take}
+use Rattle.outline.proofs.Frames.{diagonals_take}
 use Rattle.outline.proofs.frame.corner_box.Goals as goal
-
-pub moved-requires-2 : goal.moved-requires-2
-moved-requires-2 c =
-    (c.requires.0, crossed_near c.other_diagonal.result c.args.b c.other_diagonal.ensures c.requires.1)
 
 pub returns : goal.returns
 returns c =

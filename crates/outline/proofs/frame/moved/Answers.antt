@@ -1,7 +1,4 @@
 -- `outline::frame::moved` meets its contract.
-use mathlib.Core.Path.{ap, ap₂, ◌∙◌}
-use Rattle.path.specs.Matrices.{transform}
-use Rattle.path.specs.Curves.{edge}
 use Rattle.outline.specs.Frames.{from_end, to_end}
 use Rattle.outline.proofs.Frames.{near_placed}
 use Rattle.outline.proofs.frame.moved.Goals as goal
@@ -19,9 +16,3 @@ apply-requires-2 c =
     let e = c.args.e in
     let p = near_placed c.args.m c.to_end.result (to_end e) h.0.1 c.to_end.ensures (record { x = h.1.x1; y = h.1.y1 }) in
     ((h.0.0, p.near), p.there)
-
-pub returns : goal.returns
-returns c =
-    let m = c.args.m in
-    c.between.ensures
-    ∙ ap₂ edge (c.apply.ensures ∙ ap (transform m) c.from_end.ensures) (c.apply-2.ensures ∙ ap (transform m) c.to_end.ensures)

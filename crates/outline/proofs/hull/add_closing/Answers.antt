@@ -19,14 +19,6 @@ returns-then-same_point c =
           (start_around a.c a.m pen.current pen.start (sym c.same_point.ensures ∙ c.if-same_point.true)),
     )
 
-pub apply-from-requires : goal.apply-from-requires
-apply-from-requires c =
-    let h = c.requires in ((h.0, h.1.current.near), h.1.current.there)
-
-pub apply-to-requires : goal.apply-to-requires
-apply-to-requires c =
-    let h = c.requires in ((h.0, h.1.start.near), h.1.start.there)
-
 pub returns : goal.returns
 returns c =
     let a = c.args in

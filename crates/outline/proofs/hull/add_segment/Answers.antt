@@ -7,29 +7,8 @@ use Rattle.outline.specs.Corners.{grown_by}
 use Rattle.outline.specs.Around.{Around}
 use Rattle.outline.proofs.Around.{line_around, curve_around}
 use Rattle.outline.proofs.Counts.{curve_line}
-use Rattle.outline.proofs.Walked.{drawn_closing, drawn_curve}
+use Rattle.outline.proofs.Walked.{drawn_curve}
 use Rattle.outline.proofs.hull.add_segment.Goals as goal
-
-pub add_closing-requires : goal.add_closing-requires
-add_closing-requires c =
-    let h = c.requires in (h.0, h.1.0)
-
-pub returns-then-returns : goal.returns-then-returns
-returns-then-returns c =
-    let a = c.args in
-    let closing = c.add_closing in (
-      closing.ensures.0,
-      subst (λ (es : List Edge). Around closing.result es)
-          (drawn_closing a.m a.pen a.byte a.curve (sym c.returns.ensures ∙ c.if-returns.true)) closing.ensures.1,
-    )
-
-pub apply-from-requires : goal.apply-from-requires
-apply-from-requires c =
-    let h = c.requires in ((h.0, h.1.0.current.near), h.1.0.current.there)
-
-pub apply-to-requires : goal.apply-to-requires
-apply-to-requires c =
-    let h = c.requires in ((h.0, h.1.1.p3.near), h.1.1.p3.there)
 
 pub returns-then-curve-eq1 : goal.returns-then-curve-eq1
 returns-then-curve-eq1 c =
@@ -41,14 +20,6 @@ returns-then-curve-eq1 c =
     let h = line_around a.c r o v.p3 (c.grown.ensures ∙ ap (grown_by a.c) e) in
     let drawn = drawn_curve a.m a.pen a.byte a.curve o v (sym c.returns.ensures ∙ c.if-returns.false) c.apply-from.ensures refl in
     (h.0, subst (λ (es : List Edge). Around r es) (sym (curve_line o v c.if-curve-eq1.true) ∙ drawn) h.1)
-
-pub apply-p1-requires : goal.apply-p1-requires
-apply-p1-requires c =
-    let h = c.requires in ((h.0, h.1.1.p1.near), h.1.1.p1.there)
-
-pub apply-p2-requires : goal.apply-p2-requires
-apply-p2-requires c =
-    let h = c.requires in ((h.0, h.1.1.p2.near), h.1.1.p2.there)
 
 pub returns : goal.returns
 returns c =

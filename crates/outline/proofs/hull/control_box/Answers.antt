@@ -23,11 +23,6 @@ plain c =
     let all = plain_to a.segments.now a.n in
     both (is_small a.m) all (both (leb a.n 128) (is_small a.m && all) (sym c.is_plain.ensures ∙ c.if-is_plain.true)).1
 
-pub taken_by-requires : goal.taken_by-requires
-taken_by-requires c =
-    let h = c.requires.n_bound in
-    record { n_in_bounds = (h.1, h.0); n_value = (plain c.before.before.before).1 }
-
 pub frame-requires : goal.frame-requires
 frame-requires c =
     let a = c.args in

@@ -12,4 +12,4 @@ returns c =
     let a = c.args in
     let es = path_edges a.m a.segments.now a.coordinates.now a.n in
     subst (λ (r : Rect). Holds r (box_of a.width a.height es)) (sym c.pixels.ensures)
-    (around_holds a.width a.height c.control_box-c.result es c.control_box-c.ensures)
+    (around_holds a.width a.height c.control_box.result es c.control_box.ensures)

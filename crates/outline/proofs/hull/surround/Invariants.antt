@@ -1,15 +1,10 @@
 -- `outline::hull::surround` meets its contract: the box is around the edges of the segments passed.
 use mathlib.Core.Path.{◌≡◌}
-use Prim.Native.Nat.{◌-◌, ◌≤◌}
 use Rattle.path.specs.Segments.{walk_to}
 use Rattle.path.specs.Curves.{edges_to}
 use Rattle.outline.specs.Around.{Around}
 use Rattle.outline.proofs.hull.surround.Given as goal
 
--- `outline::hull::surround` meets its contract: the box is around the edges of the segments passed.
 abbrev pub invariant-loop-i : goal.invariant-loop-i
 invariant-loop-i l =
-    (l.i ≤ l.n) × (l.walk ≡ walk_to l.segments l.coordinates l.i) × Around l.c (edges_to l.m l.segments l.coordinates l.i)
-
-abbrev pub decreases-loop-i : goal.decreases-loop-i
-decreases-loop-i l = l.n - l.i
+    (l.walk ≡ walk_to l.segments l.coordinates l.i) × Around l.c (edges_to l.m l.segments l.coordinates l.i)
