@@ -4,19 +4,19 @@ use Rattle.std.proofs.Common.{append-nil, arith, eq-eqb, ne_eqb}
 use mathlib.Core.List.{map-append}
 use Rattle.lists.specs.Lists.{upto}
 use Rattle.fixed.specs.Floats.{in_unit, offset_in, scaled}
-use Rattle.fixed.specs.declared.Offset.{Offset}
-use Rattle.fixed.specs.declared.Offset.TheVariants.{At}
-use Rattle.fixed.proofs.Answers.{is_offset, offset_told, no_offset}
+use Rattle.std.specs.Prelude.{Result, Ok, is_ok}
+use Rattle.fixed.specs.declared.OffsetError.{OffsetError}
+use Rattle.fixed.proofs.Answers.{offset_told, no_offset}
 use Rattle.paint.specs.Gradient.{ramp_unit}
 use Rattle.paint.specs.Ramps.{offset_at, color_at, falls_in, kept_at, kept_stops, black, white, stop, with_end, with_ends, prepared, ramp_of}
 use Rattle.paint.specs.Buffers.{stop_at, stops_from, stops_in, with_first, grown, closed}
 use Rattle.paint.specs.declared.Stop.{Stop}
 
 -- ---- a stop is kept, by what its offset becomes
-pub kept_none : (stops : List ℕ) (i : ℕ) (r : Offset) → r ≡ offset_in (offset_at stops i) → is_offset r ≡ false → kept_at stops i ≡ []
-kept_none stops i r e h = rw (no_offset (offset_at stops i) (ap is_offset (sym e) ∙ h))
+pub kept_none : (stops : List ℕ) (i : ℕ) (r : Result ℕ OffsetError) → r ≡ offset_in (offset_at stops i) → is_ok r ≡ false → kept_at stops i ≡ []
+kept_none stops i r e h = rw (no_offset (offset_at stops i) (ap is_ok (sym e) ∙ h))
 
-pub kept_one : (stops : List ℕ) (i x : ℕ) (r : Offset) → r ≡ offset_in (offset_at stops i) → r ≡ At x → kept_at stops i ≡ stop x (color_at stops i) ∷ []
+pub kept_one : (stops : List ℕ) (i x : ℕ) (r : Result ℕ OffsetError) → r ≡ offset_in (offset_at stops i) → r ≡ Ok x → kept_at stops i ≡ stop x (color_at stops i) ∷ []
 kept_one stops i x r e h =
     let t = offset_told (offset_at stops i) x (sym e ∙ h) in
     rw t.1 (ap (λ (y : ℕ). stop y (color_at stops i) ∷ []) (sym t.0))

@@ -1,8 +1,8 @@
 -- Positions on a ramp: the colour at a position is the colour at t.
-use Rattle.std.proofs.Common.{◌≡◌, ℕ, ◌+◌, ◌-◌, ◌*◌, ◌/◌, ◌<◌, ◌≤◌, min, Bool, true, false, cond, ltb, List, [], ◌∷◌, ◌++◌, length, get_or, take, drop, ℤ}
+use Rattle.std.proofs.Common.{◌≡◌, ℕ, zero, suc, ◌+◌, ◌-◌, ◌*◌, ◌/◌, ◌<◌, ◌≤◌, min, Bool, true, false, cond, ltb, List, [], ◌∷◌, ◌++◌, length, get_or, take, drop, ℤ}
 use Rattle.std.proofs.Common.{pos, negsuc, ◌+ℤ◌, refl, ap, ◌∙◌, div-lt_iff_lt-mul, le-div_iff_mul-le, add-one, arith, take_at, ltb-false, ltb-true, le-ltb}
 use Rattle.std.proofs.Common.{lt-ltb}
-use lib.Signed.{lt_z}
+use Rattle.std.specs.Int.{int_max, int_min}
 use Rattle.lists.specs.Lists.{tab}
 use Rattle.lists.proofs.Laws.{tab_length, tab_at, part_length}
 use Rattle.color.specs.declared.Pixel.{Pixel}
@@ -50,32 +50,33 @@ unfolding position_of
 behind t h = rw (le-ltb t 0 (omega arith), le-ltb t 65536 h)
 
 -- one more than t cut to -1..65,536 is its position
-pub cut_next : (t : ℤ) → let v = cond (lt_z t (pos ramp_unit)) t (pos ramp_unit) in cond (lt_z v (pos 0)) (negsuc 0) v +ℤ pos 1 ≡ pos (position_of t)
+pub cut_next : (x t : ℤ) → x ≡ int_max (negsuc 0) (int_min t (pos ramp_unit)) → x +ℤ pos 1 ≡ pos (position_of t)
 unfolding position_of
-cut_next (negsuc n) = refl
-cut_next (pos n) = by (ltb n ramp_unit) refl
+cut_next x (negsuc zero) o = rw o
+cut_next x (negsuc (suc n)) o = rw (o, lt-ltb 0 (suc n) (omega arith))
+cut_next x (pos n) o = rw o (by (ltb ramp_unit n) refl (ltb n ramp_unit) refl)
   where
-    by : (b : Bool) → ltb n ramp_unit ≡ b
-        → let v = cond (ltb n ramp_unit) (pos n) (pos ramp_unit) in cond (lt_z v (pos 0)) (negsuc 0) v +ℤ pos 1 ≡ pos (position_of (pos n))
-    by true e = rw (e, le-ltb n 0 (omega arith))
-    by false e = rw (e, le-ltb n 0 (omega arith))
+    by : (a : Bool) → ltb ramp_unit n ≡ a → (b : Bool) → ltb n ramp_unit ≡ b
+        → int_max (negsuc 0) (cond (ltb ramp_unit n) (pos ramp_unit) (pos n)) +ℤ pos 1 ≡ pos (position_of (pos n))
+    by true e true f = absurd (omega (arith, ltb-true ramp_unit n e, ltb-true n ramp_unit f))
+    by true e false f = rw (e, f, le-ltb n 0 (omega arith))
+    by false e true f = rw (e, f, le-ltb n 0 (omega arith))
+    by false e false f = rw (e, f, le-ltb n 0 (omega arith)) (ap pos (omega (arith, ltb-false ramp_unit n e, ltb-false n ramp_unit f)))
 
 -- t cut to 0..65,535 is one less than its position, cut likewise
-pub cut_same : (t : ℤ) → let v = cond (lt_z t (pos 65535)) t (pos 65535) in cond (lt_z v (pos 0)) (pos 0) v ≡ pos (min (position_of t - 1) 65535)
+pub cut_same : (t : ℤ) → int_max (pos 0) (int_min t (pos 65535)) ≡ pos (min (position_of t - 1) 65535)
 unfolding position_of
 cut_same (negsuc n) = refl
-cut_same (pos n) = by (ltb n 65535) refl (ltb n ramp_unit) refl
+cut_same (pos n) = by (ltb 65535 n) refl (ltb n ramp_unit) refl
   where
-    by : (a : Bool) → ltb n 65535 ≡ a → (b : Bool) → ltb n ramp_unit ≡ b
-        → let v = cond (ltb n 65535) (pos n) (pos 65535) in cond (lt_z v (pos 0)) (pos 0) v ≡ pos (min (position_of (pos n) - 1) 65535)
-    by true e true f =
-        let m : n ≡ min (n + 1 - 1) 65535 = omega (arith, ltb-true n 65535 e) in
-        rw (e, le-ltb n 0 (omega arith), f) (ap pos m)
-    by true e false f = absurd (omega (arith, ltb-true n 65535 e, ltb-false n ramp_unit f))
+    by : (a : Bool) → ltb 65535 n ≡ a → (b : Bool) → ltb n ramp_unit ≡ b
+        → int_max (pos 0) (cond (ltb 65535 n) (pos 65535) (pos n)) ≡ pos (min (position_of (pos n) - 1) 65535)
+    by true e true f = absurd (omega (arith, ltb-true 65535 n e, ltb-true n ramp_unit f))
+    by true e false f = rw (e, f, le-ltb n 0 (omega arith))
     by false e true f =
-        let m : 65535 ≡ min (n + 1 - 1) 65535 = omega (arith, ltb-false n 65535 e, ltb-true n ramp_unit f) in
-        rw (e, le-ltb n 0 (omega arith), f) (ap pos m)
-    by false e false f = rw (e, le-ltb n 0 (omega arith), f)
+        let m : n ≡ min (n + 1 - 1) 65535 = omega (arith, ltb-false 65535 n e) in
+        rw (e, f, le-ltb n 0 (omega arith)) (ap pos m)
+    by false e false f = absurd (omega (arith, ltb-false 65535 n e, ltb-false n ramp_unit f))
 
 pub painted : (spread : ℕ) (premultiply : Bool) (ramp : List Stop) (t : ℤ) (p : Pixel) → p ≡ ramp_at ramp (t_at (position_of (mapped spread t)))
     → finished premultiply p ≡ gradient_color spread premultiply ramp t

@@ -4,9 +4,8 @@ use lib.Ieee.{Float, nan, inf, fin, binary32, nan_bits, is_nan, lt, mul, add, to
 use lib.Ieee.Bits.{nan_bits_is}
 use Rattle.fixed.specs.Floats.{real_of, real_at, f32_at}
 use Rattle.fixed.specs.Little.{u32_at}
-use Rattle.fixed.specs.declared.Real.{Real}
-use Rattle.fixed.specs.declared.Real.TheVariants.{Number}
-use Rattle.fixed.proofs.Answers.{is_number, number_told, no_number_lem}
+use Rattle.std.specs.Prelude.{Option, Some, is_some}
+use Rattle.fixed.proofs.Answers.{number_told, no_number_lem}
 use Rattle.color.specs.Channels.{channel_byte}
 use Rattle.paint.specs.Buffers.{less_real}
 
@@ -17,11 +16,11 @@ nan_only (inf s) e = absurd (subst T (sym e) tt)
 nan_only (fin s m d) e = absurd (subst T (sym e) tt)
 
 -- an answer that holds no number was read from a NaN
-pub read_nan : (s : List ℕ) (at : ℕ) (r : Real) → r ≡ real_at s at → is_number r ≡ false → f32_at s at ≡ nan
+pub read_nan : (s : List ℕ) (at : ℕ) (r : Option Float) → r ≡ real_at s at → is_some r ≡ false → f32_at s at ≡ nan
 read_nan s at r e h =
-    nan_only (f32_at s at) (sym (nan_bits_is binary32 (u32_at s at)) ∙ no_number_lem (nan_bits binary32 (u32_at s at)) (f32_at s at) (ap is_number (sym e) ∙ h))
+    nan_only (f32_at s at) (sym (nan_bits_is binary32 (u32_at s at)) ∙ no_number_lem (nan_bits binary32 (u32_at s at)) (f32_at s at) (ap is_some (sym e) ∙ h))
 
-pub read_number : (s : List ℕ) (at : ℕ) (r : Real) (v : Float) → r ≡ real_at s at → r ≡ Number v → v ≡ f32_at s at
+pub read_number : (s : List ℕ) (at : ℕ) (r : Option Float) (v : Float) → r ≡ real_at s at → r ≡ Some v → v ≡ f32_at s at
 read_number s at r v e h = (number_told (nan_bits binary32 (u32_at s at)) (f32_at s at) v (sym e ∙ h)).0
 
 -- a NaN's channel is 0

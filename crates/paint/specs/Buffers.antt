@@ -1,10 +1,8 @@
 -- How the code holds a gradient: what a draw is known to keep to, the ramp in a lent run of numbers, t along a row. Only the proofs need it: a
 -- reviewer of the paper need not read it.
 use Rattle.std.specs.Prelude.{◌≡◌, ℕ, zero, suc, ◌+◌, ◌*◌, ◌/◌, ◌%◌, ◌<◌, ◌≤◌, Bool, false, cond, List, [], ◌∷◌, ◌++◌, length, drop, ℤ, pos, ◌+ℤ◌, ◌-ℤ◌}
-use Rattle.std.specs.Prelude.{◌*ℤ◌, ◌≤ℤ◌, ◌<ℤ◌, ◌==◌, int_lt, slice_index, slice_index_or, unsigned_abs}
+use Rattle.std.specs.Prelude.{◌*ℤ◌, ◌≤ℤ◌, ◌<ℤ◌, ◌==◌, int_lt, slice_index, slice_index_or, unsigned_abs, Float, Option, Some, None}
 use Rattle.std.specs.Float.Ieee.{lt}
-use Rattle.fixed.specs.declared.Real.{Real}
-use Rattle.fixed.specs.declared.Real.TheVariants.{Number, Nan}
 use Rattle.fixed.specs.Floor.{floor_div, floor_mod}
 use Rattle.color.specs.declared.Pixel.{Pixel}
 use Rattle.paint.specs.Gradient.{ramp_unit, projection, squared_length, linear_t, mapped}
@@ -23,10 +21,10 @@ pub record LimitedPoints (p : FixedPoints) : Type 0 where
   pub y1 : unsigned_abs p.y1 ≤ 1048576
 
 -- ---- floats as they are read: a NaN is less than none
-abbrev pub less_real : Real → Real → Bool
-less_real (Number x) (Number y) = lt x y
-less_real (Number x) Nan = false
-less_real Nan b = false
+abbrev pub less_real : Option Float → Option Float → Bool
+less_real (Some x) (Some y) = lt x y
+less_real (Some x) None = false
+less_real None b = false
 
 -- ---- stops in a run of numbers, two to a stop: its offset, and its colour's four bytes as one number, R lowest
 unfoldable pub packed : Pixel → ℕ

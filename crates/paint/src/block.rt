@@ -1,5 +1,5 @@
 // The paint of a block of pixels, by their positions on the ramp, or straight from t where it is a line.
-ghost use Rattle.std.specs.Prelude.{◌≡◌, ◌+◌, ◌*◌, ◌/◌, ◌<◌, ◌≤◌, true, length, pos, ◌<ℤ◌, ◌≢◌, slice_index, unsigned_abs};
+ghost use Rattle.std.specs.Prelude.{◌≡◌, ◌+◌, ◌*◌, ◌/◌, ◌<◌, ◌≤◌, true, IfSome, length, pos, ◌<ℤ◌, ◌≢◌, slice_index, unsigned_abs};
 ghost use Rattle.raster.specs.Surface.{run};
 ghost use Rattle.paint.specs.Gradient.{squared_length};
 ghost use Rattle.paint.specs.Radial.{focal_allowed};
@@ -13,7 +13,7 @@ use crate::radial_row::radial_positions;
 use crate::ramp::stop_color;
 use crate::segments::{color_in, find};
 use crate::words::{BLOCK, finish_words, line_pixels, mix_words, put_words, word};
-use crate::{AnyGradient, LinearGradient, RadialGradient, RowLine, Segment};
+use crate::{AnyGradient, Line, LinearGradient, RadialGradient, Segment};
 
 // The offset of a ramp's end.
 const END: u32 = 65536;
@@ -35,20 +35,16 @@ fn linear_block(g: LinearGradient, ramp: &[u32], x: usize, y: usize, n: usize, r
     requires n_bound { (x + n ≤ 1024) × (y ≤ 1024) × (length row.old ≡ n * 4) × (n ≤ 256) }
     ensures { row.new ≡ run n (λ i. linear_at g (stops_in ramp.now g.count) (x + i) y) }
 {
-    let l = row_line(g, x, y, n);
-    if l.serves {
-        if has_ends_only(ramp, g.count) {
-            line_block(g, l, ramp, x, y, row);
-            return;
-        }
+    match row_line(g, x, y, n) {
+        Some(l) if has_ends_only(ramp, g.count) => line_block(g, l, ramp, x, y, row),
+        line => placed_block(g, line, ramp, x, y, n, row),
     }
-    placed_block(g, l, ramp, x, y, n, row);
 }
 
 // The same by positions. The array for them is zeroed before it is used, so it is made here: a line needs none.
 fn placed_block(
     g: LinearGradient,
-    l: RowLine,
+    line: Option<Line>,
     ramp: &[u32],
     x: usize,
     y: usize,
@@ -57,17 +53,17 @@ fn placed_block(
 )
     requires limited_points { LimitedPoints g.points × HeldRamp ramp.now g.count × (unsigned_abs (squared_length g.points) ≢ 0) }
     requires n_bound { (x + n ≤ 1024) × (y ≤ 1024) × (length row.old ≡ n * 4) × (n ≤ 256) }
-    requires follows { l.serves ≡ true → Follows g x y n l.first l.step }
+    requires follows { IfSome line (λ l. Follows g x y n l.first l.step) }
     ensures { row.new ≡ run n (λ i. linear_at g (stops_in ramp.now g.count) (x + i) y) }
 {
     let mut ks = [0; BLOCK];
-    placed_in(g, l, ramp, x, y, n, row, &mut ks);
+    placed_in(g, line, ramp, x, y, n, row, &mut ks);
 }
 
 // The same with room for the positions of a block.
 fn placed_in(
     g: LinearGradient,
-    l: RowLine,
+    line: Option<Line>,
     ramp: &[u32],
     x: usize,
     y: usize,
@@ -77,15 +73,15 @@ fn placed_in(
 )
     requires limited_points { LimitedPoints g.points × HeldRamp ramp.now g.count × (unsigned_abs (squared_length g.points) ≢ 0) }
     requires n_bound { (x + n ≤ 1024) × (y ≤ 1024) × (length row.old ≡ n * 4) × (n ≤ 256) × (length ks.old ≡ 256) }
-    requires follows { l.serves ≡ true → Follows g x y n l.first l.step }
+    requires follows { IfSome line (λ l. Follows g x y n l.first l.step) }
     ensures { row.new ≡ run n (λ i. linear_at g (stops_in ramp.now g.count) (x + i) y) }
 {
-    linear_positions(g, l, x, y, &mut ks[0..n]);
+    linear_positions(g, line, x, y, &mut ks[0..n]);
     color_row(g.premultiply, ramp, g.count, &mut ks[0..n], row);
 }
 
 // The same of two stops that lie at both ends, where t is a line.
-fn line_block(g: LinearGradient, l: RowLine, ramp: &[u32], x: usize, y: usize, row: &mut [u8])
+fn line_block(g: LinearGradient, l: Line, ramp: &[u32], x: usize, y: usize, row: &mut [u8])
     requires held_ramp { HeldRamp ramp.now 2 × (slice_index ramp.now 2 ≡ 65536) × Follows g x y (length row.old / 4) l.first l.step }
     requires row_len { (length row.old ≡ length row.old / 4 * 4) × (length row.old / 4 ≤ 256) }
     ensures { row.new ≡ run (length row.old / 4) (λ i. linear_at g (stops_in ramp.now 2) (x + i) y) }
@@ -155,10 +151,7 @@ fn has_ends_only(ramp: &[u32], count: usize) -> bool
     requires { count * 2 ≤ length ramp.now }
     ensures { result ≡ true → (count ≡ 2) × (slice_index ramp.now 2 ≡ 65536) }
 {
-    if count == 2 {
-        return ramp[2] == END;
-    }
-    false
+    count == 2 && ramp[2] == END
 }
 
 // The ramp's colours in place of positions, of two stops that lie at both ends.
@@ -175,12 +168,10 @@ fn segment_words(ramp: &[u32], count: usize, ks: &mut [u32])
     ensures { Words (λ i. ramp_at (stops_in ramp.now count) (t_at (slice_index ks.old i))) (length ks.old) ks.new }
 {
     let mut s = find(ramp, count, 0);
-    let mut i = 0;
-    while i < ks.len() {
+    for i in 0..ks.len() {
         let k = ks[i];
         s = serving(s, ramp, count, k);
         ks[i] = word(color_in(s, k));
-        i += 1;
     }
 }
 
@@ -189,10 +180,8 @@ fn serving(s: Segment, ramp: &[u32], count: usize, k: u32) -> Segment
     requires { HeldRamp ramp.now count × Serves ramp.now count s × (k ≤ 65537) }
     ensures { Serves ramp.now count result × (result.low ≤ k) × (k < result.to) }
 {
-    if s.low <= k {
-        if k < s.to {
-            return s;
-        }
+    if s.low <= k && k < s.to {
+        return s;
     }
     find(ramp, count, k)
 }

@@ -7,7 +7,6 @@ ghost use Rattle.paint.specs.Buffers.{HeldRamp, Written, ramp_numbers, stops_in,
 use crate::ramp::{pack, stop_color};
 use crate::stops::{color_at, falls, offset_at};
 use color::Pixel;
-use fixed::Offset;
 
 // How many numbers the longest ramp takes.
 pub const RAMP_NUMBERS: usize = 68;
@@ -37,10 +36,8 @@ fn keep_stops(stops: &[u8], n: usize, premultiply: bool, ramp: &mut [u32]) -> us
     ensures upper_bound { result ≤ n + 1 }
 {
     let mut count = 0;
-    let mut i = 0;
-    while i < n {
+    for i in 0..n {
         count = keep_stop(stops, i, premultiply, ramp, count);
-        i += 1;
     }
     count
 }
@@ -53,8 +50,7 @@ fn keep_stop(stops: &[u8], i: usize, premultiply: bool, ramp: &mut [u32], count:
         (grown (stops_in ramp.old count) (map (prepared premultiply) (kept_at stops.now i))) }
     ensures lower_bound { (count ≤ result) × (result ≤ i + 2) }
 {
-    let o = offset_at(stops, i);
-    let Offset::At(x) = o else {
+    let Ok(x) = offset_at(stops, i) else {
         return count;
     };
     let c = color_at(stops, i, premultiply);

@@ -82,6 +82,5 @@ fn first_from(z: i64, n: usize) -> usize
     if z <= 0 {
         return 0;
     }
-    let i = (z as usize + 15) / 16;
-    if i < n { i } else { n }
+    ((z as usize + 15) / 16).min(n)
 }

@@ -59,11 +59,9 @@ fn half(n: i64) -> f32
 fn guess_inverses(first: f32, slope: f32, bend: f32, inverses: &mut [f32])
     requires { length inverses.old ≤ 256 }
 {
-    let mut i = 0;
-    while i < inverses.len() {
+    for i in 0..inverses.len() {
         let x = (i as u16) as f32;
         inverses[i] = inverse_root(first + x * (slope + x * bend));
-        i += 1;
     }
 }
 
@@ -87,11 +85,9 @@ fn capped(x: f32, most: f32) -> f32
 fn correct(first: f64, slope: f64, bend: f64, most: f64, inverses: &[f32], ks: &mut [u32])
     requires { T (not (is_nan most)) × (length inverses.now ≡ length ks.old) × (length ks.old ≤ 256) }
 {
-    let mut i = 0;
-    while i < ks.len() {
+    for i in 0..ks.len() {
         let x = (i as u16) as f64;
         ks[i] = root(first + x * (slope + x * bend), inverses[i], most);
-        i += 1;
     }
 }
 

@@ -121,17 +121,10 @@ pub struct Quotient {
     pub rest: i64,
 }
 
-// A channel between two stops: what it is at the first of them, and what it grows by from one position to the next, in parts of 2^40.
+// A line in whole numbers: what it is at the first place, and what it grows by from one to the next. A channel between two stops is one in parts of
+// 2^40, t along a row one in parts of 2^44.
 #[derive(Clone, Copy)]
 pub struct Line {
-    pub first: i64,
-    pub step: i64,
-}
-
-// t along a row as a line, if it serves: what t is at the first pixel, and what it grows by from one to the next, in parts of 2^44.
-#[derive(Clone, Copy)]
-pub struct RowLine {
-    pub serves: bool,
     pub first: i64,
     pub step: i64,
 }

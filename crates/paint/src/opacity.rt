@@ -22,12 +22,10 @@ fn has_opaque_stops(ramp: &[u32], count: usize) -> bool
     requires { HeldRamp ramp.now count }
     ensures { result ≡ true → OpaqueStops ramp.now count }
 {
-    let mut i = 0;
-    while i < count {
+    for i in 0..count {
         if stop_color(ramp, i).a != 255 {
             return false;
         }
-        i += 1;
     }
     true
 }

@@ -1,6 +1,6 @@
 // Where on the ramp the pixels of a row lie, and t along a row, as a line where it is one. A position is 0 before the ramp, t + 1 on it and 65,537
 // behind it, so that each is a small number.
-ghost use Rattle.std.specs.Prelude.{◌≡◌, ◌+◌, ◌-◌, ◌*◌, ◌/◌, ◌<◌, ◌≤◌, min, true, false, length, pos, ◌+ℤ◌, ◌*ℤ◌, ◌≢◌, unsigned_abs};
+ghost use Rattle.std.specs.Prelude.{◌≡◌, ◌+◌, ◌-◌, ◌*◌, ◌/◌, ◌<◌, ◌≤◌, min, true, IfSome, length, pos, ◌+ℤ◌, ◌*ℤ◌, ◌≢◌, unsigned_abs};
 ghost use Rattle.fixed.specs.Floor.{floor_div};
 ghost use Rattle.lists.specs.Lists.{tab};
 ghost use Rattle.paint.specs.Gradient.{squared_length, linear_t, mapped};
@@ -9,7 +9,7 @@ ghost use Rattle.paint.specs.Segments.{position_of};
 
 use crate::gradient::RAMP_UNIT;
 use crate::segments::BEHIND;
-use crate::{LinearGradient, Quotient, RowLine, gradient};
+use crate::{Line, LinearGradient, Quotient, gradient};
 
 // The position of t.
 pub fn position(spread: u32, t: i64) -> u32
@@ -34,14 +34,14 @@ const PARTS_ROOT: u64 = 4194304;
 const RAMP_PARTS: i64 = 1152921504606846976;
 
 // The line has t at each of 128 pixels, and fits 64 bits, if these are below: the gradient's squared length, t at the first pixel, what t grows by.
-const LENGTH_LIMIT: i64 = 137438953472;
+const LENGTH_LIMIT: u64 = 137438953472;
 
-const FIRST_LIMIT: i64 = 131072;
+const FIRST_LIMIT: u64 = 131072;
 
-const STEP_LIMIT: i64 = 1024;
+const STEP_LIMIT: u64 = 1024;
 
 // The squared length of a gradient, of which it has t at each of 256.
-pub const SHORT_LIMIT: i64 = 68719476736;
+pub const SHORT_LIMIT: u64 = 68719476736;
 
 // For fewer pixels the divisions that begin a line leave little to save.
 const LINE_LEAST: usize = 16;
@@ -53,13 +53,13 @@ const RAMP_LAST: i32 = 65535;
 
 // The positions of the pixels from (x, y) on, of two points that do not coincide, and the line of their t, if there is one: t goes from pixel to pixel
 // without a division.
-pub fn linear_positions(g: LinearGradient, l: RowLine, x: usize, y: usize, ks: &mut [u32])
+pub fn linear_positions(g: LinearGradient, line: Option<Line>, x: usize, y: usize, ks: &mut [u32])
     requires limited_points { LimitedPoints g.points × (unsigned_abs (squared_length g.points) ≢ 0) }
     requires ks_bound { (x + length ks.old ≤ 1024) × (y ≤ 1024) × (length ks.old ≤ 256) }
-    requires follows { l.serves ≡ true → Follows g x y (length ks.old) l.first l.step }
+    requires follows { IfSome line (λ l. Follows g x y (length ks.old) l.first l.step) }
     ensures { ks.new ≡ tab (length ks.old) (λ i. position_of (mapped g.spread (linear_t g.points (x + i) y))) }
 {
-    if l.serves {
+    if let Some(l) = line {
         along_line(l.first, l.step, ks);
         return;
     }
@@ -71,36 +71,25 @@ pub fn linear_positions(g: LinearGradient, l: RowLine, x: usize, y: usize, ks: &
 }
 
 // t of the n pixels from (x, y) on as a line, if there is one.
-pub fn row_line(g: LinearGradient, x: usize, y: usize, n: usize) -> RowLine
+pub fn row_line(g: LinearGradient, x: usize, y: usize, n: usize) -> Option<Line>
     requires limited_points { LimitedPoints g.points × (unsigned_abs (squared_length g.points) ≢ 0) }
     requires x_bound { (x ≤ 1024) × (y ≤ 1024) × (n ≤ 256) }
-    ensures { result.serves ≡ true → Follows g x y n result.first result.step }
+    ensures { IfSome result (λ l. Follows g x y n l.first l.step) }
 {
     if n < LINE_LEAST {
-        return no_line();
+        return None;
     }
     let p = g.points;
     let d = gradient::squared_length(p);
     let step = gradient::row_step(p);
     let q = gradient::quotient_at(p, x, y);
-    if has_line(g.spread, q, step, d, n) {
-        return RowLine {
-            serves: true,
-            first: in_parts(q, d),
-            step: in_parts(step, d),
-        };
+    if !has_line(g.spread, q, step, d, n) {
+        return None;
     }
-    no_line()
-}
-
-fn no_line() -> RowLine
-    ensures { result.serves ≡ false }
-{
-    RowLine {
-        serves: false,
-        first: 0,
-        step: 0,
-    }
+    Some(Line {
+        first: in_parts(q, d),
+        step: in_parts(step, d),
+    })
 }
 
 // Whether a line serves for n pixels.
@@ -111,29 +100,21 @@ fn has_line(spread: u32, q: Quotient, step: Quotient, d: i64, n: usize) -> bool
     if !gradient::pads(spread) {
         return false;
     }
-    if !is_below(q.whole, FIRST_LIMIT) {
+    if q.whole.unsigned_abs() >= FIRST_LIMIT {
         return false;
     }
-    if !is_below(step.whole, STEP_LIMIT) {
+    if step.whole.unsigned_abs() >= STEP_LIMIT {
         return false;
     }
-    is_below(d, length_limit(n))
+    d.unsigned_abs() < length_limit(n)
 }
 
 // Below which squared length a line has t at n pixels.
-fn length_limit(n: usize) -> i64
+fn length_limit(n: usize) -> u64
     requires { n ≤ 256 }
-    ensures { (n * unsigned_abs result ≤ line_parts) × (unsigned_abs result ≤ 137438953472) }
+    ensures { (n * result ≤ line_parts) × (result ≤ 137438953472) }
 {
     if n <= 128 { LENGTH_LIMIT } else { SHORT_LIMIT }
-}
-
-// Whether z is below n in size.
-fn is_below(z: i64, n: i64) -> bool
-    requires { unsigned_abs n ≤ 137438953472 }
-    ensures { result ≡ true → unsigned_abs z < unsigned_abs n }
-{
-    -n < z && z < n
 }
 
 // A quotient over d in parts, rounded up.
@@ -160,11 +141,9 @@ fn along_line(first: i64, step: i64, ks: &mut [u32])
     ensures { ks.new ≡ tab (length ks.old) (λ i. position_of (floor_div (first +ℤ step *ℤ pos i) line_parts)) }
 {
     let mut t = first;
-    let mut i = 0;
-    while i < ks.len() {
+    for i in 0..ks.len() {
         ks[i] = position_in_parts(t);
         t += step;
-        i += 1;
     }
 }
 
@@ -180,9 +159,7 @@ fn position_in_parts(t: i64) -> u32
 fn padded(t: i32) -> u32
     ensures { result ≡ position_of t }
 {
-    let v = if t < RAMP_END { t } else { RAMP_END };
-    let w = if v < 0 { -1 } else { v };
-    (w + 1) as u32
+    (t.clamp(-1, RAMP_END) + 1) as u32
 }
 
 // t of pixels whose t is a line in parts, cut to 0..65,535: twice, for two pairs of channels.
@@ -222,13 +199,11 @@ fn inner_ts(first: i64, step: i64, left: &mut [u16], right: &mut [u16])
     ensures right_after { right.new ≡ left.new }
 {
     let mut t = first;
-    let mut i = 0;
-    while i < left.len() {
+    for i in 0..left.len() {
         let u = inner_t(t);
         left[i] = u;
         right[i] = u;
         t += step;
-        i += 1;
     }
 }
 
@@ -248,13 +223,11 @@ fn cut_ts(first: i64, step: i64, left: &mut [u16], right: &mut [u16])
     ensures right_after { right.new ≡ left.new }
 {
     let mut t = first;
-    let mut i = 0;
-    while i < left.len() {
+    for i in 0..left.len() {
         let u = cut_in_parts(t);
         left[i] = u;
         right[i] = u;
         t += step;
-        i += 1;
     }
 }
 
@@ -269,9 +242,7 @@ fn cut_in_parts(t: i64) -> u16
 fn cut(t: i32) -> u16
     ensures { result ≡ min (position_of t - 1) 65535 }
 {
-    let v = if t < RAMP_LAST { t } else { RAMP_LAST };
-    let w = if v < 0 { 0 } else { v };
-    w as u16
+    t.clamp(0, RAMP_LAST) as u16
 }
 
 // The positions of the pixels from (x, y) on, of any gradient. t at the first of them is given, and so is what it grows by; x and y are for the contract.
@@ -290,10 +261,8 @@ fn along_quotients(
     ensures { ks.new ≡ tab (length ks.old) (λ i. position_of (mapped g.spread (linear_t g.points (x + i) y))) }
 {
     let mut q = first;
-    let mut i = 0;
-    while i < ks.len() {
+    for i in 0..ks.len() {
         ks[i] = position(g.spread, q.whole);
         q = gradient::add_quotients(q, step, d);
-        i += 1;
     }
 }

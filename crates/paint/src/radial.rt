@@ -118,8 +118,7 @@ pub fn reciprocal(d: i64) -> u64
     requires { (pos 0 <ℤ d) × (unsigned_abs d ≤ 268435456) }
     ensures { result < 8589934592 }
 {
-    let r = 140737488355328 / (d as u64);
-    if r < 8589934592 { r } else { 8589934591 }
+    (140737488355328 / (d as u64)).min(8589934591)
 }
 
 // t of A, q and D, which is not negative: the product with D's reciprocal is mostly t.

@@ -43,15 +43,7 @@ pub fn radial_positions(g: RadialGradient, x: usize, y: usize, ks: &mut [u32])
 fn has_product(d: u64) -> bool
     ensures { result ≡ true → ByProduct d }
 {
-    if d <= PRODUCT_LIMIT {
-        return true;
-    }
-    if d % 256 == 0 {
-        if d <= WIDE_LIMIT {
-            return true;
-        }
-    }
-    false
+    d <= PRODUCT_LIMIT || (d % 256 == 0 && d <= WIDE_LIMIT)
 }
 
 // The positions of t as it is, which is where the spread pads, of a D of which one product gives t.
@@ -63,12 +55,10 @@ fn padded_positions(c: Circle, d: u64, x: usize, y: usize, ks: &mut [u32])
     let scale = UNIT_IN_PARTS / d + 1;
     let mut p = place_at(c, x, y);
     guess_roots(p.q, p.dq, p.ddq, most_root(c.r), ks);
-    let mut i = 0;
-    while i < ks.len() {
+    for i in 0..ks.len() {
         let q = radial::root_near(p.q, ks[i]);
         ks[i] = padded_position(radial::numerator(p.a, q), d, scale);
         p = next_place(p);
-        i += 1;
     }
 }
 
@@ -94,12 +84,10 @@ fn mapped_positions(g: RadialGradient, d: i64, x: usize, y: usize, ks: &mut [u32
     let reciprocal = radial::reciprocal(d);
     let mut p = place_at(c, x, y);
     guess_roots(p.q, p.dq, p.ddq, most_root(c.r), ks);
-    let mut i = 0;
-    while i < ks.len() {
+    for i in 0..ks.len() {
         let q = radial::root_near(p.q, ks[i]);
         ks[i] = position_of(g.spread, radial::t_of(p.a, q, d, reciprocal));
         p = next_place(p);
-        i += 1;
     }
 }
 

@@ -25,14 +25,12 @@ fn color_between(ramp: &[u32], count: usize, t: u32) -> Pixel
     requires { HeldRamp ramp.now count }
     ensures { result ≡ between (stop_at ramp.now 0) (stops_from ramp.now 1 (count - 1)) t }
 {
-    let mut j = 1;
-    while j < count {
+    for j in 1..count {
         let x = ramp[j * 2];
         if t < x {
             let i = j - 1;
             return mix_pixel(ramp[i * 2], x, t, stop_color(ramp, i), stop_color(ramp, j));
         }
-        j += 1;
     }
     stop_color(ramp, count - 1)
 }

@@ -148,7 +148,7 @@ fn block_size(g: AnyGradient, ramp: &[u32]) -> usize
     match g {
         AnyGradient::Linear(l) => {
             let p = l.points;
-            if gradient::squared_length(p) < SHORT_LIMIT {
+            if gradient::squared_length(p).unsigned_abs() < SHORT_LIMIT {
                 BLOCK
             } else {
                 BLOCK / 2
@@ -166,17 +166,11 @@ fn blocks(g: AnyGradient, ramp: &[u32], x: usize, y: usize, n: usize, size: usiz
 {
     let mut i = 0;
     while i < n {
-        let e = least(i + size, n);
+        let e = (i + size).min(n);
         let m = e - i;
         let from = i * 4;
         let to = e * 4;
         block(g, ramp, x + i, y, m, &mut row[from..to]);
         i = e;
     }
-}
-
-fn least(a: usize, b: usize) -> usize
-    ensures { result ≡ min a b }
-{
-    if a < b { a } else { b }
 }

@@ -37,8 +37,7 @@ fn search(ramp: &[u32], count: usize, t: u32) -> Segment
     ensures { Serves ramp.now count result × (result.low ≤ t + 1) × (t + 1 < result.to) }
 {
     let mut low = 0;
-    let mut j = 1;
-    while j < count {
+    for j in 1..count {
         let x = ramp[j * 2];
         if t < x {
             let i = j - 1;
@@ -50,17 +49,10 @@ fn search(ramp: &[u32], count: usize, t: u32) -> Segment
                 stop_color(ramp, j),
             );
         }
-        low = greatest(low, x);
-        j += 1;
+        low = low.max(x);
     }
     let c = stop_color(ramp, count - 1);
     between(low + 1, low + 1, BEHIND, c, c)
-}
-
-pub fn greatest(a: u32, b: u32) -> u32
-    ensures { result ≡ max a b }
-{
-    if a < b { b } else { a }
 }
 
 fn between(low: u32, from: u32, to: u32, left: Pixel, right: Pixel) -> Segment

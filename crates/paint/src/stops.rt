@@ -7,7 +7,7 @@ ghost use Rattle.paint.specs.Ramps.{offset_at, color_at, falls_in};
 ghost use Rattle.paint.specs.Buffers.{less_real};
 
 use color::Pixel;
-use fixed::{Offset, Real};
+use fixed::OffsetError;
 
 const STOP_BYTES: usize = 20;
 
@@ -17,12 +17,8 @@ pub fn falls(stops: &[u8], n: usize) -> bool
     ensures { result ≡ falls_in stops.now (n - 1) }
 {
     let mut fell = false;
-    let mut i = 1;
-    while i < n {
-        if falls_at(stops, i) {
-            fell = true;
-        }
-        i += 1;
+    for i in 1..n {
+        fell |= falls_at(stops, i);
     }
     fell
 }
@@ -38,27 +34,24 @@ fn falls_at(stops: &[u8], i: usize) -> bool
 }
 
 // a < b, which no NaN is.
-fn less(a: Real, b: Real) -> bool
+fn less(a: Option<f32>, b: Option<f32>) -> bool
     ensures { result ≡ less_real a b }
 {
-    if let Real::Number(x) = a {
-        if let Real::Number(y) = b {
-            return x < y;
-        }
+    match (a, b) {
+        (Some(x), Some(y)) => x < y,
+        _ => false,
     }
-    false
 }
 
 // What the offset of stop i becomes.
-pub fn offset_at(stops: &[u8], i: usize) -> Offset
+pub fn offset_at(stops: &[u8], i: usize) -> Result<u32, OffsetError>
     requires { 20 * i + 4 ≤ length stops.now }
     ensures { result ≡ offset_in (offset_at stops.now i) }
 {
-    let x = fixed::f32_at(stops, STOP_BYTES * i);
-    let Real::Number(v) = x else {
-        return Offset::NotANumber;
-    };
-    fixed::stop_offset(v)
+    match fixed::f32_at(stops, STOP_BYTES * i) {
+        Some(v) => fixed::stop_offset(v),
+        None => Err(OffsetError::NotANumber),
+    }
 }
 
 // The colour of stop i, premultiplied if asked.
@@ -84,9 +77,8 @@ fn channel_at(stops: &[u8], at: usize) -> u8
     requires { at + 4 ≤ length stops.now }
     ensures { result ≡ channel_byte (f32_at stops.now at) }
 {
-    let x = fixed::f32_at(stops, at);
-    let Real::Number(v) = x else {
-        return 0;
-    };
-    color::channel_byte(v)
+    match fixed::f32_at(stops, at) {
+        Some(v) => color::channel_byte(v),
+        None => 0,
+    }
 }

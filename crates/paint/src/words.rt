@@ -10,7 +10,6 @@ ghost use Rattle.paint.specs.Segments.{Words, Planes, Covering, OnRamp, finished
 
 use crate::positions::line_ts;
 use crate::ramp::{pack, unpack};
-use crate::segments::greatest;
 use color::{Pixel, premultiply};
 
 // How many pixels are made at a time, at most.
@@ -120,10 +119,8 @@ fn put_planes(left: &[u16], right: &[u16], row: &mut [u8])
     ensures { row.new
         ≡ run (length left.now) (λ i. unpacked (slice_index left.now i + slice_index right.now i * 65536)) }
 {
-    let mut i = 0;
-    while i < left.len() {
+    for i in 0..left.len() {
         raster::put_pixel(row, i, unpack(joined(left[i], right[i])));
-        i += 1;
     }
 }
 
@@ -133,12 +130,10 @@ fn take_ts(ks: &[u32], left: &mut [u16], right: &mut [u16])
     ensures left_after { left.new ≡ tab (length ks.now) (λ i. min (slice_index ks.now i - 1) 65535) }
     ensures right_after { right.new ≡ left.new }
 {
-    let mut i = 0;
-    while i < ks.len() {
+    for i in 0..ks.len() {
         let t = on_ramp(ks[i]);
         left[i] = t;
         right[i] = t;
-        i += 1;
     }
 }
 
@@ -146,13 +141,7 @@ fn take_ts(ks: &[u32], left: &mut [u16], right: &mut [u16])
 fn on_ramp(k: u32) -> u16
     ensures { result ≡ min (k - 1) 65535 }
 {
-    (least(greatest(k, 1), 65536) - 1) as u16
-}
-
-fn least(a: u32, b: u32) -> u32
-    ensures { result ≡ min a b }
-{
-    if a < b { a } else { b }
+    (k.clamp(1, 65536) - 1) as u16
 }
 
 // The colours at t, which both left and right hold. Equal alphas have no way of their own here: one more loop, built in beside the segments, would leave
@@ -176,7 +165,7 @@ fn mix_finished(premultiply: bool, c: Pixel, d: Pixel, left: &mut [u16], right: 
     if premultiply {
         return;
     }
-    if lower(c.a, d) == 255 {
+    if c.a.min(d.a) == 255 {
         return;
     }
     premultiply_pairs(left, right);
@@ -196,10 +185,8 @@ fn mix_pairs(ci: u8, cj: u8, di: u8, dj: u8, ts: &mut [u16])
     requires { length ts.old ≤ 256 }
     ensures { ts.new ≡ tab (length ts.old) (λ i. mix_pair ci cj di dj (slice_index ts.old i)) }
 {
-    let mut i = 0;
-    while i < ts.len() {
+    for i in 0..ts.len() {
         ts[i] = mixed_pair(ci, cj, di, dj, ts[i]);
-        i += 1;
     }
 }
 
@@ -220,10 +207,8 @@ fn mix_under_alpha(ci: u8, cj: u8, a: u8, ts: &mut [u16])
     requires { length ts.old ≤ 256 }
     ensures { ts.new ≡ tab (length ts.old) (λ i. mix_pair ci cj a a (slice_index ts.old i)) }
 {
-    let mut i = 0;
-    while i < ts.len() {
+    for i in 0..ts.len() {
         ts[i] = mixed_under_alpha(ci, cj, a, ts[i]);
-        i += 1;
     }
 }
 
@@ -262,13 +247,7 @@ fn fallen(ci: u8, cj: u8, t: u16) -> u16
     ensures { result ≡ mix_byte 0 65536 t ci cj }
 {
     let p = ((ci - cj) as u32) * (t as u32);
-    (ci as u16) - ((p / 65536) as u16) - one_less((p % 65536) as u16) / 32768
-}
-
-fn one_less(a: u16) -> u16
-    ensures { result ≡ a - 1 }
-{
-    if 1 < a { a - 1 } else { 0 }
+    (ci as u16) - ((p / 65536) as u16) - ((p % 65536) as u16).saturating_sub(1) / 32768
 }
 
 // The pixels of two planes of pairs premultiplied.
@@ -279,13 +258,11 @@ fn premultiply_pairs(left: &mut [u16], right: &mut [u16])
     ensures right_after { right.new
         ≡ tab (length left.old) (λ i. right_pair (premultiplied (of_pairs (slice_index left.old i) (slice_index right.old i)))) }
 {
-    let mut i = 0;
-    while i < left.len() {
+    for i in 0..left.len() {
         let l = left[i];
         let r = right[i];
         left[i] = premultiplied_left(l, r);
         right[i] = premultiplied_right(r);
-        i += 1;
     }
 }
 
@@ -320,10 +297,8 @@ fn join(left: &[u16], right: &[u16], ws: &mut [u32])
     requires { (length left.now ≡ length ws.old) × (length right.now ≡ length ws.old) × (length ws.old ≤ 256) }
     ensures { ws.new ≡ tab (length ws.old) (λ i. slice_index left.now i + slice_index right.now i * 65536) }
 {
-    let mut i = 0;
-    while i < ws.len() {
+    for i in 0..ws.len() {
         ws[i] = joined(left[i], right[i]);
-        i += 1;
     }
 }
 
@@ -352,29 +327,19 @@ fn lowest_alpha(ws: &[u32]) -> u8
     requires { length ws.now ≤ 1024 }
     ensures { Covering result (length ws.now) ws.now }
 {
-    let mut low = 255;
-    let mut i = 0;
-    while i < ws.len() {
-        low = lower(low, unpack(ws[i]));
-        i += 1;
+    let mut low: u8 = 255;
+    for i in 0..ws.len() {
+        low = low.min(unpack(ws[i]).a);
     }
     low
-}
-
-fn lower(low: u8, p: Pixel) -> u8
-    ensures { result ≡ min low p.a }
-{
-    if low < p.a { low } else { p.a }
 }
 
 fn premultiply_words(ws: &mut [u32])
     requires { length ws.old ≤ 1024 }
     ensures { Words (λ i. premultiplied (unpacked (slice_index ws.old i))) (length ws.old) ws.new }
 {
-    let mut i = 0;
-    while i < ws.len() {
+    for i in 0..ws.len() {
         ws[i] = premultiplied_word(ws[i]);
-        i += 1;
     }
 }
 
@@ -389,9 +354,7 @@ pub fn put_words(ws: &[u32], row: &mut [u8])
     requires { (length ws.now ≤ 1024) × (length row.old ≡ length ws.now * 4) }
     ensures { row.new ≡ run (length ws.now) (λ i. unpacked (slice_index ws.now i)) }
 {
-    let mut i = 0;
-    while i < ws.len() {
+    for i in 0..ws.len() {
         raster::put_pixel(row, i, unpack(ws[i]));
-        i += 1;
     }
 }

@@ -14,7 +14,7 @@ inside : (c : lts.In-loop tie.the-claims reads.Pre reads.Post goal.the-invariant
     → let n = length c.args.ks.now in (c.loop-i.i < n) × (n ≤ 256) × (length c.loop-i.ks ≡ n)
 inside c =
     let l = c.loop-i.invariant in
-    (omega (arith, c.loop-i-test.true, l.2.long), c.requires.1.few, l.2.long)
+    (omega (arith, c.loop-i-test.true, l.1.long), c.requires.1.few, l.1.long)
 
 pub find-s-requires : goal.find-s-requires
 find-s-requires c =
@@ -22,7 +22,7 @@ find-s-requires c =
 
 pub loop-i-init : goal.loop-i-init
 loop-i-init c =
-    (omega arith, c.find-s.ensures.0, begun_none _ _)
+    (c.find-s.ensures.0, begun_none _ _)
 
 pub offset_bounds-ks-i : goal.offset_bounds-ks-i
 offset_bounds-ks-i c =
@@ -35,16 +35,12 @@ bounds-ks-i c =
 pub serving-s-requires : goal.serving-s-requires
 serving-s-requires c =
     let l = c.loop-i in
-    let k = l.invariant.2.rest l.i (omega arith) in
-    (c.requires.0, l.invariant.1, omega (arith, k, c.requires.1.below l.i (inside c.before.before).0))
+    let k = l.invariant.1.rest l.i (omega arith) in
+    (c.requires.0, l.invariant.0, omega (arith, k, c.requires.1.below l.i (inside c.before.before).0))
 
 pub color_in-requires : goal.color_in-requires
 color_in-requires c =
     let s = c.serving-s.ensures in (s.0.sound, s.1, s.2)
-
-pub word-requires : goal.word-requires
-word-requires c =
-    tt
 
 pub offset_bounds-ks-i-in-loop-i : goal.offset_bounds-ks-i-in-loop-i
 offset_bounds-ks-i-in-loop-i c =
@@ -54,33 +50,24 @@ pub bounds-ks-i-in-loop-i : goal.bounds-ks-i-in-loop-i
 bounds-ks-i-in-loop-i c =
     let h = inside c.before.before.before.before.before in omega (arith, h.0, h.2)
 
-pub overflow_add-i : goal.overflow_add-i
-overflow_add-i c =
-    let h = inside c.before.before.before.before.before in record { fits = omega (arith, h.0, h.1) }
-
-pub loop-i-smaller : goal.loop-i-smaller
-loop-i-smaller c =
-    let h = inside c.before.before.before.before.before in omega (arith, h.0)
-
 pub loop-i-preserved : goal.loop-i-preserved
 loop-i-preserved c =
     let l = c.loop-i in
     let a = c.args in
     let s = c.serving-s.ensures in
     let h = inside c.before.before.before.before.before in (
-      omega (arith, h.0),
       s.0,
-      begun_turn l.invariant.2 c.word.result
+      begun_turn l.invariant.1 c.word.result
           (c.word.ensures ∙ c.color_in.ensures ∙ s.0.color _ s.1 s.2
-          ∙ ap (λ (k : ℕ). ramp_at (stops_in a.ramp.now a.count) (t_at k)) (l.invariant.2.rest l.i (omega arith)))
+          ∙ ap (λ (k : ℕ). ramp_at (stops_in a.ramp.now a.count) (t_at k)) (l.invariant.1.rest l.i (omega arith)))
           h.0,
     )
 
 pub shape_of-ks : goal.shape_of-ks
 shape_of-ks c =
-    c.loop-i.invariant.2.long
+    c.loop-i.invariant.1.long
 
 pub returns : goal.returns
 returns c =
     let l = c.loop-i in
-    begun_all l.invariant.2 (omega (arith, c.loop-i-test.false, l.invariant.0, l.invariant.2.long))
+    begun_all l.invariant.1 (omega (arith, c.loop-i-test.false, l.invariant.1.long))

@@ -1,8 +1,7 @@
 -- `build::keep_stop` meets its contract.
 use Rattle.std.proofs.Common.{◌≡◌, ℕ, ◌-◌, false, List, [], ◌∷◌, map, refl, sym, ap, ◌∙◌, arith}
-use Rattle.fixed.specs.declared.Offset.{Offset}
-use Rattle.fixed.specs.declared.Offset.TheVariants.{At, Outside, NotANumber}
-use Rattle.fixed.proofs.Answers.{is_offset}
+use Rattle.std.specs.Prelude.{Result, Ok, Err, is_ok}
+use Rattle.fixed.specs.declared.OffsetError.{OffsetError}
 use Rattle.color.specs.declared.Pixel.{Pixel}
 use Rattle.paint.specs.Ramps.{kept_at, stop, prepared}
 use Rattle.paint.specs.Buffers.{stops_in, grown}
@@ -14,29 +13,28 @@ use Rattle.paint.proofs.build.keep_stop.Tie as tie
 use Rattle.paint.proofs.build.keep_stop.Lts as lts
 use Rattle.paint.proofs.build.keep_stop.Reads as reads
 
-no_offset : (o : Offset) → ((x : ℕ) → o ≡ At x → ⊥) → is_offset o ≡ false
-no_offset (At x) h = absurd (h x refl)
-no_offset Outside h = refl
-no_offset NotANumber h = refl
+no_offset : (o : Result ℕ OffsetError) → ((x : ℕ) → o ≡ Ok x → ⊥) → is_ok o ≡ false
+no_offset (Ok x) h = absurd (h x refl)
+no_offset (Err e) h = refl
 
 -- the stop that is kept
 abbrev kept : lts.After-color_at tie.the-claims reads.Pre reads.Post tie.handed_clauses → Stop
-kept c = stop c.in-At.x c.color_at-c.result
+kept c = stop c.in-Ok.x c.color_at-c.result
 
 kept_is : (c : lts.After-color_at tie.the-claims reads.Pre reads.Post tie.handed_clauses)
     → let a = c.args in map (prepared a.premultiply) (kept_at a.stops.now a.i) ≡ kept c ∷ []
 kept_is c =
     let a = c.args in
-    let r = c.offset_at-o in
-    ap (map (prepared a.premultiply)) (kept_one a.stops.now a.i c.in-At.x r.result r.ensures c.in-At.is)
-    ∙ ap (λ (q : Pixel). stop c.in-At.x q ∷ []) (sym c.color_at-c.ensures)
+    let r = c.offset_at in
+    ap (map (prepared a.premultiply)) (kept_one a.stops.now a.i c.in-Ok.x r.result r.ensures c.in-Ok.is)
+    ∙ ap (λ (q : Pixel). stop c.in-Ok.x q ∷ []) (sym c.color_at-c.ensures)
 
 pub returns-in_default : goal.returns-in_default
 returns-in_default c =
     let a = c.args in
-    let r = c.offset_at-o in
+    let r = c.offset_at in
     let before = stops_in a.ramp.now a.count in
-    let none = kept_none a.stops.now a.i r.result r.ensures (no_offset r.result c.in_default.not-At) in
+    let none = kept_none a.stops.now a.i r.result r.ensures (no_offset r.result c.in_default.not-Ok) in
     record {
       written = so_written (none_written a.ramp.now a.count) (sym (ap (λ (l : List Stop). grown before (map (prepared a.premultiply) l)) none));
       lower_bound = (omega arith, omega arith);

@@ -11,12 +11,12 @@ use Rattle.paint.proofs.build.keep_stops.Goals as goal
 
 pub loop-i-init : goal.loop-i-init
 loop-i-init c =
-    (omega arith, omega arith, refl, none_written c.args.ramp.now 0)
+    (omega arith, refl, none_written c.args.ramp.now 0)
 
 pub keep_stop-count-requires : goal.keep_stop-count-requires
 keep_stop-count-requires c =
     let l = c.loop-i in
-    record { i_bound = (omega arith, omega arith, l.invariant.1); ramp_numbers_in_bounds = omega (arith, l.invariant.2) }
+    record { i_bound = (omega arith, omega arith, l.invariant.0); ramp_numbers_in_bounds = omega (arith, l.invariant.1) }
 
 pub loop-i-preserved : goal.loop-i-preserved
 loop-i-preserved c =
@@ -24,19 +24,18 @@ loop-i-preserved c =
     let a = c.args in
     let k = c.keep_stop-count in
     let kept = upto l.i (kept_at a.stops.now) in
-    let more = ap (λ (r : List Stop). grown r (map (prepared a.premultiply) (kept_at a.stops.now l.i))) l.invariant.3.stops
+    let more = ap (λ (r : List Stop). grown r (map (prepared a.premultiply) (kept_at a.stops.now l.i))) l.invariant.2.stops
     ∙ kept_turn a.premultiply a.stops.now l.i kept
     ∙ ap (λ (r : List Stop). with_first (map (prepared a.premultiply) r)) (sym (upto_more l.i (kept_at a.stops.now))) in (
-      omega arith,
       omega (arith, k.ensures.lower_bound.1),
-      k.auto.ramp ∙ l.invariant.2,
-      then_written l.invariant.3 k.ensures.lower_bound.0 k.ensures.written
+      k.auto.ramp ∙ l.invariant.1,
+      then_written l.invariant.2 k.ensures.lower_bound.0 k.ensures.written
           more,
     )
 
 pub shape_of-ramp : goal.shape_of-ramp
 shape_of-ramp c =
-    c.loop-i.invariant.2
+    c.loop-i.invariant.1
 
 pub returns : goal.returns
 returns c =
@@ -44,6 +43,6 @@ returns c =
     let a = c.args in
     let e : l.i ≡ a.n = omega arith in
     record {
-      written = so_written l.invariant.3 (ap (λ (k : ℕ). with_first (map (prepared a.premultiply) (upto k (kept_at a.stops.now)))) e);
+      written = so_written l.invariant.2 (ap (λ (k : ℕ). with_first (map (prepared a.premultiply) (upto k (kept_at a.stops.now)))) e);
       upper_bound = omega arith;
     }

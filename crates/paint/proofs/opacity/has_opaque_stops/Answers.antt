@@ -7,7 +7,7 @@ use Rattle.paint.proofs.opacity.has_opaque_stops.Goals as goal
 
 pub loop-i-init : goal.loop-i-init
 loop-i-init c =
-    (omega arith, λ j h. absurd (omega arith))
+    λ j h. absurd (omega arith)
 
 pub returns-then-stop_color : goal.returns-then-stop_color
 returns-then-stop_color c e =
@@ -18,10 +18,10 @@ loop-i-preserved c =
     let l = c.loop-i in
     let ramp = c.args.ramp.now in
     let here = sym (ap (λ (p : Pixel). p.a) c.stop_color.ensures) ∙ c.if-stop_color.false in
-    (omega (arith, c.loop-i-test.true), below_more (λ j. (stop_at ramp j).color.a ≡ 255) l.i l.invariant.1 here)
+    below_more (λ j. (stop_at ramp j).color.a ≡ 255) l.i l.invariant here
 
 pub returns : goal.returns
 returns c =
     let l = c.loop-i in
-    let e : l.i ≡ c.args.count = omega (arith, c.loop-i-test.false, l.invariant.0) in
-    λ t. subst (OpaqueStops c.args.ramp.now) e l.invariant.1
+    let e : l.i ≡ c.args.count = omega (arith, c.loop-i-test.false) in
+    λ t. subst (OpaqueStops c.args.ramp.now) e l.invariant

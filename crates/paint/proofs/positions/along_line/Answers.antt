@@ -1,5 +1,5 @@
 -- `positions::along_line` meets its contract: the positions before i are stored, and t is the line's number at the pixel i.
-use Rattle.std.proofs.Common.{◌≡◌, ℕ, ◌+◌, ◌≤◌, length, ℤ, pos, ◌+ℤ◌, ◌*ℤ◌, sym, refl, ap, ◌∙◌, ap₂, arith, length-set, to_z-of_z, w64, to_z, of_z, rules}
+use Rattle.std.proofs.Common.{◌≡◌, ℕ, ◌+◌, ◌≤◌, length, ℤ, pos, ◌+ℤ◌, ◌*ℤ◌, sym, refl, ap, ◌∙◌, ap₂, arith, length-set, to_z-of_z, w64, to_z, of_z}
 use Rattle.lists.proofs.Laws.{tab_turn, tab_all}
 use Rattle.fixed.specs.Floor.{floor_div}
 use Rattle.fixed.proofs.Within.{Within}
@@ -12,7 +12,7 @@ use Rattle.paint.proofs.positions.along_line.Goals as goal
 
 -- t is the line's number
 t-is : (c : goal.In-loop-i) → to_z w64 c.loop-i.t-bits ≡ c.args.first +ℤ c.args.step *ℤ pos c.loop-i.i
-t-is c = rw (to_z-of_z c.ranges.first, to_z-of_z c.ranges.step) at c.loop-i.invariant.2
+t-is c = rw (to_z-of_z c.ranges.first, to_z-of_z c.ranges.step) at c.loop-i.invariant.1
 
 size : (c : goal.In-loop-i) (i : ℕ) → i ≤ length c.args.ks.now
     → Within 6917529027641081856 (c.args.first +ℤ c.args.step *ℤ pos i)
@@ -29,16 +29,16 @@ next c =
       read = to_z w64 c.loop-i.t-bits +ℤ to_z w64 (of_z w64 a.step);
       int = a.first +ℤ a.step *ℤ pos (i + 1);
       same = ap₂ ◌+ℤ◌ (t-is c.before) (to_z-of_z c.ranges.step) ∙ line_next a.first a.step i;
-      size = size c.before (i + 1) (omega (arith, c.loop-i-test.true, c.loop-i.invariant.1));
+      size = size c.before (i + 1) (omega (arith, c.loop-i-test.true, c.loop-i.invariant.0));
     }
 
 pub loop-i-init : goal.loop-i-init
 loop-i-init c =
-    let a = c.args in (omega arith, refl, line_first (to_z w64 (of_z w64 a.first)) (to_z w64 (of_z w64 a.step)), refl)
+    let a = c.args in (refl, line_first (to_z w64 (of_z w64 a.first)) (to_z w64 (of_z w64 a.step)), refl)
 
 pub position_in_parts-requires : goal.position_in_parts-requires
 position_in_parts-requires c =
-    rw (t-is c) (size c c.loop-i.i c.loop-i.invariant.0).size
+    rw (t-is c) (size c c.loop-i.i (omega arith)).size
 
 pub overflow_add-t : goal.overflow_add-t
 overflow_add-t c =
@@ -48,11 +48,10 @@ pub loop-i-preserved : goal.loop-i-preserved
 loop-i-preserved c =
     let a = c.args in
     let l = c.loop-i in (
-      search rules,
-      simp length-set (omega (arith, l.invariant.1)),
+      simp length-set (omega (arith, l.invariant.0)),
       (keep w64 (next c) tt).same ∙ sym (ap₂ (λ (x y : ℤ). x +ℤ y *ℤ pos (l.i + 1)) (to_z-of_z c.ranges.first) (to_z-of_z c.ranges.step)),
       tab_turn _ l.ks a.ks.now l.i c.position_in_parts.result
-          (c.position_in_parts.ensures ∙ ap (λ (t : ℤ). position_of (floor_div t line_parts)) l.invariant.2) l.invariant.3 (omega (arith, l.invariant.1)),
+          (c.position_in_parts.ensures ∙ ap (λ (t : ℤ). position_of (floor_div t line_parts)) l.invariant.1) l.invariant.2 (omega (arith, l.invariant.0)),
     )
 
 pub returns : goal.returns
@@ -60,4 +59,4 @@ returns c =
     let l = c.loop-i in
     let a = c.args in
     tab_all (place a.first a.step) l.ks a.ks.now l.i (length a.ks.now)
-    (rw (to_z-of_z c.ranges.first, to_z-of_z c.ranges.step) at l.invariant.3) (omega (arith, l.invariant.1)) refl
+    (rw (to_z-of_z c.ranges.first, to_z-of_z c.ranges.step) at l.invariant.2) (omega (arith, l.invariant.0)) refl

@@ -1,5 +1,5 @@
 -- `positions::along_line` meets its contract: the positions before i are stored, and t is the line's number at the pixel i.
-use Rattle.std.proofs.Common.{◌≡◌, ℕ, ◌-◌, ◌≤◌, length, ℤ, pos, ◌+ℤ◌, ◌*ℤ◌}
+use Rattle.std.proofs.Common.{◌≡◌, ℕ, length, ℤ, pos, ◌+ℤ◌, ◌*ℤ◌}
 use Rattle.lists.specs.Lists.{tab, over}
 use Rattle.fixed.specs.Floor.{floor_div}
 use Rattle.paint.specs.Buffers.{line_parts}
@@ -12,8 +12,5 @@ place first step i = position_of (floor_div (first +ℤ step *ℤ pos i) line_pa
 
 abbrev pub invariant-loop-i : goal.invariant-loop-i
 invariant-loop-i l =
-    (l.i ≤ length l.initial.ks) × (length l.ks ≡ length l.initial.ks) × (l.t ≡ l.first +ℤ l.step *ℤ pos l.i)
+    (length l.ks ≡ length l.initial.ks) × (l.t ≡ l.first +ℤ l.step *ℤ pos l.i)
     × (l.ks ≡ over (tab l.i (place (l.first) (l.step))) l.initial.ks)
-
-abbrev pub decreases-loop-i : goal.decreases-loop-i
-decreases-loop-i l = length l.initial.ks - l.i

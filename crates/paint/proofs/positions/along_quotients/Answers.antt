@@ -1,5 +1,5 @@
 -- `positions::along_quotients` meets its contract: the positions before i are stored, and q is t at the pixel i.
-use Rattle.std.proofs.Common.{◌≡◌, ◌+◌, length, ℤ, refl, ap, ◌∙◌, arith, length-set, to_z-of_z, w64, to_z, of_z, rules}
+use Rattle.std.proofs.Common.{◌≡◌, ◌+◌, length, ℤ, refl, ap, ◌∙◌, arith, length-set, to_z-of_z, w64, to_z, of_z}
 use Rattle.lists.proofs.Laws.{tab_turn, tab_all}
 use Rattle.fixed.proofs.Signed.{clean}
 use Rattle.paint.specs.Gradient.{squared_length, mapped}
@@ -18,7 +18,7 @@ moderate c =
     let l = c.loop-i in
     let a = c.args in
     let p = c.requires in
-    rw l.invariant.2 (at_moderate a.g.points p.limited_points.1 p.limited_points.0 (a.x + l.i) a.y (omega (arith, p.ks_bound.0, l.invariant.0)) p.ks_bound.1)
+    rw l.invariant.1 (at_moderate a.g.points p.limited_points.1 p.limited_points.0 (a.x + l.i) a.y (omega (arith, p.ks_bound.0)) p.ks_bound.1)
 
 placed : (c : goal.After-add_quotients-q)
     → let a = c.args in c.position.result ≡ place a.g a.x a.y c.loop-i.i
@@ -28,7 +28,7 @@ placed c =
     c.position.ensures
     ∙ ap (λ (z : ℤ). position_of (mapped a.g.spread z))
     (clean w64 1152921504606846976 l.q.whole tt (moderate c.before.before.before).whole
-    ∙ ap (λ (r : Quotient). r.whole) l.invariant.2
+    ∙ ap (λ (r : Quotient). r.whole) l.invariant.1
     ∙ whole_is_t a.g.points c.requires.limited_points.1 (a.x + l.i) a.y)
 
 -- what the local holds
@@ -39,11 +39,7 @@ length-is c = to_z-of_z c.ranges.d ∙ c.requires.first_value.2
 pub loop-i-init : goal.loop-i-init
 loop-i-init c =
     let e : c.args.x + 0 ≡ c.args.x = omega arith in
-    (omega arith, refl, rw e c.requires.first_value.0, refl)
-
-pub position-requires : goal.position-requires
-position-requires c =
-    tt
+    (refl, rw e c.requires.first_value.0, refl)
 
 pub add_quotients-q-requires : goal.add_quotients-q-requires
 add_quotients-q-requires c =
@@ -59,17 +55,16 @@ loop-i-preserved c =
     let a = c.args in
     let l = c.loop-i in
     let e : a.x + (l.i + 1) ≡ a.x + l.i + 1 = omega arith in (
-      search rules,
-      simp length-set (omega (arith, l.invariant.1)),
+      simp length-set (omega (arith, l.invariant.0)),
       c.add_quotients-q.ensures
-          ∙ rw (l.invariant.2, c.requires.first_value.1, length-is c.before.before.before.before.before.before, e)
+          ∙ rw (l.invariant.1, c.requires.first_value.1, length-is c.before.before.before.before.before.before, e)
           (next_pixel a.g.points c.requires.limited_points.1 (a.x + l.i) a.y),
-      tab_turn (place a.g a.x a.y) l.ks a.ks.now l.i c.position.result (placed c) l.invariant.3
-          (omega (arith, l.invariant.1)),
+      tab_turn (place a.g a.x a.y) l.ks a.ks.now l.i c.position.result (placed c) l.invariant.2
+          (omega (arith, l.invariant.0)),
     )
 
 pub returns : goal.returns
 returns c =
     let l = c.loop-i in
     let a = c.args in
-    tab_all (place a.g a.x a.y) l.ks a.ks.now l.i (length a.ks.now) l.invariant.3 (omega (arith, l.invariant.1)) refl
+    tab_all (place a.g a.x a.y) l.ks a.ks.now l.i (length a.ks.now) l.invariant.2 (omega (arith, l.invariant.0)) refl

@@ -1,5 +1,5 @@
 -- `positions::along_quotients` meets its contract: the positions before i are stored, and q is t at the pixel i.
-use Rattle.std.proofs.Common.{◌≡◌, ℕ, ◌+◌, ◌-◌, ◌≤◌, length}
+use Rattle.std.proofs.Common.{◌≡◌, ℕ, ◌+◌, length}
 use Rattle.lists.specs.Lists.{tab, over}
 use Rattle.paint.specs.Gradient.{linear_t, mapped}
 use Rattle.paint.specs.Buffers.{quotient_at}
@@ -13,8 +13,5 @@ place g x y i = position_of (mapped g.spread (linear_t g.points (x + i) y))
 
 abbrev pub invariant-loop-i : goal.invariant-loop-i
 invariant-loop-i l =
-    (l.i ≤ length l.initial.ks) × (length l.ks ≡ length l.initial.ks) × (l.q ≡ quotient_at l.g.points (l.x + l.i) l.y)
+    (length l.ks ≡ length l.initial.ks) × (l.q ≡ quotient_at l.g.points (l.x + l.i) l.y)
     × (l.ks ≡ over (tab l.i (place l.g l.x l.y)) l.initial.ks)
-
-abbrev pub decreases-loop-i : goal.decreases-loop-i
-decreases-loop-i l = length l.initial.ks - l.i

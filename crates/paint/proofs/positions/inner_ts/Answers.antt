@@ -1,6 +1,6 @@
 -- `positions::inner_ts` meets its contract: the first i t's are stored, and t is the line's number at the pixel i, on the ramp as both ends are.
 use Rattle.std.proofs.Common.{◌≡◌, ℕ, ◌+◌, ◌-◌, ◌≤◌, min, length, ℤ, pos, ◌+ℤ◌, ◌*ℤ◌, sym, refl, ap, ◌∙◌, ap₂, arith, length-set, to_z-of_z, w64, to_z}
-use Rattle.std.proofs.Common.{of_z, rules}
+use Rattle.std.proofs.Common.{of_z}
 use Rattle.lists.proofs.Laws.{tab_turn, tab_all}
 use Rattle.fixed.specs.Floor.{floor_div}
 use Rattle.fixed.proofs.Means.{Num, need, keep}
@@ -12,7 +12,7 @@ use Rattle.paint.proofs.positions.inner_ts.Goals as goal
 
 -- t is the line's number
 t-is : (c : goal.In-loop-i) → to_z w64 c.loop-i.t-bits ≡ c.args.first +ℤ c.args.step *ℤ pos c.loop-i.i
-t-is c = rw (to_z-of_z c.ranges.first, to_z-of_z c.ranges.step) at c.loop-i.invariant.3
+t-is c = rw (to_z-of_z c.ranges.first, to_z-of_z c.ranges.step) at c.loop-i.invariant.2
 
 -- the line lies on the ramp
 inner : (c : goal.In-loop-i) (i : ℕ) → i ≤ length c.args.left.now → Inner (c.args.first +ℤ c.args.step *ℤ pos i)
@@ -29,17 +29,17 @@ next c =
       read = to_z w64 c.loop-i.t-bits +ℤ to_z w64 (of_z w64 a.step);
       int = a.first +ℤ a.step *ℤ pos (i + 1);
       same = ap₂ ◌+ℤ◌ (t-is c.before) (to_z-of_z c.ranges.step) ∙ line_next a.first a.step i;
-      size = record { size = inner_size _ (inner c.before (i + 1) (omega (arith, c.loop-i-test.true, c.loop-i.invariant.1))) };
+      size = record { size = inner_size _ (inner c.before (i + 1) (omega (arith, c.loop-i-test.true, c.loop-i.invariant.0))) };
     }
 
 pub loop-i-init : goal.loop-i-init
 loop-i-init c =
     let a = c.args in
-    (omega arith, refl, refl, line_first (to_z w64 (of_z w64 a.first)) (to_z w64 (of_z w64 a.step)), refl, refl)
+    (refl, refl, line_first (to_z w64 (of_z w64 a.first)) (to_z w64 (of_z w64 a.step)), refl, refl)
 
 pub inner_t-u-requires : goal.inner_t-u-requires
 inner_t-u-requires c =
-    rw (t-is c) (inner c c.loop-i.i c.loop-i.invariant.0)
+    rw (t-is c) (inner c c.loop-i.i (omega arith))
 
 pub overflow_add-t : goal.overflow_add-t
 overflow_add-t c =
@@ -50,13 +50,12 @@ loop-i-preserved c =
     let a = c.args in
     let l = c.loop-i in
     let u = c.inner_t-u in
-    let e = u.ensures ∙ ap (λ (t : ℤ). min (position_of (floor_div t line_parts) - 1) 65535) l.invariant.3 in (
-      search rules,
+    let e = u.ensures ∙ ap (λ (t : ℤ). min (position_of (floor_div t line_parts) - 1) 65535) l.invariant.2 in (
+      simp length-set (omega (arith, l.invariant.0)),
       simp length-set (omega (arith, l.invariant.1)),
-      simp length-set (omega (arith, l.invariant.2)),
       (keep w64 (next c) tt).same ∙ sym (ap₂ (λ (x y : ℤ). x +ℤ y *ℤ pos (l.i + 1)) (to_z-of_z c.ranges.first) (to_z-of_z c.ranges.step)),
-      tab_turn _ l.left a.left.now l.i u.result e l.invariant.4 (omega (arith, l.invariant.1)),
-      tab_turn _ l.right a.right.now l.i u.result e l.invariant.5 (omega (arith, l.invariant.1, c.requires.2)),
+      tab_turn _ l.left a.left.now l.i u.result e l.invariant.3 (omega (arith, l.invariant.0)),
+      tab_turn _ l.right a.right.now l.i u.result e l.invariant.4 (omega (arith, l.invariant.0, c.requires.2)),
     )
 
 pub returns : goal.returns
@@ -64,10 +63,10 @@ returns c =
     let l = c.loop-i in
     let a = c.args in
     let n = length a.left.now in
-    let e : l.i ≡ n = omega (arith, c.loop-i-test.false, l.invariant.0, l.invariant.1) in
+    let e : l.i ≡ n = omega (arith, c.loop-i-test.false, l.invariant.0) in
     let same = to_z-of_z c.ranges.first in
     let left = tab_all (place a.first a.step) l.left a.left.now l.i n
-    (rw (same, to_z-of_z c.ranges.step) at l.invariant.4) e refl in
+    (rw (same, to_z-of_z c.ranges.step) at l.invariant.3) e refl in
     let right = tab_all (place a.first a.step) l.right a.right.now l.i n
-    (rw (same, to_z-of_z c.ranges.step) at l.invariant.5) e (sym c.requires.2) in
+    (rw (same, to_z-of_z c.ranges.step) at l.invariant.4) e (sym c.requires.2) in
     record { left_after = left; right_after = right ∙ sym left }

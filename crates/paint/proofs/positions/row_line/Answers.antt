@@ -1,9 +1,10 @@
 -- `positions::row_line` meets its contract.
-use Rattle.std.proofs.Common.{◌≡◌, T, sym, ◌∙◌, subst, ap₂, arith, w64, to_z, of_z}
+use Rattle.std.proofs.Common.{◌≡◌, ◌∙◌, ap₂, arith, w64, to_z, of_z}
 use Rattle.fixed.proofs.Signed.{back}
 use Rattle.paint.specs.Gradient.{squared_length}
 use Rattle.paint.specs.Buffers.{Lined, quotient_at, row_step, in_parts}
 use Rattle.paint.proofs.Along.{parts_small, at_proper, step_proper, line_same}
+use borrow.Author.Tests.{not-false}
 use Rattle.paint.proofs.positions.row_line.Goals as goal
 
 -- what the local holds
@@ -13,11 +14,11 @@ length-is c =
     back w64 d.result d.type_inv ∙ d.ensures
 
 -- ---- a line serves
-lined : (c : goal.Then-has_line)
+lined : (c : goal.Else-not-has_line)
     → let a = c.args in
     let p = a.g.points in Lined a.g.spread (quotient_at p a.x a.y) (row_step p) (squared_length p) a.n
 lined c =
-    rw (c.quotient_at-q.ensures, c.row_step-step.ensures, length-is c.before.before) at (c.has_line.ensures c.if-has_line.true)
+    rw (c.quotient_at-q.ensures, c.row_step-step.ensures, length-is c.before.before) at (c.has_line.ensures (not-false _ c.if-not-has_line.false-raw))
 
 first-is : (c : goal.After-in_parts)
     → let a = c.args in
@@ -25,20 +26,12 @@ first-is : (c : goal.After-in_parts)
 first-is c =
     back w64 c.in_parts.result c.in_parts.type_inv ∙ c.in_parts.ensures ∙ ap₂ in_parts c.quotient_at-q.ensures (length-is c.before.before.before)
 
-step_is : (c : goal.After-in_parts-then-has_line)
+step_is : (c : goal.After-in_parts-2)
     → let a = c.args in
-    to_z w64 (of_z w64 c.in_parts-then-has_line.result) ≡ in_parts (row_step a.g.points) (squared_length a.g.points)
+    to_z w64 (of_z w64 c.in_parts-2.result) ≡ in_parts (row_step a.g.points) (squared_length a.g.points)
 step_is c =
-    back w64 c.in_parts-then-has_line.result c.in_parts-then-has_line.type_inv ∙ c.in_parts-then-has_line.ensures
+    back w64 c.in_parts-2.result c.in_parts-2.type_inv ∙ c.in_parts-2.ensures
     ∙ ap₂ in_parts c.row_step-step.ensures (length-is c.before.before.before.before)
-
-pub no_line-requires : goal.no_line-requires
-no_line-requires c =
-    tt
-
-pub returns-then-n-lt-LINE_LEAST : goal.returns-then-n-lt-LINE_LEAST
-returns-then-n-lt-LINE_LEAST c e =
-    absurd (subst T (sym e ∙ c.no_line.ensures) tt)
 
 pub squared_length-d-requires : goal.squared_length-d-requires
 squared_length-d-requires c =
@@ -61,28 +54,19 @@ in_parts-requires c =
     let a = c.args in
     rw (c.quotient_at-q.ensures, length-is c.before.before) (at_proper a.g.points c.requires.limited_points.1 a.x a.y, (lined c).length, (lined c).whole)
 
-pub in_parts-requires-then-has_line : goal.in_parts-requires-then-has_line
-in_parts-requires-then-has_line c =
+pub in_parts-requires-2 : goal.in_parts-requires-2
+in_parts-requires-2 c =
     rw (c.row_step-step.ensures, length-is c.before.before.before)
     (step_proper c.args.g.points c.requires.limited_points.1, (lined c.before).length, omega (arith, (lined c.before).growth))
 
-pub returns-then-has_line : goal.returns-then-has_line
-returns-then-has_line c =
+pub returns : goal.returns
+returns c =
     let a = c.args in
     let p = a.g.points in
     let apart = c.requires.limited_points.1 in
     rw (first-is c.before, step_is c)
-    (λ e.
-    record {
+    (record {
       small = parts_small (quotient_at p a.x a.y) (squared_length p) (at_proper p apart a.x a.y) 131072 (lined c.before.before).whole;
       slow = parts_small (row_step p) (squared_length p) (step_proper p apart) 1024 (lined c.before.before).growth;
       same = λ i h. line_same p apart a.g.spread a.x a.y i (lined c.before.before).pads ((lined c.before.before).near i h);
     })
-
-pub no_line-requires-2 : goal.no_line-requires-2
-no_line-requires-2 c =
-    tt
-
-pub returns : goal.returns
-returns c e =
-    absurd (subst T (sym e ∙ c.no_line-2.ensures) tt)

@@ -1,5 +1,5 @@
 -- `radial_row::mapped_positions` meets its contract: each turn stores the position of its place.
-use Rattle.std.proofs.Common.{ℕ, ◌-◌, length, ℤ, nat_abs}
+use Rattle.std.proofs.Common.{ℕ, ℤ, nat_abs}
 use Rattle.paint.specs.Gradient.{mapped}
 use Rattle.paint.specs.Radial.{radial_d}
 use Rattle.paint.specs.Segments.{position_of}
@@ -16,6 +16,3 @@ size g = nat_abs (radial_d g.circle)
 
 abbrev pub invariant-loop-i : goal.invariant-loop-i
 invariant-loop-i l = Walked (position l.g) (size l.g) l.initial.p l.initial.ks l.i l.p l.ks
-
-abbrev pub decreases-loop-i : goal.decreases-loop-i
-decreases-loop-i l = length l.initial.ks - l.i

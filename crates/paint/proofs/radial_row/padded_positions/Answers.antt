@@ -115,14 +115,6 @@ pub next_place-p-requires : goal.next_place-p-requires
 next_place-p-requires c =
     (held c.before.before.before.before.before.before.before).moderate
 
-pub overflow_add-i : goal.overflow_add-i
-overflow_add-i c =
-    let h = inside c.before.before.before.before.before.before.before in record { fits = omega (arith, h.0, h.1) }
-
-pub loop-i-smaller : goal.loop-i-smaller
-loop-i-smaller c =
-    let h = inside c.before.before.before.before.before.before.before in omega (arith, h.0)
-
 pub loop-i-preserved : goal.loop-i-preserved
 loop-i-preserved c =
     walk_turns position_of c.args.d _ _ c.loop-i.i c.loop-i.p c.loop-i.ks c.loop-i.invariant c.padded_position.result

@@ -11,10 +11,10 @@ use Rattle.paint.proofs.row.blocks.Lts as lts
 use Rattle.paint.proofs.row.blocks.Reads as reads
 
 -- where the block ends
-ends : (c : lts.After-least tie.the-claims reads.Pre reads.Post goal.the-invariant-loop-i goal.the-decreases-loop-i tie.handed_clauses)
-    → (c.loop-i.i < c.least-e.result) × (c.least-e.result ≤ c.loop-i.i + 256) × (c.least-e.result ≤ c.args.n)
+ends : (c : lts.After-min tie.the-claims reads.Pre reads.Post goal.the-invariant-loop-i goal.the-decreases-loop-i tie.handed_clauses)
+    → (c.loop-i.i < c.min-e.result) × (c.min-e.result ≤ c.loop-i.i + 256) × (c.min-e.result ≤ c.args.n)
 ends c =
-    let e = c.least-e.ensures in
+    let e = c.min-e.ensures in
     let t = c.loop-i-test.true in
     let p = c.requires.held_gradient in
     (omega (arith, e, t, p.2), omega (arith, e, p.3), omega (arith, e))
@@ -30,10 +30,6 @@ loop-i-init c =
 pub overflow_add-i : goal.overflow_add-i
 overflow_add-i c =
     record { fits = omega (arith, c.loop-i-test.true, c.requires.n_bound.0, c.requires.held_gradient.3) }
-
-pub least-e-requires : goal.least-e-requires
-least-e-requires c =
-    tt
 
 pub overflow_sub-m : goal.overflow_sub-m
 overflow_sub-m c =
@@ -67,7 +63,7 @@ pub block-requires : goal.block-requires
 block-requires c =
     let h = ends c.before.before in
     let i = c.loop-i.i in
-    let e = c.least-e.result in
+    let e = c.min-e.result in
     let row = part_length c.loop-i.row (i * 4) (e * 4) (omega (arith, h.0)) (omega (arith, h.2, row-long c.before.before.before.before)) in
     record {
       held_gradient = (c.requires.held_gradient.0, c.requires.held_gradient.1);
@@ -89,7 +85,7 @@ loop-i-preserved c =
     let a = c.args in
     let h = ends c.before.before.before.before.before in
     let i = c.loop-i.i in
-    let e = c.least-e.result in
+    let e = c.min-e.result in
     let f : ℕ → Pixel = λ k. gradient_at a.g a.ramp.now (a.x + k) a.y in
     let painted : call.new.row ≡ run (e - i) (λ j. f (i + j)) =
     call.ensures

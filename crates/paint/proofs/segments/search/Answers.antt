@@ -56,12 +56,12 @@ loop-j-preserved c =
     let a = c.args in
     let l = c.loop-j in
     let e : l.j + 1 - 1 ≡ l.j = omega arith in
-    let g = c.greatest-low.ensures in (
+    let g = c.max-low.ensures in (
       omega arith,
       omega arith,
       omega (arith, g, c.if-t-x.false, l.invariant.2),
       rw e (omega (arith, g)),
-      passed_more a.ramp.now a.count c.requires.0 l.j l.low c.greatest-low.result l.invariant.4 (omega arith) (omega (arith, g))
+      passed_more a.ramp.now a.count c.requires.0 l.j l.low c.max-low.result l.invariant.4 (omega arith) (omega (arith, g))
           (omega (arith, g)),
     )
 

@@ -3,9 +3,5 @@ use Rattle.std.proofs.Common.{◌≡◌, ◌-◌, ◌≤◌}
 use Rattle.paint.specs.Ramps.{falls_in}
 use Rattle.paint.proofs.stops.falls.Given as goal
 
--- `stops::falls` meets its contract.
 abbrev pub invariant-loop-i : goal.invariant-loop-i
 invariant-loop-i l = (1 ≤ l.i) × (l.fell ≡ falls_in l.stops (l.i - 1)) × (l.i - 1 ≤ l.n - 1)
-
-abbrev pub decreases-loop-i : goal.decreases-loop-i
-decreases-loop-i l = l.n - l.i

@@ -3,10 +3,6 @@ use Rattle.std.proofs.Common.{◌-◌, ◌*◌, ◌∙◌}
 use Rattle.paint.proofs.Reals.{less_read}
 use Rattle.paint.proofs.stops.falls_at.Goals as goal
 
-pub less-requires : goal.less-requires
-less-requires c =
-    tt
-
 pub returns : goal.returns
 returns c =
     let a = c.args in

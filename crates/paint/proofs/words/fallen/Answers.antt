@@ -18,16 +18,12 @@ pub overflow_sub-result : goal.overflow_sub-result
 overflow_sub-result c =
     omega (arith, small c)
 
-pub one_less-requires : goal.one_less-requires
-one_less-requires c =
-    tt
-
 pub overflow_sub-result-2 : goal.overflow_sub-result-2
 overflow_sub-result-2 c =
-    omega (arith, small c.before, c.one_less.ensures)
+    omega (arith, small c.before, c.saturating_sub.ensures)
 
 pub returns : goal.returns
 returns c =
     let a = c.args in
-    ap (λ (r : ℕ). a.ci - (a.ci - a.cj) * a.t / 65536 - r / 32768) c.one_less.ensures
+    ap (λ (r : ℕ). a.ci - (a.ci - a.cj) * a.t / 65536 - r / 32768) c.saturating_sub.ensures
     ∙ falling_is a.ci a.cj a.t c.requires (omega arith)

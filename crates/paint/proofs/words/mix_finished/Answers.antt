@@ -9,17 +9,13 @@ unfolding finished
 returns-then-premultiply c =
     rw c.if-premultiply.true c.mix_colors.ensures
 
-pub lower-requires : goal.lower-requires
-lower-requires c =
-    tt
-
-pub returns-then-lower : goal.returns-then-lower
+pub returns-then-min : goal.returns-then-min
 unfolding finished
-returns-then-lower c =
+returns-then-min c =
     let mixed = c.mix_colors.ensures in
     let a = c.args in
     let alphas : (a.c.a < 256) × (a.d.a < 256) = (omega arith, omega arith) in
-    let opaque = sym c.lower.ensures ∙ c.if-lower.true in
+    let opaque = sym c.min.ensures ∙ c.if-min.true in
     rw c.if-premultiply.false
     (opaque_planes mixed
     (λ i h. mixed_opaque (get_or a.left.now i 0) a.c.a a.d.a (c.requires.0.below i h) alphas.0 alphas.1 opaque))

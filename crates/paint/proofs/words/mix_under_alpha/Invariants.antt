@@ -1,13 +1,9 @@
 -- `words::mix_under_alpha` meets its contract: the pairs before i are written.
-use Rattle.std.proofs.Common.{◌≡◌, ◌-◌, ◌≤◌, length, get_or}
+use Rattle.std.proofs.Common.{◌≡◌, length, get_or}
 use Rattle.lists.specs.Lists.{tab, over}
 use Rattle.paint.specs.Segments.{mix_pair}
 use Rattle.paint.proofs.words.mix_under_alpha.Given as goal
 
--- `words::mix_under_alpha` meets its contract: the pairs before i are written.
 abbrev pub invariant-loop-i : goal.invariant-loop-i
-invariant-loop-i l = (l.i ≤ length l.initial.ts) × (length l.ts ≡ length l.initial.ts)
+invariant-loop-i l = (length l.ts ≡ length l.initial.ts)
     × (l.ts ≡ over (tab l.i (λ k. mix_pair l.ci l.cj l.a l.a (get_or l.initial.ts k 0))) l.initial.ts)
-
-abbrev pub decreases-loop-i : goal.decreases-loop-i
-decreases-loop-i l = length l.initial.ts - l.i

@@ -1,12 +1,8 @@
 -- `words::put_planes` meets its contract: the pixels before i are stored.
-use Rattle.std.proofs.Common.{◌+◌, ◌-◌, ◌*◌, ◌≤◌, length, get_or}
+use Rattle.std.proofs.Common.{◌+◌, ◌*◌, get_or}
 use Rattle.raster.specs.Rows.{Stored}
 use Rattle.paint.specs.Buffers.{unpacked}
 use Rattle.paint.proofs.words.put_planes.Given as goal
 
--- `words::put_planes` meets its contract: the pixels before i are stored.
 abbrev pub invariant-loop-i : goal.invariant-loop-i
-invariant-loop-i l = (l.i ≤ length l.left) × Stored (λ j. unpacked (get_or l.left j 0 + get_or l.right j 0 * 65536)) l.initial.row l.i l.row
-
-abbrev pub decreases-loop-i : goal.decreases-loop-i
-decreases-loop-i l = length l.left - l.i
+invariant-loop-i l = Stored (λ j. unpacked (get_or l.left j 0 + get_or l.right j 0 * 65536)) l.initial.row l.i l.row
