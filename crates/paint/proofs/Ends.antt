@@ -16,7 +16,8 @@ use Rattle.paint.specs.declared.Stop.{Stop}
 pub kept_none : (stops : List ℕ) (i : ℕ) (r : Result ℕ OffsetError) → r ≡ offset_in (offset_at stops i) → is_ok r ≡ false → kept_at stops i ≡ []
 kept_none stops i r e h = rw (no_offset (offset_at stops i) (ap is_ok (sym e) ∙ h))
 
-pub kept_one : (stops : List ℕ) (i x : ℕ) (r : Result ℕ OffsetError) → r ≡ offset_in (offset_at stops i) → r ≡ Ok x → kept_at stops i ≡ stop x (color_at stops i) ∷ []
+pub kept_one : (stops : List ℕ) (i x : ℕ) (r : Result ℕ OffsetError) → r ≡ offset_in (offset_at stops i) → r ≡ Ok x
+    → kept_at stops i ≡ stop x (color_at stops i) ∷ []
 kept_one stops i x r e h =
     let t = offset_told (offset_at stops i) x (sym e ∙ h) in
     rw t.1 (ap (λ (y : ℕ). stop y (color_at stops i) ∷ []) (sym t.0))

@@ -1,8 +1,7 @@
 -- On and outside its circle a radial gradient's t is at least 65,536: Q - (D - A)² is D times what the squared distance from the centre is above r². Which
 -- pixels of a row may lie inside, and the colour from 65,536 on where the spread pads.
-use Rattle.std.proofs.Common.{◌≡◌, ℕ, suc, ◌+◌, ◌-◌, ◌*◌, ◌/◌, ◌<◌, ◌≤◌, min, Bool, true, false, T, leb, List, ℤ, pos, negsuc, ◌+ℤ◌, ◌-ℤ◌, ◌*ℤ◌, nat_abs}
+use Rattle.std.proofs.Common.{◌≡◌, ℕ, suc, ◌+◌, ◌-◌, ◌*◌, ◌<◌, ◌≤◌, Bool, true, false, leb, List, ℤ, pos, negsuc, ◌+ℤ◌, ◌-ℤ◌, ◌*ℤ◌, nat_abs}
 use Rattle.std.proofs.Common.{◌≤ℤ◌, ◌<ℤ◌, sym, refl, ap, ◌∙◌, subst, ap₂, le_refl, mul-le-mul, arith, le→leb, leb-false, leb-true}
-use lib.Signed.{le_z}
 use Rattle.fixed.specs.Roots.{isqrt}
 use Rattle.fixed.proofs.Roots.{square_mono, largest, next_above}
 use Rattle.fixed.proofs.Sign.{is_positive, above_zero}
@@ -112,15 +111,6 @@ module _ (c : Circle) (near : LimitedCircle c) (allowed : focal_allowed c ≡ tr
 -- all columns are right too
 pub all_within : (c : Circle) (x y n : ℕ) → RampWithin c x y n (record { from = 0; to = n })
 all_within c x y n = record { order = omega arith; few = omega arith; before = λ i l. absurd (omega arith); behind = λ i l m. absurd (omega arith) }
-
--- ---- the pixels of a row that may lie inside
-pub first_zero : (z : ℤ) (n : ℕ) → le_z z (pos 0) ≡ true → 0 ≡ first_from z n
-first_zero (pos z) n e = omega (arith, leb-true z 0 e)
-first_zero (negsuc z) n e = refl
-
-pub first_some : (z : ℤ) (n : ℕ) → le_z z (pos 0) ≡ false → first_from z n ≡ min ((nat_abs z + 15) / 16) n
-first_some (pos z) n e = refl
-first_some (negsuc z) n e = absurd (subst T e tt)
 
 module _ (n : ℕ) where
   first_few : (z : ℤ) → first_from z n ≤ n

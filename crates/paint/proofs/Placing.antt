@@ -1,5 +1,6 @@
 -- Positions on a ramp: the colour at a position is the colour at t.
-use Rattle.std.proofs.Common.{◌≡◌, ℕ, zero, suc, ◌+◌, ◌-◌, ◌*◌, ◌/◌, ◌<◌, ◌≤◌, min, Bool, true, false, cond, ltb, List, [], ◌∷◌, ◌++◌, length, get_or, take, drop, ℤ}
+use Rattle.std.proofs.Common.{◌≡◌, ℕ, zero, suc, ◌+◌, ◌-◌, ◌*◌, ◌/◌, ◌<◌, ◌≤◌, min, Bool}
+use Rattle.std.proofs.Common.{true, false, cond, ltb, List, [], ◌∷◌, ◌++◌, length, get_or, take, drop, ℤ}
 use Rattle.std.proofs.Common.{pos, negsuc, ◌+ℤ◌, refl, ap, ◌∙◌, div-lt_iff_lt-mul, le-div_iff_mul-le, add-one, arith, take_at, ltb-false, ltb-true, le-ltb}
 use Rattle.std.proofs.Common.{lt-ltb}
 use Rattle.std.specs.Int.{int_max, int_min}

@@ -1,11 +1,9 @@
 -- Signed numbers of 64 bits of which a size is known: parameters, fields and calls' results.
-use Rattle.std.proofs.Common.{◌≡◌, ℕ, suc, ◌+◌, ◌/◌, ◌%◌, ◌^◌, ◌<◌, ◌≤◌, true, T, ltb, ℤ, pos, negsuc, ◌-ℤ◌, nat_abs, sym, ap, ◌∙◌, subst, arith, w64, to_z}
+use Rattle.std.proofs.Common.{◌≡◌, ℕ, suc, ◌/◌, ◌%◌, ◌^◌, ◌≤◌, T, ltb, ℤ, pos, negsuc, nat_abs, sym, ap, ◌∙◌, w64, to_z}
 use Rattle.std.proofs.Common.{of_z}
-use lib.Signed.{lt_z, lt_z_yes, quot_z, rem_z}
+use lib.Signed.{quot_z, rem_z}
 use Rattle.fixed.proofs.Means.{Num}
 use Rattle.fixed.proofs.Within.{Within, abs_neg}
-use Rattle.fixed.proofs.Poly as P
-use Rattle.fixed.proofs.Poly.{◌⊖◌}
 use Rattle.fixed.proofs.Signed.{clean}
 
 -- as a `Num` of the laws on signed numbers
@@ -18,17 +16,6 @@ still_sized n z t h = rw (clean w64 n z t h) h
 -- a test of two such numbers compares their bits
 pub same_bits : (n : ℕ) (a b : ℤ) → T (ltb n (2 ^ 63)) → nat_abs a ≤ n → nat_abs b ≤ n → of_z w64 a ≡ of_z w64 b → a ≡ b
 same_bits n a b t h k e = sym (clean w64 n a t h) ∙ ap (to_z w64) e ∙ clean w64 n b t k
-
--- what two tests of a limit tell
-pub below_size : (z n : ℤ) → lt_z (pos 0 -ℤ n) z ≡ true → lt_z z n ≡ true → nat_abs z < nat_abs n
-below_size z n e f =
-    by z n (P.from_lt (P.num 0 ⊖ P.var n) (P.var z) (lt_z_yes (subst T (sym e) tt))) (P.from_lt (P.var z) (P.var n) (lt_z_yes (subst T (sym f) tt)))
-  where
-    by : (z n : ℤ) → 0 + P.dn n + P.dn z < P.up z + (0 + P.up n) → P.up z + P.dn n < P.up n + P.dn z → nat_abs z < nat_abs n
-    by (pos a) (pos b) h k = omega arith
-    by (pos a) (negsuc b) h k = omega arith
-    by (negsuc a) (pos b) h k = omega arith
-    by (negsuc a) (negsuc b) h k = omega arith
 
 -- the size of a quotient and of a rest
 pub quotient_size : (m b : ℕ) (z : ℤ) → nat_abs z / m ≤ b → Within b (quot_z z (pos m))
