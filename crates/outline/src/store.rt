@@ -1,4 +1,4 @@
-// Edges in a lent run of numbers, four for each.
+// Edges in a lent run of numbers, four for each: C lends the scratch as such a run.
 ghost use Rattle.std.specs.Prelude.{◌≡◌, ◌&&◌, ◌+◌, ◌*◌, ◌≤◌, ◌<◌, length};
 ghost use Rattle.path.specs.Curves.{equal, edge_between, curve_edges};
 ghost use Rattle.path.specs.Stored.{put_edge, put_edges};
