@@ -5,7 +5,7 @@ ghost use Rattle.transform.specs.Transforms.{byte_in, transform_channel, transfo
 ghost use Rattle.transform.specs.Bytewise.{Narrow};
 ghost use Rattle.transform.specs.Reciprocals.{reciprocal_of, reciprocals};
 
-use crate::bytewise::{is_narrow, is_opaque, transform_channels, word};
+use crate::bytewise::{is_narrow, is_opaque, transform_channels};
 use crate::reciprocals::{reciprocal, unpremultiply};
 use crate::{FixedTransform, reciprocals};
 use color::Pixel;
@@ -61,7 +61,7 @@ fn transform_after(t: FixedTransform, table: &[u32], last: Pixel, q: Pixel, p: P
     requires { (table.now ≡ reciprocals) × (q ≡ transformed t last) }
     ensures { result ≡ transformed t p }
 {
-    if word(last) == word(p) {
+    if last == p {
         return q;
     }
     transform_by(t, reciprocal(table, p.a), p)
