@@ -5,10 +5,16 @@ use Prim.Native.Nat.{ℕ, zero, suc, ◌+◌, ◌*◌, ◌-◌, ◌≤◌}
 use native.Mathlib.Omega.{arith}
 use native.Mathlib.Nat.{add-suc, add-zero}
 use lib.IntN.{ℤ, pos}
-use lib.ListN.{length, take, drop, length-take, length-drop, take-append-drop}
+use lib.ListN.{length, replicate, take, drop, length-take, length-drop, take-append-drop}
 use lib.Seq.{get_or-drop}
+use Rattle.std.proofs.lemmas.List.{length-replicate, get_or-replicate}
+use Rattle.lists.specs.Lists.{tab}
 use Rattle.lists.proofs.Laws.{tab_length, tab_at, tab_ext}
 use Rattle.coverage.specs.Scanline.{laid, zeros}
+
+-- a list of one element throughout is a table of it
+pub filled : {A : Type 0} (n : ℕ) (a : A) → replicate n a ≡ tab n (λ j. a)
+filled n a = tab_ext a (replicate n a) n (λ j. a) (length-replicate n a) (λ k h. get_or-replicate n k a a h)
 
 zeros_drop : (k n : ℕ) → drop k (zeros n) ≡ zeros (n - k)
 zeros_drop k n =

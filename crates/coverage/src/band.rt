@@ -12,12 +12,10 @@ pub fn filter_edges(scratch: &[i32], n: usize, from: usize, end: usize, list: &m
     ensures band { Band scratch.now n from end (take result list.new) }
 {
     let mut k = 0;
-    let mut i = 0;
-    while i < n {
+    for i in 0..n {
         let at = i * 4;
         list[k] = i as u32;
         k += needed(scratch[at + 1], scratch[at + 3], from, end);
-        i += 1;
     }
     k
 }

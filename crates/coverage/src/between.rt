@@ -13,7 +13,6 @@ use crate::edges::passes;
 use crate::{Columns, Crossed, Line};
 use path::Edge;
 use path::edges::load;
-use rect::{least, most};
 
 // The runs of w pixels of a row, if two edges are listed for it, of which one goes up and one down past all of its sample rows. Returns how many there
 // are, or 0 where that is not so.
@@ -92,10 +91,10 @@ fn lesser(s: Crossed, t: Crossed) -> Columns
     ensures { result ≡ lesser_of s t }
 {
     Columns {
-        a: least(s.a, t.a),
-        b: least(s.b, t.b),
-        c: least(s.c, t.c),
-        d: least(s.d, t.d),
+        a: s.a.min(t.a),
+        b: s.b.min(t.b),
+        c: s.c.min(t.c),
+        d: s.d.min(t.d),
     }
 }
 
@@ -104,10 +103,10 @@ fn greater(s: Crossed, t: Crossed) -> Columns
     ensures { result ≡ greater_of s t }
 {
     Columns {
-        a: most(s.a, t.a),
-        b: most(s.b, t.b),
-        c: most(s.c, t.c),
-        d: most(s.d, t.d),
+        a: s.a.max(t.a),
+        b: s.b.max(t.b),
+        c: s.c.max(t.c),
+        d: s.d.max(t.d),
     }
 }
 
@@ -119,7 +118,7 @@ fn fill_between(runs: &mut [u16], w: usize, lo: Columns, hi: Columns) -> usize
 {
     let a = first_of(lo);
     let b = end_of(lo);
-    let e = most(b, first_of(hi));
+    let e = b.max(first_of(hi));
     let d = end_of(hi);
     let n = runs::push(runs, 0, 0, a, 0);
     let m = push_each(runs, n, a, b, lo, hi);
@@ -136,10 +135,8 @@ fn push_each(runs: &mut [u16], n: usize, p: usize, e: usize, lo: Columns, hi: Co
     ensures result_after { expand runs.new result ≡ tab e (level_at lo hi) }
 {
     let mut m = n;
-    let mut i = p;
-    while i < e {
+    for i in p..e {
         m = runs::push(runs, m, i, i + 1, level(lo, hi, i));
-        i += 1;
     }
     m
 }
@@ -148,14 +145,14 @@ fn push_each(runs: &mut [u16], n: usize, p: usize, e: usize, lo: Columns, hi: Co
 fn first_of(s: Columns) -> usize
     ensures { result ≡ first_of s }
 {
-    least(least(s.a, s.b), least(s.c, s.d)) / 4
+    s.a.min(s.b).min(s.c.min(s.d)) / 4
 }
 
 fn end_of(s: Columns) -> usize
     requires { (s.a ≤ 4096) × (s.b ≤ 4096) × (s.c ≤ 4096) × (s.d ≤ 4096) }
     ensures { result ≡ end_of s }
 {
-    (most(most(s.a, s.b), most(s.c, s.d)) + 3) / 4
+    (s.a.max(s.b).max(s.c.max(s.d)) + 3) / 4
 }
 
 // k of pixel p.
@@ -165,7 +162,7 @@ fn level(lo: Columns, hi: Columns, p: usize) -> u8
 {
     let h = all_reached(hi, p);
     let l = all_reached(lo, p);
-    if l < h { (h - l) as u8 } else { 0 }
+    h.saturating_sub(l) as u8
 }
 
 // How many samples of pixel p lie before the four columns.
@@ -184,5 +181,5 @@ fn samples_before(c: usize, p: usize) -> usize
     requires { p < 1024 }
     ensures { (result ≡ reached c p) × (result ≤ 4) }
 {
-    least(most(c, p * 4) - p * 4, 4)
+    c.saturating_sub(p * 4).min(4)
 }

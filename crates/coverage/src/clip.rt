@@ -14,16 +14,9 @@ pub fn scissor_box(scissors: &[u8], n: usize) -> Rect
     requires { (n ≤ 4) × (16 * n ≤ length scissors.now) }
     ensures { result ≡ scissor_box scissors.now n }
 {
-    let mut b = Rect {
-        x0: 0,
-        y0: 0,
-        x1: 0,
-        y1: 0,
-    };
-    let mut i = 0;
-    while i < n {
-        b = rect::join(b, scissor_rect(scissors, i));
-        i += 1;
+    let mut b = Rect::EMPTY;
+    for i in 0..n {
+        b = b.join(scissor_rect(scissors, i));
     }
     b
 }

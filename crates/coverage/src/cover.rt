@@ -17,9 +17,7 @@ ghost use Rattle.coverage.specs.Band.{Needed};
 use crate::between::runs_between;
 use crate::edges::add_listed;
 use crate::walk::take_runs;
-use crate::zero::zero_counts;
 use crate::{GROUP_NUMBERS, Line};
-use rect::least;
 
 // The runs of the pixels from (x, y) on, in one row, of the path whose edges stand in the scratch: as many pixels as there are marks. Only the listed edges
 // are looked at: the others miss the row. Returns how many runs there are.
@@ -63,7 +61,7 @@ fn summed_runs(
     let mut n = 0;
     let mut i = 0;
     while i < marks.len() {
-        let end = least(i + most, marks.len());
+        let end = (i + most).min(marks.len());
         n = window_runs(scratch, list, &mut marks[i..end], runs, line, n, i);
         i = end;
     }
@@ -89,7 +87,7 @@ fn window_runs(
         ++ tab (length marks.old) (λ i. coverage (edges_of scratch.old line.edges) line.nonzero (line.x + from + i) line.y) }
 {
     let mut groups = [0u16; GROUP_NUMBERS];
-    zero_counts(marks);
+    marks.fill(0);
     let edges = line.edges;
     let at = edges * 4;
     let end = at + marks.len() * 16;

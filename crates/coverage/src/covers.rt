@@ -16,11 +16,9 @@ pub fn covers(scratch: &[i32], n: usize, a: Rect) -> bool
     ensures { result ≡ true → Covered (edges_of scratch.now n) a }
 {
     let mut found = 0;
-    let mut i = 0;
-    while i < n {
+    for i in 0..n {
         let e = load(scratch, i);
         found += part_of(e.x0, e.y0, e.x1, e.y1, a);
-        i += 1;
     }
     found == 1
 }

@@ -13,7 +13,6 @@ use crate::marks::{mark, touch};
 use crate::{Columns, Start};
 use path::Edge;
 use path::edges::load;
-use rect::{least, most};
 
 // Whether an edge has no sample row of the pixel row y between its ends.
 fn misses(y0: i32, y1: i32, y: usize) -> bool
@@ -114,14 +113,14 @@ fn put_four(
 fn first_pixel(s: Start, u: Start, v: Start, t: Start) -> usize
     ensures { result ≡ min (min s.at u.at) (min v.at t.at) / 4 }
 {
-    least(least(s.at, u.at), least(v.at, t.at)) / 4
+    s.at.min(u.at).min(v.at.min(t.at)) / 4
 }
 
 // The last of them.
 fn last_pixel(s: Start, u: Start, v: Start, t: Start) -> usize
     ensures { result ≡ max (max s.at u.at) (max v.at t.at) / 4 }
 {
-    most(most(s.at, u.at), most(v.at, t.at)) / 4
+    s.at.max(u.at).max(v.at.max(t.at)) / 4
 }
 
 // Whether pixels from lo to hi lie in a window of w, and in one group.
@@ -237,8 +236,8 @@ fn put_columns(
     let second = Start { at: s.b, by: by };
     let third = Start { at: s.c, by: by };
     let last = Start { at: q, by: by };
-    let lo = least(p, q) / 4;
-    let hi = most(p, q) / 4;
+    let lo = p.min(q) / 4;
+    let hi = p.max(q) / 4;
     if is_near(lo, hi, cover.len()) {
         touch(groups, lo, hi);
         put_near(scratch, base, cover, first, second, third, last);
@@ -355,9 +354,7 @@ pub fn add_listed(
     ensures marked { Marked cover.new (sums_at c (length cover.old * 4) y (edges_of scratch.old n)) }
     ensures grouped { Grouped cover.new groups.new }
 {
-    let mut j = 0;
-    while j < list.len() {
+    for j in 0..list.len() {
         add_edge(scratch, n, list[j] as usize, c, y, cover, groups);
-        j += 1;
     }
 }

@@ -4,8 +4,6 @@
 ghost use Rattle.std.specs.Prelude.{◌≡◌, ◌<◌, ◌≤◌, length, set};
 ghost use Rattle.coverage.specs.Marks.{raised, touched, Grouped};
 
-use rect::most;
-
 // Marks pixel p, and notes it for its group.
 pub fn mark(marks: &mut [u8], groups: &mut [u16], p: usize)
     requires { (p < length marks.old) × Grouped marks.old groups.old }
@@ -30,6 +28,5 @@ fn raise(groups: &mut [u16], i: usize, n: usize)
     requires { (i < length groups.old) × (n ≤ 1024) }
     ensures { groups.new ≡ raised groups.old i n }
 {
-    let m = most(groups[i] as usize, n);
-    groups[i] = m as u16;
+    groups[i] = groups[i].max(n as u16);
 }

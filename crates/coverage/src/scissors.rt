@@ -6,7 +6,6 @@ ghost use Rattle.coverage.specs.Scissors.{scissored};
 ghost use Rattle.coverage.specs.Scanline.{span_of, run_of, in_span};
 
 use crate::Span;
-use crate::zero::zero_counts;
 
 // k of each pixel from (x, y) on, in one row, with scissoring on.
 pub fn scissor_row(scissors: &[u8], n: usize, x: usize, y: usize, cover: &mut [u8])
@@ -132,6 +131,6 @@ fn cut(part: &mut [u8], keep: bool)
     ensures { part.new ≡ tab (length part.old) (λ i. cond keep (get_or part.old i 0) 0) }
 {
     if !keep {
-        zero_counts(part);
+        part.fill(0);
     }
 }

@@ -7,7 +7,6 @@ ghost use Rattle.coverage.specs.Marks.{Grouped, Blank};
 
 use crate::Cell;
 use crate::samples::take_cell;
-use rect::least;
 
 // The runs of a window by the sums, which are set to 0, and the marks, after the n runs of the pixels before it. Returns how many runs there are then.
 pub fn take_runs(
@@ -55,7 +54,7 @@ fn next_mark(marks: &[u8], groups: &[u16], p: usize) -> usize
     if marks.len() <= p {
         return p;
     }
-    let last = least(groups[p / 64] as usize, marks.len());
+    let last = (groups[p / 64] as usize).min(marks.len());
     if p < last {
         return scan(marks, p, last);
     }
@@ -69,9 +68,9 @@ fn group_from(marks: &[u8], groups: &[u16], g: usize) -> usize
 {
     let mut h = g;
     while h * 64 < marks.len() {
-        let back = least(groups[16 + h] as usize, 64);
+        let back = (groups[16 + h] as usize).min(64);
         if back != 0 {
-            return least(h * 64 + (64 - back), marks.len());
+            return (h * 64 + (64 - back)).min(marks.len());
         }
         h += 1;
     }
@@ -83,12 +82,10 @@ fn scan(marks: &[u8], p: usize, end: usize) -> usize
     requires { (p ≤ end) × (end ≤ length marks.now) }
     ensures { Blank marks.now p result }
 {
-    let mut e = p;
-    while e < end {
+    for e in p..end {
         if marks[e] != 0 {
             return e;
         }
-        e += 1;
     }
     end
 }

@@ -7,7 +7,4 @@ use Rattle.coverage.proofs.band.filter_edges.Given as goal
 
 -- `coverage::band::filter_edges` meets its contract. Assumes nothing.
 abbrev pub invariant-loop-i : goal.invariant-loop-i
-invariant-loop-i l = (l.i ≤ l.n) × (l.k ≤ l.i) × (length l.list ≡ length l.initial.list) × (take l.k l.list ≡ listed l.scratch l.from l.end l.i)
-
-abbrev pub decreases-loop-i : goal.decreases-loop-i
-decreases-loop-i l = l.n - l.i
+invariant-loop-i l = (l.k ≤ l.i) × (length l.list ≡ length l.initial.list) × (take l.k l.list ≡ listed l.scratch l.from l.end l.i)

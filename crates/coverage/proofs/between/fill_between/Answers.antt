@@ -31,7 +31,7 @@ abbrev b : (c : goal.After-push-arg-1) → ℕ
 b c = c.end_of-b.result
 
 abbrev e : (c : goal.After-push-arg-1) → ℕ
-e c = c.most-e.result
+e c = c.max-e.result
 
 abbrev d : (c : goal.After-push-arg-1) → ℕ
 d c = c.end_of-d.result
@@ -45,7 +45,7 @@ order c =
     let is-a = c.first_of-a.ensures in
     let is_b = c.end_of-b.ensures in
     let is_f = c.first_of.ensures in
-    let is-e = c.most-e.ensures in
+    let is-e = c.max-e.ensures in
     let is-d = c.end_of-d.ensures in (
       omega (arith, is-a, is_b, first_within lo),
       omega (arith, is-e),
@@ -61,7 +61,7 @@ before c i g h =
 between : (c : goal.After-push-arg-1) → (i : ℕ) → (b c) ≤ i → i < (e c) → (level c) i ≡ 16
 between c i g h =
     let is_b = c.end_of-b.ensures in
-    let is-e = c.most-e.ensures ∙ ap₂ max is_b c.first_of.ensures in
+    let is-e = c.max-e.ensures ∙ ap₂ max is_b c.first_of.ensures in
     level_between c.args.lo c.args.hi c.args.w c.requires.0 i (subst (λ (m : ℕ). m ≤ i) is_b g)
     (subst (λ (m : ℕ). i < m) is-e h)
 

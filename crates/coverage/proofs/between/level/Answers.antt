@@ -3,12 +3,7 @@ use Rattle.coverage.specs.Between.{level_at}
 use borrow.Author.Rules.{rules}
 use Rattle.coverage.proofs.between.level.Goals as goal
 
-pub returns-then-l-h : goal.returns-then-l-h
+pub returns : goal.returns
 unfolding level_at
-returns-then-l-h c =
-    search rules
-
-pub returns-else-l-h : goal.returns-else-l-h
-unfolding level_at
-returns-else-l-h c =
+returns c =
     search rules

@@ -10,7 +10,4 @@ use Rattle.coverage.proofs.between.push_each.Given as goal
 -- `coverage::between::push_each` meets its contract. Assumes nothing.
 abbrev pub invariant-loop-i : goal.invariant-loop-i
 invariant-loop-i l =
-    (l.p ≤ l.i) × (l.i ≤ l.e) × (length l.runs ≡ length l.initial.runs) × Runs l.runs l.m l.i × (expand l.runs l.m ≡ tab l.i (level_at l.lo l.hi))
-
-abbrev pub decreases-loop-i : goal.decreases-loop-i
-decreases-loop-i l = l.e - l.i
+    (length l.runs ≡ length l.initial.runs) × Runs l.runs l.m l.i × (expand l.runs l.m ≡ tab l.i (level_at l.lo l.hi))

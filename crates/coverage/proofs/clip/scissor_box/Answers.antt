@@ -16,11 +16,11 @@ pub loop-i-preserved : goal.loop-i-preserved
 loop-i-preserved c =
     let l = c.loop-i in
     let s = c.args.scissors.now in
-    (search rules, c.join-b.ensures ∙ ap₂ join_of l.invariant.1 c.scissor_rect.ensures ∙ one_more s l.i)
+    c.join-b.ensures ∙ ap₂ join_of l.invariant c.scissor_rect.ensures ∙ one_more s l.i
 
 pub returns : goal.returns
 returns c =
     let l = c.loop-i in
     let a = c.args in
-    let all : l.i ≡ a.n = omega (arith, l.invariant.0, c.loop-i-test.false) in
-    l.invariant.1 ∙ ap (scissor_box a.scissors.now) all
+    let all : l.i ≡ a.n = omega arith in
+    l.invariant ∙ ap (scissor_box a.scissors.now) all

@@ -6,7 +6,4 @@ use Rattle.coverage.proofs.clip.scissor_box.Given as goal
 
 -- `coverage::clip::scissor_box` meets its contract. Assumes nothing.
 abbrev pub invariant-loop-i : goal.invariant-loop-i
-invariant-loop-i l = (l.i ≤ l.n) × (l.b ≡ scissor_box l.scissors l.i)
-
-abbrev pub decreases-loop-i : goal.decreases-loop-i
-decreases-loop-i l = l.n - l.i
+invariant-loop-i l = (l.b ≡ scissor_box l.scissors l.i)

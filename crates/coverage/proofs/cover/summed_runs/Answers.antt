@@ -20,15 +20,15 @@ use Rattle.coverage.proofs.cover.summed_runs.Lts as lts
 use Rattle.coverage.proofs.cover.summed_runs.Reads as reads
 
 -- as many pixels as are lent
-width : (c : lts.After-least tie.the-claims reads.Pre reads.Post goal.the-invariant-loop-i goal.the-decreases-loop-i tie.handed_clauses) → let l = c.loop-i in
-    (l.i ≤ c.least-end.result)
-    × (c.least-end.result ≤ length l.marks)
-    × (length (take (c.least-end.result - l.i) (drop l.i l.marks)) ≡ c.least-end.result - l.i)
+width : (c : lts.After-min tie.the-claims reads.Pre reads.Post goal.the-invariant-loop-i goal.the-decreases-loop-i tie.handed_clauses) → let l = c.loop-i in
+    (l.i ≤ c.min-end.result)
+    × (c.min-end.result ≤ length l.marks)
+    × (length (take (c.min-end.result - l.i) (drop l.i l.marks)) ≡ c.min-end.result - l.i)
 width c =
     let l = c.loop-i in
-    let e = c.least-end.result in
-    let a : l.i ≤ e = omega (arith, c.least-end.ensures, l.invariant.0, l.invariant.2) in
-    let b : e ≤ length l.marks = omega (arith, c.least-end.ensures) in
+    let e = c.min-end.result in
+    let a : l.i ≤ e = omega (arith, c.min-end.ensures, l.invariant.0, l.invariant.2) in
+    let b : e ≤ length l.marks = omega (arith, c.min-end.ensures) in
     (a, b, part_length l.marks l.i e a b)
 
 pub overflow_mul-most : goal.overflow_mul-most
@@ -53,7 +53,7 @@ window_runs-n-requires c =
       y_bound = (
         c.requires.y_bound.0,
         omega (arith, w.0, w.1, w.2, l.invariant.2, c.requires.y_bound.1),
-        omega (arith, w.2, c.least-end.ensures, ap length l.invariant.1, c.requires.outlined.0.few, c.requires.outlined.0.room),
+        omega (arith, w.2, c.min-end.ensures, ap length l.invariant.1, c.requires.outlined.0.few, c.requires.outlined.0.room),
       );
       runs = (l.invariant.4, omega (arith, w.0, w.1, w.2, l.invariant.2, l.invariant.3, c.requires.y_bound.2));
     }
@@ -62,7 +62,7 @@ pub loop-i-preserved : goal.loop-i-preserved
 loop-i-preserved c =
     let a = c.args in
     let l = c.loop-i in
-    let e = c.least-end.result in
+    let e = c.min-end.result in
     let w = width c.before.before.before.before.before.before.before.before.before.before in
     let g = c.window_runs-n in
     let f : List ℤ → List ℕ = λ s. tab (length (take (e - l.i) (drop l.i l.marks)))

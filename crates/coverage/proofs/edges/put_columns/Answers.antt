@@ -28,11 +28,11 @@ one c = straight_one c.args.s c.requires.cover_in_bounds.2 c.if-p-q.true
 
 -- ---- they lie in the window, and in one group
 near : (c : lts.Then2 tie.the-claims reads.Pre reads.Post tie.handed_clauses)
-    → let lo = c.least-lo.result / 4 in
-    let hi = c.most-hi.result / 4 in
+    → let lo = c.min-lo.result / 4 in
+    let hi = c.max-hi.result / 4 in
     (hi < length c.args.cover.now) × (lo / 64 ≡ hi / 64)
 near c =
-    near_both (c.least-lo.result / 4) (c.most-hi.result / 4)
+    near_both (c.min-lo.result / 4) (c.max-hi.result / 4)
     (length c.args.cover.now) (sym c.is_near.ensures ∙ c.if-is_near.true)
 
 pub put_four-requires : goal.put_four-requires
@@ -65,7 +65,7 @@ returns-then-p-q c =
 pub touch-requires : goal.touch-requires
 touch-requires c =
     let g = c.requires.cover_in_bounds.1 in
-    (omega (arith, c.most-hi.ensures, c.least-lo.ensures), omega (arith, (near c.before.before).0, g.wide), g.long)
+    (omega (arith, c.max-hi.ensures, c.min-lo.ensures), omega (arith, (near c.before.before).0, g.wide), g.long)
 
 pub put_near-requires : goal.put_near-requires
 put_near-requires c =
@@ -73,7 +73,7 @@ put_near-requires c =
       cover_in_bounds = rw (by_read c.before.before.before.before.before.before.before.before.before.before.before.before.before.before)
           (c.requires.cover_in_bounds.0, c.requires.fit_rows);
       at_in_bounds = rw (straight_ends c.args.s c.requires.cover_in_bounds.2).1
-          (omega (arith, (near c.before.before.before.before.before.before.before).0, c.most-hi.ensures));
+          (omega (arith, (near c.before.before.before.before.before.before.before).0, c.max-hi.ensures));
     }
 
 pub returns-then-is_near : goal.returns-then-is_near
@@ -86,9 +86,9 @@ returns-then-is_near c =
       scratch_after = rw (by_read
           c.before.before.before.before.before.before.before.before.before.before.before.before.before.before.before.before.before.before) at p.scratch_after;
       cover_after = p.cover_after;
-      grouped = four_grouped a.cover.now a.groups.now a.s.a a.s.b a.s.c a.s.d (c.least-lo.result / 4)
-          (c.most-hi.result / 4) (ap (λ (n : ℕ). n / 4) (c.least-lo.ensures ∙ sym ends.0))
-          (ap (λ (n : ℕ). n / 4) (c.most-hi.ensures ∙ sym ends.1)) p.cover_after c.touch.ensures both.0 both.1
+      grouped = four_grouped a.cover.now a.groups.now a.s.a a.s.b a.s.c a.s.d (c.min-lo.result / 4)
+          (c.max-hi.result / 4) (ap (λ (n : ℕ). n / 4) (c.min-lo.ensures ∙ sym ends.0))
+          (ap (λ (n : ℕ). n / 4) (c.max-hi.ensures ∙ sym ends.1)) p.cover_after c.touch.ensures both.0 both.1
           c.requires.cover_in_bounds.1;
     }
 

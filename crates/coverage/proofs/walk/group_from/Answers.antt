@@ -11,16 +11,16 @@ use Rattle.coverage.proofs.walk.group_from.Lts as lts
 use Rattle.coverage.proofs.walk.group_from.Reads as reads
 
 -- blank up to where the marks of group h begin
-begin : (c : lts.After-least tie.the-claims reads.Pre reads.Post goal.the-invariant-loop-h goal.the-decreases-loop-h)
+begin : (c : lts.After-min tie.the-claims reads.Pre reads.Post goal.the-invariant-loop-h goal.the-decreases-loop-h)
     → let a = c.args in
     let m = a.marks.now in
-    Blank m (min (a.g * 64) (length m)) (min (c.loop-h.h * 64 + (64 - c.least-back.result)) (length m))
+    Blank m (min (a.g * 64) (length m)) (min (c.loop-h.h * 64 + (64 - c.min-back.result)) (length m))
 begin c =
     let a = c.args in
     let m = a.marks.now in
     let l = c.loop-h in
-    blank_more m (min (a.g * 64) (length m)) (min (l.h * 64) (length m)) (min (l.h * 64 + (64 - c.least-back.result)) (length m)) l.invariant.1
-    (subst (λ (b : ℕ). Blank m (min (l.h * 64) (length m)) (min (l.h * 64 + (64 - b)) (length m))) (sym c.least-back.ensures)
+    blank_more m (min (a.g * 64) (length m)) (min (l.h * 64) (length m)) (min (l.h * 64 + (64 - c.min-back.result)) (length m)) l.invariant.1
+    (subst (λ (b : ℕ). Blank m (min (l.h * 64) (length m)) (min (l.h * 64 + (64 - b)) (length m))) (sym c.min-back.ensures)
     (blank_begin m a.groups.now l.h c.requires.1))
 
 pub loop-h-init : goal.loop-h-init
@@ -38,7 +38,7 @@ overflow_cast-groups c =
 
 pub overflow_sub-back : goal.overflow_sub-back
 overflow_sub-back c =
-    omega (arith, c.least-back.ensures)
+    omega (arith, c.min-back.ensures)
 
 pub overflow_add-h-then-back-ne0 : goal.overflow_add-h-then-back-ne0
 overflow_add-h-then-back-ne0 c =
@@ -48,7 +48,7 @@ pub returns-then-back-ne0 : goal.returns-then-back-ne0
 returns-then-back-ne0 c =
     let a = c.args in
     let m = a.marks.now in
-    subst (λ (r : ℕ). Blank m (min (a.g * 64) (length m)) r) (sym c.least.ensures) (begin c.before.before.before)
+    subst (λ (r : ℕ). Blank m (min (a.g * 64) (length m)) r) (sym c.min.ensures) (begin c.before.before.before)
 
 pub loop-h-smaller : goal.loop-h-smaller
 loop-h-smaller c =
@@ -59,7 +59,7 @@ loop-h-preserved c =
     let a = c.args in
     let m = a.marks.now in
     let l = c.loop-h in
-    let next : l.h * 64 + (64 - c.least-back.result) ≡ (l.h + 1) * 64 = omega (arith, c.if-back-ne0.false) in (
+    let next : l.h * 64 + (64 - c.min-back.result) ≡ (l.h + 1) * 64 = omega (arith, c.if-back-ne0.false) in (
       omega (arith, c.requires.1.wide, c.loop-h-test.true),
       subst (λ (e : ℕ). Blank m (min (a.g * 64) (length m)) (min e (length m))) next (begin c.before.before),
     )

@@ -19,7 +19,7 @@ overflow_cast-groups c =
 
 pub scan-requires : goal.scan-requires
 scan-requires c =
-    let l = c.least-last.ensures in (omega (arith, c.if-p-last.true), omega (arith, l))
+    let l = c.min-last.ensures in (omega (arith, c.if-p-last.true), omega (arith, l))
 
 pub returns-then-p-last : goal.returns-then-p-last
 returns-then-p-last c =
@@ -35,4 +35,4 @@ returns c =
     let m = a.marks.now in
     blank_more m a.p (min ((a.p / 64 + 1) * 64) (length m)) c.group_from.result
     (blank_past m a.groups.now a.p (omega (arith, c.if-marks-p.false)) c.requires.1
-    (omega (arith, c.least-last.ensures, c.if-p-last.false))) c.group_from.ensures
+    (omega (arith, c.min-last.ensures, c.if-p-last.false))) c.group_from.ensures

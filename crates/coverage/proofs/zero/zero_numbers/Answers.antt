@@ -1,21 +1,10 @@
 -- `coverage::zero::zero_numbers` meets its contract. Assumes nothing.
-use mathlib.Core.Path.{refl}
-use Prim.Native.Nat.{ℕ}
-use native.Mathlib.Omega.{arith}
-use lib.ListN.{length, length-set}
+use mathlib.Core.Path.{sym, ◌∙◌}
+use lib.ListN.{length}
 use lib.IntN.{pos}
-use Rattle.lists.proofs.Laws.{tab_turn, tab_all}
-use borrow.Author.Rules.{rules}
+use Rattle.coverage.proofs.Zeros.{filled}
 use Rattle.coverage.proofs.zero.zero_numbers.Goals as goal
-
-pub loop-i-preserved : goal.loop-i-preserved
-loop-i-preserved c = (
-  search rules,
-  simp length-set (omega arith),
-  tab_turn (λ (j : ℕ). pos 0) c.loop-i.s c.args.s.now c.loop-i.i _ refl c.loop-i.invariant.2 (omega arith),
-)
 
 pub returns : goal.returns
 returns c =
-    tab_all (λ (j : ℕ). pos 0) c.loop-i.s c.args.s.now c.loop-i.i (length c.args.s.now) c.loop-i.invariant.2
-    (omega arith) refl
+    c.fill.ensures.after (λ y e. e) ∙ filled (length c.args.s.now) (pos 0)
