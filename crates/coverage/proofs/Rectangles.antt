@@ -81,17 +81,3 @@ kept_is scissors n x y k t e = by t ∙ ap (λ (b : Bool). cond (true && not b) 
     by : (b : Bool) → cond b k 0 ≡ cond (true && not b) 0 k
     by true = refl
     by false = refl
-
--- the four tests of a column, one after the other
-module _ (a b c d : Bool) where
-  pub first_holds : a ≡ true → (a || b || c || d) ≡ true
-  first_holds p = rw p
-
-  pub second_holds : a ≡ false → b ≡ true → (a || b || c || d) ≡ true
-  second_holds p q = rw (p, q)
-
-  pub third_holds : a ≡ false → b ≡ false → c ≡ true → (a || b || c || d) ≡ true
-  third_holds p q r = rw (p, q, r)
-
-  pub last_tells : (t : Bool) → a ≡ false → b ≡ false → c ≡ false → d ≡ t → (a || b || c || d) ≡ t
-  last_tells t p q r s = rw (p, q, r, s)

@@ -64,6 +64,7 @@ fn cross(e: Edge, y: usize, c: usize, k: usize) -> Crossed
 }
 
 // The four columns with the way.
+#[tactic(auto, unfolding(crate::specs::Between::crossed_by))]
 fn crossed(way: usize, s: Columns) -> Crossed
     ensures { result ≡ crossed_by way s }
 {
@@ -80,13 +81,11 @@ fn crossed(way: usize, s: Columns) -> Crossed
 fn is_opposed(a: usize, b: usize) -> bool
     ensures { result ≡ true → Opposed a b }
 {
-    if a == 1 {
-        return b == 2;
-    }
-    if a == 2 { b == 1 } else { false }
+    (a == 1 && b == 2) || (a == 2 && b == 1)
 }
 
 // In each sample row, where the first of two edges begins.
+#[tactic(auto, unfolding(crate::specs::Between::lesser_of))]
 fn lesser(s: Crossed, t: Crossed) -> Columns
     ensures { result ≡ lesser_of s t }
 {
@@ -99,6 +98,7 @@ fn lesser(s: Crossed, t: Crossed) -> Columns
 }
 
 // And the last.
+#[tactic(auto, unfolding(crate::specs::Between::greater_of))]
 fn greater(s: Crossed, t: Crossed) -> Columns
     ensures { result ≡ greater_of s t }
 {
@@ -142,12 +142,14 @@ fn push_each(runs: &mut [u16], n: usize, p: usize, e: usize, lo: Columns, hi: Co
 }
 
 // The pixel in which the first of four columns lies, and the one behind the last of them.
+#[tactic(auto, unfolding(crate::specs::Between::first_of))]
 fn first_of(s: Columns) -> usize
     ensures { result ≡ first_of s }
 {
     s.a.min(s.b).min(s.c.min(s.d)) / 4
 }
 
+#[tactic(auto, unfolding(crate::specs::Between::end_of))]
 fn end_of(s: Columns) -> usize
     requires { (s.a ≤ 4096) × (s.b ≤ 4096) × (s.c ≤ 4096) × (s.d ≤ 4096) }
     ensures { result ≡ end_of s }
@@ -156,6 +158,7 @@ fn end_of(s: Columns) -> usize
 }
 
 // k of pixel p.
+#[tactic(auto, unfolding(crate::specs::Between::level_at))]
 fn level(lo: Columns, hi: Columns, p: usize) -> u8
     requires { p < 1024 }
     ensures { (result ≡ level_at lo hi p) × (result ≤ 16) }
@@ -166,6 +169,7 @@ fn level(lo: Columns, hi: Columns, p: usize) -> u8
 }
 
 // How many samples of pixel p lie before the four columns.
+#[tactic(auto, unfolding(crate::specs::Between::reached_all))]
 fn all_reached(s: Columns, p: usize) -> usize
     requires { p < 1024 }
     ensures { (result ≡ reached_all s p) × (result ≤ 16) }

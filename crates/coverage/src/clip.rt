@@ -44,9 +44,5 @@ fn scissor_rect(scissors: &[u8], i: usize) -> Rect
 fn pixel(z: i64) -> usize
     ensures { result ≡ within 1024 z }
 {
-    if z <= 0 {
-        return 0;
-    }
-    let size = z as usize;
-    if size < SIDE { size } else { SIDE }
+    z.clamp(0, SIDE as i64) as usize
 }

@@ -92,7 +92,7 @@ fn column_at(n: i64, d: i64, low: i64, high: i64, c: usize, k: usize) -> usize
 fn between(lo: i32, hi: i32, y: i32) -> bool
     ensures { result ≡ le_z lo y && lt_z y hi }
 {
-    if lo <= y { y < hi } else { false }
+    lo <= y && y < hi
 }
 
 // Where the edge's count begins among the k columns from c on, in the row y, and what it counts.

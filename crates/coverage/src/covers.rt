@@ -47,7 +47,7 @@ fn is_right(x0: i32, x1: i32, end: usize) -> bool
     ensures { result ≡ beyond x0 x1 (4 * end) }
 {
     let right = (256 * end) as i32;
-    if right <= x0 { right <= x1 } else { false }
+    right <= x0 && right <= x1
 }
 
 // Whether an edge goes along the left side, up or down.
@@ -74,5 +74,5 @@ fn is_across(low: i32, high: i32, from: usize, end: usize) -> bool
 {
     let first = (256 * from + 32) as i32;
     let last = (256 * end - 32) as i32;
-    if low <= first { last < high } else { false }
+    low <= first && last < high
 }

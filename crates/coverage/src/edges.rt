@@ -22,9 +22,10 @@ fn misses(y0: i32, y1: i32, y: usize) -> bool
     let first = (256 * y + 32) as i32;
     let last = (256 * y + 224) as i32;
     if y0 <= first {
-        return y1 <= first;
+        y1 <= first
+    } else {
+        last < y0 && last < y1
     }
-    if last < y0 { last < y1 } else { false }
 }
 
 // Whether an edge lies right of every sample before the column c.
@@ -33,7 +34,7 @@ fn is_beyond(x0: i32, x1: i32, c: usize) -> bool
     ensures { result ≡ beyond x0 x1 c }
 {
     let right = (64 * c) as i32;
-    if right <= x0 { right <= x1 } else { false }
+    right <= x0 && right <= x1
 }
 
 // Adds to a number.
@@ -127,7 +128,7 @@ fn last_pixel(s: Start, u: Start, v: Start, t: Start) -> usize
 fn is_near(lo: usize, hi: usize, w: usize) -> bool
     ensures { result ≡ ltb hi w && eqb (lo / 64) (hi / 64) }
 {
-    if hi < w { lo / 64 == hi / 64 } else { false }
+    hi < w && lo / 64 == hi / 64
 }
 
 // Adds what begins in the four sample rows, at columns of the window, and marks their pixels. Their group is told by the caller.
@@ -205,7 +206,7 @@ fn put_rows(
 pub fn passes(lo: i32, hi: i32, first: i32, last: i32) -> bool
     ensures { result ≡ le_z lo first && lt_z last hi }
 {
-    if lo <= first { last < hi } else { false }
+    lo <= first && last < hi
 }
 
 // Adds what an edge begins that goes past all four sample rows. Its columns between lie between the first and the last, so that these two tell the

@@ -15,6 +15,7 @@ pub fn mark(marks: &mut [u8], groups: &mut [u16], p: usize)
 }
 
 // Notes for their group that pixels from lo to hi may be marked.
+#[tactic(auto, unfolding(crate::specs::Marks::touched))]
 pub fn touch(groups: &mut [u16], lo: usize, hi: usize)
     requires { (lo ≤ hi) × (hi < 1024) × (length groups.old ≡ 32) }
     ensures { groups.new ≡ touched groups.old lo hi }

@@ -22,6 +22,7 @@ fn is_odd(w: i32) -> u32
 }
 
 // How many of four are not zero.
+#[tactic(auto, unfolding(crate::specs::Scanline::inside_of))]
 fn not_zeros(w: Windings) -> u32
     ensures { (result ≡ inside_of true w) × (result ≤ 4) }
 {
@@ -29,6 +30,7 @@ fn not_zeros(w: Windings) -> u32
 }
 
 // How many of four are odd.
+#[tactic(auto, unfolding(crate::specs::Scanline::inside_of))]
 fn odds(w: Windings) -> u32
     ensures { (result ≡ inside_of false w) × (result ≤ 4) }
 {

@@ -61,13 +61,7 @@ fn in_span(s: Span, x: usize) -> bool
     requires { x < 2 ^ 31 }
     ensures { result ≡ in_span s x }
 {
-    let start = s.start;
-    let end = s.end;
-    if start <= x as i64 {
-        (x as i64) < end
-    } else {
-        false
-    }
+    s.start <= x as i64 && (x as i64) < s.end
 }
 
 // Whether the column x is in one of the spans.
@@ -75,16 +69,7 @@ fn kept(a: Span, b: Span, c: Span, d: Span, x: usize) -> bool
     requires { x < 2 ^ 31 }
     ensures { result ≡ (in_span a x || in_span b x || in_span c x || in_span d x) }
 {
-    if in_span(a, x) {
-        return true;
-    }
-    if in_span(b, x) {
-        return true;
-    }
-    if in_span(c, x) {
-        return true;
-    }
-    in_span(d, x)
+    in_span(a, x) || in_span(b, x) || in_span(c, x) || in_span(d, x)
 }
 
 // A column right of x, at most end, before which all columns from x on are kept or none is.
@@ -119,11 +104,7 @@ fn nearer(column: i64, x: usize, end: usize) -> usize
     requires { (lt_z (pos x) column ≡ true) × (x < end) × (end < 2 ^ 31) }
     ensures { (x < result) × (result ≤ end) × (le_z (pos result) column ≡ true) }
 {
-    if column < end as i64 {
-        column as usize
-    } else {
-        end
-    }
+    column.min(end as i64) as usize
 }
 
 // A part of a row, kept as it is or made 0.

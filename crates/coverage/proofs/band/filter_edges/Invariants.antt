@@ -1,6 +1,6 @@
 -- `coverage::band::filter_edges` meets its contract. Assumes nothing.
 use mathlib.Core.Path.{◌≡◌}
-use Prim.Native.Nat.{◌-◌, ◌≤◌}
+use Prim.Native.Nat.{◌≤◌}
 use lib.ListN.{length, take}
 use Rattle.coverage.specs.Band.{listed}
 use Rattle.coverage.proofs.band.filter_edges.Given as goal

@@ -1,6 +1,5 @@
 -- `coverage::between::push_each` meets its contract. Assumes nothing.
 use mathlib.Core.Path.{◌≡◌}
-use Prim.Native.Nat.{◌-◌, ◌≤◌}
 use lib.ListN.{length}
 use Rattle.lists.specs.Lists.{tab}
 use Rattle.runs.specs.Runs.{expand, Runs}

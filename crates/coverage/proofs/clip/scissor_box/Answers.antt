@@ -6,7 +6,6 @@ use native.Mathlib.Omega.{arith}
 use native.Mathlib.Numerals.{add-one}
 use Rattle.rect.specs.Rects.{join_of}
 use Rattle.coverage.specs.Clips.{scissor_rect, scissor_box}
-use borrow.Author.Rules.{rules}
 use Rattle.coverage.proofs.clip.scissor_box.Goals as goal
 
 one_more : (s : List ℕ) (i : ℕ) → join_of (scissor_box s i) (scissor_rect s i) ≡ scissor_box s (i + 1)

@@ -1,6 +1,5 @@
 -- `coverage::clip::scissor_box` meets its contract. Assumes nothing.
 use mathlib.Core.Path.{◌≡◌}
-use Prim.Native.Nat.{◌-◌, ◌≤◌}
 use Rattle.coverage.specs.Clips.{scissor_box}
 use Rattle.coverage.proofs.clip.scissor_box.Given as goal
 

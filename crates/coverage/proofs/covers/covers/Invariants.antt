@@ -1,6 +1,6 @@
 -- `coverage::covers::covers` meets its contract: what is found is the sum over the edges before i. Assumes nothing.
 use mathlib.Core.Path.{◌≡◌}
-use Prim.Native.Nat.{◌-◌, ◌*◌, ◌≤◌}
+use Prim.Native.Nat.{◌*◌, ◌≤◌}
 use Rattle.lists.specs.Lists.{total}
 use Rattle.path.specs.Stored.{edge_at}
 use Rattle.coverage.specs.Covers.{part_of}

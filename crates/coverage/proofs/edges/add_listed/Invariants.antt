@@ -1,6 +1,6 @@
 -- `coverage::edges::add_listed` meets its contract. Assumes nothing.
 use mathlib.Core.Path.{◌≡◌}
-use Prim.Native.Nat.{◌*◌, ◌-◌, ◌≤◌}
+use Prim.Native.Nat.{◌*◌}
 use lib.ListN.{length}
 use Rattle.path.specs.Stored.{edges_of}
 use Rattle.coverage.specs.Scanline.{sums_at, with_sums, Marked}

@@ -1,6 +1,5 @@
 -- `coverage::marks::raise` meets its contract. Assumes nothing.
 use mathlib.Core.Path.{refl}
-use native.Mathlib.Omega.{arith}
 use Rattle.coverage.specs.Marks.{raised}
 use Rattle.coverage.proofs.marks.raise.Goals as goal
 

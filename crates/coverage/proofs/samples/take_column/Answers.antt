@@ -1,7 +1,7 @@
 -- `coverage::samples::take_column` meets its contract. Assumes nothing.
 use Prim.Native.Nat.{◌+◌}
 use mir.Syntax.{w32}
-use Rattle.fixed.proofs.Means.{Num, need, keep, add}
+use Rattle.fixed.proofs.Means.{Num, keep, add}
 use Rattle.coverage.specs.Scanline.{at, column_from}
 use Rattle.coverage.proofs.Begin.{sized}
 use Rattle.coverage.proofs.samples.take_column.Goals.{Start}
@@ -18,22 +18,6 @@ zc c = add (sized 4000000 c.args.z.c tt c.requires.2.c) (sized 1000000 (at c.arg
 
 abbrev zd : Start → Num
 zd c = add (sized 4000000 c.args.z.d tt c.requires.2.d) (sized 1000000 (at c.args.sums.now (c.args.i + 3)) tt c.requires.1.3)
-
-pub overflow_add-result : goal.overflow_add-result
-overflow_add-result c =
-    need (za (goal.at.overflow_add-result c).Start) tt
-
-pub overflow_add-result-3 : goal.overflow_add-result-3
-overflow_add-result-3 c =
-    need (zb (goal.at.overflow_add-result-3 c).Start) tt
-
-pub overflow_add-result-5 : goal.overflow_add-result-5
-overflow_add-result-5 c =
-    need (zc (goal.at.overflow_add-result-5 c).Start) tt
-
-pub overflow_add-result-7 : goal.overflow_add-result-7
-overflow_add-result-7 c =
-    need (zd (goal.at.overflow_add-result-7 c).Start) tt
 
 pub returns : goal.returns
 unfolding column_from

@@ -1,5 +1,4 @@
 -- `coverage::walk::scan` meets its contract. Assumes nothing.
-use Prim.Native.Nat.{◌-◌, ◌≤◌}
 use Rattle.coverage.specs.Marks.{Blank}
 use Rattle.coverage.proofs.walk.scan.Given as goal
 

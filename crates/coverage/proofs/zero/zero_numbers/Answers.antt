@@ -1,5 +1,5 @@
 -- `coverage::zero::zero_numbers` meets its contract. Assumes nothing.
-use mathlib.Core.Path.{sym, ◌∙◌}
+use mathlib.Core.Path.{◌∙◌}
 use lib.ListN.{length}
 use lib.IntN.{pos}
 use Rattle.coverage.proofs.Zeros.{filled}
