@@ -1,5 +1,6 @@
 -- A number as text.
-use Rattle.std.specs.Prelude.{ℕ, zero, suc, ◌+◌, ◌-◌, ◌/◌, ◌%◌, ◌^◌, ◌<◌, ◌≤◌, cond, List, [], ◌∷◌, ◌++◌, nat_lt}
+use Rattle.std.specs.Prelude.{◌≡◌, ℕ, zero, suc, ◌+◌, ◌-◌, ◌/◌, ◌%◌, ◌^◌, ◌<◌, ◌≤◌, cond, List, [], ◌∷◌, ◌++◌, nat_lt, false}
+use Rattle.std.specs.Fmt.{digits, padded_integral, format_spec}
 
 -- the ASCII code of a digit below 16: `0` to `9`, then `a` to `f`
 abbrev pub hex_digit_ascii : ℕ → ℕ
@@ -13,3 +14,11 @@ last_digits b (suc k) n = last_digits b k (n / b) ++ (hex_digit_ascii (n % b) �
 -- n takes k digits in base b, when padded to `width` digits
 abbrev pub IsDigitCount : ℕ → ℕ → ℕ → ℕ → Type 0
 IsDigitCount b width n k = (width ≤ k) × (n < b ^ k) × (width < k → b ^ (k - 1) ≤ n)
+
+-- the text is n in base b, of at least `width` digits
+abbrev pub IsNumberText : ℕ → ℕ → ℕ → List ℕ → Type 0
+IsNumberText b width n text = (k : ℕ) × IsDigitCount b width n k × (text ≡ last_digits b k n)
+
+-- what `{:04x}` writes
+abbrev pub code_text : ℕ → List ℕ
+code_text n = padded_integral (format_spec 32 0 4 4 (2 ^ 64 - 1)) false [] (digits 16 false n)

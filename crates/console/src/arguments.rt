@@ -1,5 +1,5 @@
 // The program's arguments, as the bytes that they are.
-ghost use Rattle.std.specs.Prelude.{◌≡◌, ◌≤◌, ◌↔◌, length, vec_len, IsTrue, IsSome, IfSome};
+ghost use Rattle.std.specs.Prelude.{◌≡◌, ◌≤◌, ◌↔◌, length, vec_len, IsTrue, IfOk};
 
 use crate::errors::{INVALID, NAME_TOO_LONG, NO_TEXT};
 use std::alloc::{AllocError, Global};
@@ -95,7 +95,9 @@ fn read_word(rt: &HostRuntime, i: usize) -> Result<Option<Word>, AllocError> {
 }
 
 // The bytes in a place of their own.
-pub fn copy(alloc: Global, bytes: &[u8]) -> Result<Vec<u8>, AllocError> {
+pub fn copy(alloc: Global, bytes: &[u8]) -> Result<Vec<u8>, AllocError>
+    ensures { IfOk result (λ copy. copy.items ≡ bytes.now) }
+{
     let mut copy = Vec::new(alloc);
     copy.extend_from_slice(bytes)?;
     Ok(copy)

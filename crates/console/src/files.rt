@@ -1,5 +1,5 @@
 // A file, named by an argument.
-ghost use Rattle.std.specs.Prelude.{◌≡◌, ◌≤◌, length, IfOk, IfSome, vec_len};
+ghost use Rattle.std.specs.Prelude.{◌≡◌, ◌+◌, ◌≤◌, length, IfOk, IfSome, vec_len};
 
 use crate::arguments::{Arguments, Word, argument, argument_count, buffer};
 use crate::errors::{INVALID, NAME_TOO_LONG, NO_TEXT, Stop, tell};
@@ -28,17 +28,19 @@ pub fn read(rt: &HostRuntime, arguments: &Arguments, i: usize) -> Result<Option<
     Ok(Some(file))
 }
 
-// Puts the file that argument i names behind the others, at most so many bytes of it.
+// Puts the file that argument i names behind the others, at most so many bytes of it, and returns how many.
 pub fn append(
     rt: &HostRuntime,
     arguments: &Arguments,
     i: usize,
     most: usize,
     files: &mut Vec<u8>,
-) -> Result<(), Stop> {
+) -> Result<usize, Stop>
+    ensures { IfOk result (λ n. vec_len files.new ≡ vec_len files.old + n) }
+{
     let source = Source::open(rt, arguments, i)?;
     match source.take(most as u64).read_to_end(files) {
-        Ok(_) => Ok(()),
+        Ok(read) => Ok(read),
         Err(error) => Err(failed(rt, arguments, i, error)),
     }
 }

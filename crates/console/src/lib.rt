@@ -20,13 +20,6 @@ pub struct Loaded {
     pub length: usize,
 }
 
-// A picture's width and height, or 0 and 0.
-#[derive(Clone, Copy)]
-pub struct Size {
-    pub width: usize,
-    pub height: usize,
-}
-
 // A line of output that is put together from left to right. What does not fit is left out.
 #[derive(Clone, Copy)]
 pub struct Line {
