@@ -6,102 +6,65 @@
 //     limit                 the file is too long, or the picture too large for two of it
 #![tactic(auto)]
 
-ghost use Rattle.std.specs.Prelude.{◌≤◌, length};
-
 use codes::ACCEPTED;
-use console::Line;
-use console::arguments::argument_count;
-use console::files::{FILE_BUFFER, load};
-use console::lines::print_limit;
-use console::sizes::{picture_size, surface_bytes};
-use console::usage::is_called;
+use console::arguments::Arguments;
+use console::errors::{Stop, finish};
+use console::files;
+use console::numbers::Code;
+use console::output::print;
+use console::sizes::Size;
+use console::usage::Manual;
 use difference::Comparison;
 use render::judge::SCRATCH_NUMBERS;
+use std::process::ExitCode;
 
-// Bytes for each of the two pictures: 1,024 by 768 pixels.
+// The most bytes of each of the two pictures: 1,024 by 768 pixels.
 const PICTURE_BYTES: usize = 3145728;
 
-fn main(rt: HostRuntime) {
-    if !is_called(
-        &rt,
-        argument_count(&rt) == 2,
-        b"usage: same FILE\n",
-        b"Draws a scene file with the quick and with the plain engine, and prints `same`, or X Y of the first pixel that differs.\n\
+const MANUAL: Manual = Manual {
+    usage: "usage: same FILE\n",
+    help: "Draws a scene file with the quick and with the plain engine, and prints `same`, or X Y of the first pixel that differs.\n\
         A scene that is refused prints `refused CODE DRAW`, a file that is too long or a picture that is too large `limit`.\n",
-    ) {
-        return;
+};
+
+fn main(rt: HostRuntime) -> ExitCode {
+    finish(&rt, run(&rt))
+}
+
+fn run(rt: &HostRuntime) -> Result<(), Stop> {
+    let arguments = Arguments::read(rt)?;
+    MANUAL.judge(&arguments, arguments.len() == 2)?;
+    let scene = files::read(rt, &arguments, 1)?.ok_or(Stop::TooLong)?;
+    draw_both(rt, &scene)
+}
+
+// Both surfaces get the size that the scene asks for. Where it asks for none there is no surface: the rules come before it, and refuse the scene.
+fn draw_both(rt: &HostRuntime, scene: &[u8]) -> Result<(), Stop> {
+    let n = Size::of_scene(scene).map_or(0, Size::bytes);
+    if PICTURE_BYTES < n {
+        return refuse_large(rt, scene);
     }
-    let mut file = [0u8; FILE_BUFFER];
-    lend_file(&rt, &mut file);
-}
-
-// A large array is made a slice in a function of its own, since the checker would write out an array that is lent directly.
-fn lend_file(rt: &HostRuntime, file: &mut [u8; FILE_BUFFER]) {
-    load_scene(rt, file);
-}
-
-fn load_scene(rt: &HostRuntime, file: &mut [u8]) {
-    let loaded = load(rt, 1, file);
-    if !loaded.readable {
-        return;
-    }
-    let n = loaded.length;
-    if n == file.len() {
-        print_limit(rt);
-    } else {
-        draw_scene(rt, &file[0..n]);
-    }
-}
-
-fn draw_scene(rt: &HostRuntime, scene: &[u8]) {
-    let mut first = [0u8; PICTURE_BYTES];
-    lend_first(rt, scene, &mut first);
-}
-
-fn lend_first(rt: &HostRuntime, scene: &[u8], first: &mut [u8; PICTURE_BYTES]) {
-    draw_second(rt, scene, first);
-}
-
-fn draw_second(rt: &HostRuntime, scene: &[u8], first: &mut [u8])
-    requires { 3145728 ≤ length first.old }
-{
-    let mut second = [0u8; PICTURE_BYTES];
-    lend_second(rt, scene, first, &mut second);
-}
-
-fn lend_second(rt: &HostRuntime, scene: &[u8], first: &mut [u8], second: &mut [u8; PICTURE_BYTES])
-    requires { 3145728 ≤ length first.old }
-{
-    size_surfaces(rt, scene, first, second);
-}
-
-// Both surfaces get the size that the scene asks for.
-fn size_surfaces(rt: &HostRuntime, scene: &[u8], first: &mut [u8], second: &mut [u8])
-    requires { (3145728 ≤ length first.old) × (3145728 ≤ length second.old) }
-{
-    let n = surface_bytes(picture_size(scene));
-    if n <= PICTURE_BYTES {
-        draw_quick(rt, scene, &mut first[0..n], &mut second[0..n]);
-    } else {
-        refuse_large(rt, scene);
-    }
+    let mut first = vec![in rt.alloc(); 0u8; n]?;
+    let mut second = vec![in rt.alloc(); 0u8; n]?;
+    draw_quick(rt, scene, &mut first, &mut second);
+    Ok(())
 }
 
 // A picture too large for two of it: the scene rules come first.
-fn refuse_large(rt: &HostRuntime, scene: &[u8]) {
+fn refuse_large(rt: &HostRuntime, scene: &[u8]) -> Result<(), Stop> {
     let fault = scene::verdict::verdict(scene, false);
     if fault.code == ACCEPTED {
-        print_limit(rt);
-    } else {
-        print_refusal(rt, fault.code, fault.draw as u64);
+        return Err(Stop::TooLong);
     }
+    print_refusal(rt, fault.code, fault.draw);
+    Ok(())
 }
 
 fn draw_quick(rt: &HostRuntime, scene: &[u8], first: &mut [u8], second: &mut [u8]) {
     let mut scratch = [0i32; SCRATCH_NUMBERS];
     let answer = render::draw_unmasked(scene, first, &mut scratch);
     if answer.code != ACCEPTED {
-        print_refusal(rt, answer.code, answer.draw as u64);
+        print_refusal(rt, answer.code, answer.draw as usize);
         return;
     }
     draw_plainly(rt, scene, first, second, answer.width, answer.height);
@@ -116,29 +79,19 @@ fn draw_plainly(
     height: u32,
 ) {
     let mut scratch = [0i32; SCRATCH_NUMBERS];
-    plain::draw_plain(scene, false, &scene[0..0], second, &mut scratch);
-    let c = difference::compare(width, height, first, second);
-    print_comparison(rt, c, width as u64);
+    plain::draw_plain(scene, false, b"", second, &mut scratch);
+    print_comparison(rt, difference::compare(width, height, first, second), width);
 }
 
-fn print_comparison(rt: &HostRuntime, c: Comparison, width: u64) {
-    let least = c.least as u64;
-    if c.equal == 1 {
-        Line::new().word(b"same").print(rt);
-        return;
-    }
-    if 0 < width {
-        Line::new()
-            .decimal(least % width)
-            .decimal(least / width)
-            .print(rt);
+fn print_comparison(rt: &HostRuntime, comparison: Comparison, width: u32) {
+    let least = comparison.least;
+    if comparison.equal == 1 {
+        print(rt, "same");
+    } else if 0 < width {
+        print(rt, format_args!("{} {}", least % width, least / width));
     }
 }
 
-fn print_refusal(rt: &HostRuntime, code: u32, draw: u64) {
-    Line::new()
-        .word(b"refused")
-        .hex(code as u64)
-        .decimal(draw)
-        .print(rt);
+fn print_refusal(rt: &HostRuntime, code: u32, draw: usize) {
+    print(rt, format_args!("refused {} {draw}", Code(code)));
 }
