@@ -52,12 +52,13 @@ fn draw_both(rt: &HostRuntime, scene: &[u8]) -> Result<(), Stop> {
 
 // A picture too large for two of it: the scene rules come first.
 fn refuse_large(rt: &HostRuntime, scene: &[u8]) -> Result<(), Stop> {
-    let fault = scene::verdict::verdict(scene, false);
-    if fault.code == ACCEPTED {
-        return Err(Stop::TooLong);
+    match scene::verdict::verdict(scene, false) {
+        Ok(()) => Err(Stop::TooLong),
+        Err(fault) => {
+            print_refusal(rt, fault.code.number(), fault.draw);
+            Ok(())
+        }
     }
-    print_refusal(rt, fault.code, fault.draw);
-    Ok(())
 }
 
 fn draw_quick(rt: &HostRuntime, scene: &[u8], first: &mut [u8], second: &mut [u8]) {
