@@ -150,7 +150,7 @@ module _ (d : List ℕ) where
 
   stops_kept : stop_rules d ≡ Ok tt → numbers d (first_stop_at d) (stop_floats * stop_count d) ≡ Ok tt
   unfolding stop_rules
-  stops_kept h = (both_accept (numbers d (first_stop_at d) (stop_floats * stop_count d)) (unused d (first_stop_at d + stop_bytes * stop_count d) segments_at) h).0
+  stops_kept h = (both_accept (numbers d (first_stop_at d) (stop_floats * stop_count d)) _ h).0
 
   listed : list_rules d ≡ Ok tt → Listed
   unfolding list_rules

@@ -7,8 +7,8 @@ ghost use Rattle.codes.specs.First.{first_among};
 ghost use Rattle.scene.specs.Layout.{draw_bytes};
 ghost use Rattle.scene.specs.Faults as Faults;
 
+use crate::FieldFault;
 use crate::blocks::still_same;
-use crate::{Fault, FieldFault};
 use codes::Code;
 use fixed::floats::{INFINITY, SIGN, power_pattern};
 use fixed::u32_at;
@@ -26,13 +26,6 @@ pub fn must(ok: bool, place: usize) -> Result<(), FieldFault>
             place: place as u16,
         })
     }
-}
-
-// A rule of the scene, and the fault where it is broken.
-pub fn demand(ok: bool, fault: Fault) -> Result<(), Fault>
-    ensures { result ≡ Faults.demand ok fault }
-{
-    if ok { Ok(()) } else { Err(fault) }
 }
 
 // Every byte from a place up to another is zero.

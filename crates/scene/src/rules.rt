@@ -7,8 +7,8 @@ ghost use Rattle.scene.specs.Fields.{blend_of, paint_type_of, spread_of, segment
 ghost use Rattle.scene.specs.Faults as Faults;
 ghost use Rattle.codes.specs.First.{first_of};
 ghost use Rattle.scene.specs.Rules.{is_gradient, is_paint, is_spread, flags_allowed, head_rules, stop_limit_of, count_rules, float_rules};
-ghost use Rattle.scene.specs.Rules.{radial_limit, focal_rule, circle_rules, stop_rules, list_rules, transform_rules, flat_rule, in_path, path_rules, rest_rules};
-ghost use Rattle.scene.specs.Rules.{draw_rules};
+ghost use Rattle.scene.specs.Rules.{radial_limit, focal_rule, circle_rules, stop_rules, list_rules, transform_rules, flat_rule};
+ghost use Rattle.scene.specs.Rules.{in_path, path_rules, rest_rules, draw_rules};
 
 use crate::FieldFault;
 use crate::faults::{limited, must, numbers, unused};

@@ -7,7 +7,6 @@ ghost use Rattle.scene.specs.Faults as Faults;
 ghost use Rattle.scene.specs.Rules.{in_header, in_draw, check_faults, draw_fault, scene_fault};
 
 use crate::blocks::{block_right, read_draw};
-use crate::faults::demand;
 use crate::header::{count, edition, header_rules};
 use crate::layout::{BLOCK_BYTES, DRAW_BLOCKS, DRAW_BYTES, NO_DRAW, PAYLOAD_BYTES};
 use crate::rules::draw_rules;
@@ -51,7 +50,7 @@ fn draw_faults(s: &[u8], n: usize, lent: bool) -> Result<(), Fault>
 
 // Draw i: its four checks, then its own rules, in the scene's edition.
 #[tactic(auto, using(crate::proofs::First::in_order), unfolding(crate::specs::Rules::draw_fault_from))]
-fn draw_fault(s: &[u8], i: usize, lent: bool) -> Result<(), Fault>
+pub fn draw_fault(s: &[u8], i: usize, lent: bool) -> Result<(), Fault>
     requires { (block_bytes * block_of (i + 1) ≤ length s.now) × (i < draw_limit) }
     ensures { result ≡ draw_fault lent s.now i }
 {
@@ -102,4 +101,11 @@ fn fault(code: Code, draw: usize, offset: usize) -> Fault
     ensures { result ≡ Faults.fault code draw offset }
 {
     Fault { code, draw, offset }
+}
+
+// A rule of the scene, and the fault where it is broken.
+fn demand(ok: bool, fault: Fault) -> Result<(), Fault>
+    ensures { result ≡ Faults.demand ok fault }
+{
+    if ok { Ok(()) } else { Err(fault) }
 }

@@ -13,7 +13,8 @@ pub check-requires : goal.check-requires
 check-requires c =
     let d = c.args.d.now in
     let long = part_length d segments_at segments_end (omega arith) (omega (arith, c.requires.d_len.0)) in
-    (rw c.fixed_matrix.ensures (matrix_limited (matrix_of d) c.requires.d_value), rw c.segments.ensures (omega (arith, long, c.segment_count-n.ensures.0, c.requires.d_len.1)))
+    let few = c.requires.d_len.1 in
+    (rw c.fixed_matrix.ensures (matrix_limited (matrix_of d) c.requires.d_value), rw c.segments.ensures (omega (arith, long, c.segment_count-n.ensures.0)))
 
 pub map_err-requires : goal.map_err-requires
 map_err-requires c =
@@ -62,7 +63,9 @@ returns-in_err-unused c =
     checked_of e d c.fixed_matrix.result c.segments.result.now c.coordinates.result.now c.segment_count-n.result c.check.result
     c.fixed_matrix.ensures c.segments.ensures c.coordinates.ensures c.segment_count-n.ensures.0 c.check.ensures in
     let kept = path_kept e d c.check.result walk c.map_err.result c.map_err.ensures.cases c.in_ok-used.used c.in_ok-used.was in
-    passes _ _ _ kept (stops c.from_residual-in_err-unused.result _ _ _ c.from_residual-in_err-unused.ensures.1 (c.in_err-unused.ensures ∙ ap (λ (n : ℕ). unused d (segments_at + n) segments_end) c.segment_count-n.ensures.0))
+    let left = c.from_residual-in_err-unused in
+    let n = ap (λ (n : ℕ). unused d (segments_at + n) segments_end) c.segment_count-n.ensures.0 in
+    passes _ _ _ kept (stops left.result _ _ _ left.ensures.1 (c.in_err-unused.ensures ∙ n))
 
 pub returns : goal.returns
 unfolding rest_rules
@@ -74,4 +77,6 @@ returns c =
     c.fixed_matrix.ensures c.segments.ensures c.coordinates.ensures c.segment_count-n.ensures.0 c.check.ensures in
     let kept = path_kept e d c.check.result walk c.map_err.result c.map_err.ensures.cases c.in_ok-used.used c.in_ok-used.was in
     let used = path_used e d c.check.result walk c.map_err.result c.map_err.ensures.cases c.in_ok-used.used c.in_ok-used.was in
-    passes _ _ _ kept (passes _ _ _ (c.in_ok-unused.ensures ∙ ap (λ (n : ℕ). unused d (segments_at + n) segments_end) c.segment_count-n.ensures.0) (c.unused-2.ensures ∙ ap₂ (λ (a b : ℕ). unused d (a + 2 * b) draw_bytes) c.coordinates_at.ensures.0 used))
+    let n = ap (λ (n : ℕ). unused d (segments_at + n) segments_end) c.segment_count-n.ensures.0 in
+    let past = ap₂ (λ (a b : ℕ). unused d (a + 2 * b) draw_bytes) c.coordinates_at.ensures.0 used in
+    passes _ _ _ kept (passes _ _ _ (c.in_ok-unused.ensures ∙ n) (c.unused-2.ensures ∙ past))

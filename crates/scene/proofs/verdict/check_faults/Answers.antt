@@ -12,4 +12,5 @@ returns-in_err-demand c =
     let l = c.loop-j in
     let a = c.args in
     returned c.from_residual.result _ c.from_residual.ensures.1
-    ∙ sym (refuse_turn (check_of a.s.now a.i) l.j draw_blocks _ c.loop-j-test.true l.invariant (rw (← c.block_right.ensures, ← c.fault-spoiled.ensures) (sym c.in_err-demand.ensures)))
+    ∙ sym (refuse_turn (check_of a.s.now a.i) l.j draw_blocks _ c.loop-j-test.true l.invariant
+    (rw (← c.block_right.ensures, ← c.fault-spoiled.ensures) (sym c.in_err-demand.ensures)))
