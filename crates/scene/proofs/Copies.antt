@@ -1,27 +1,12 @@
--- Bytes copied in order: one by one, and a part at a time.
+-- Bytes copied in order, a part at a time.
 use mathlib.Core.Path.{◌≡◌, sym, ap, ◌∙◌}
 use mathlib.Core.List.{List, ◌++◌, append_assoc}
-use Prim.Native.Nat.{ℕ, ◌+◌, ◌≤◌, ◌<◌}
-use native.Mathlib.Numerals.{add-one}
+use Prim.Native.Nat.{ℕ, ◌+◌, ◌≤◌}
 use native.Mathlib.Omega.{arith}
-use lib.ListN.{length, get_or, set, take, drop, length-append, length-take, length-drop}
-use lib.Seq.{length-take-le, take-suc, take_at, get_or-drop}
-use Rattle.lists.specs.Lists.{upto, over}
-use Rattle.lists.proofs.Laws.{over_put, over_all, upto_more}
-
--- the byte at i is copied, after those before it
-module _ (s d : List ℕ) (at : ℕ) where
-  taken : (i : ℕ) → at + i ≤ length s → length (take i (drop at s)) ≡ i
-  taken i h = length-take-le i (drop at s) (rw length-drop (omega arith))
-
-  pub copy_turn : (o : List ℕ) (i : ℕ) → at + i < length s → i < length d → o ≡ over (take i (drop at s)) d
-      → set o i (get_or s (at + i) 0) ≡ over (take (i + 1) (drop at s)) d
-  copy_turn o i h l e =
-      let b : i < length (drop at s) = rw length-drop (omega arith) in
-      rw (e, over_put (take i (drop at s)) d i (get_or s (at + i) 0) (taken i (omega arith)) l, add-one, take-suc (drop at s) i 0 b, get_or-drop)
-
-  pub copy_end : (o : List ℕ) (i : ℕ) → i ≡ length d → at + length d ≤ length s → o ≡ over (take i (drop at s)) d → o ≡ take (length d) (drop at s)
-  copy_end o i q h e = e ∙ rw q (over_all (take (length d) (drop at s)) d (taken (length d) h))
+use lib.ListN.{length, take, drop, length-append, length-take, length-drop}
+use lib.Seq.{length-take-le, take_at}
+use Rattle.lists.specs.Lists.{upto}
+use Rattle.lists.proofs.Laws.{upto_more}
 
 -- the part f j, of m bytes, is stored at i after the parts before it
 module _ {A : Type 0} (s q : List A) (i m w : ℕ) (fits : i + m ≤ length s) (wide : length q ≡ m) where

@@ -10,14 +10,10 @@ use lib.Dec.{eqb}
 use Rattle.std.specs.Prelude.{Result, Ok, Err, is_ok}
 use Rattle.std.specs.Result.{IsErrAnd, MatchResult}
 use Rattle.codes.specs.First.{first_of}
-use Rattle.codes.proofs.Judged.{accept_turn, refuse_turn}
+use Rattle.codes.proofs.Judged.{refuse_turn}
 use Rattle.scene.specs.Faults.{demand, must, unused}
 use Rattle.scene.specs.Rules.{told_by}
 use Rattle.scene.specs.declared.FieldFault.{FieldFault}
-
-pub is_fine : {E : Type 0} (r : Result Unit E) → is_ok r ≡ true → r ≡ Ok tt
-is_fine (Ok tt) h = refl
-is_fine (Err e) h = cc
 
 -- one more judgement
 more : {E : Type 0} (r : Result Unit E) (t : Bool) (e : E) → is_ok (first_of r (demand t e)) ≡ (is_ok r && t)
@@ -35,9 +31,6 @@ module _ (d : List ℕ) (from at : ℕ) (begun : from ≤ at) where
 
   next : at + 1 - from ≡ at - from + 1
   next = omega arith
-
-  pub unused_turn : unused d from at ≡ Ok tt → must (eqb (get_or d at 0) 0) at ≡ Ok tt → unused d from (at + 1) ≡ Ok tt
-  unused_turn h z = rw next (accept_turn clear (at - from) h (rw here z))
 
   pub zero_turn : is_ok (unused d from (at + 1)) ≡ (is_ok (unused d from at) && eqb (get_or d at 0) 0)
   zero_turn = rw (next, add-one, more (unused d from at) (eqb (get_or d (from + (at - from)) 0) 0) _, here)

@@ -13,14 +13,6 @@ use Rattle.lists.specs.Lists.{upto}
 use Rattle.scene.specs.Layout.{block_bytes, payload_bytes, draw_blocks}
 use Rattle.scene.specs.Blocks.{block_of, draw_of, same_to}
 
-pub not_second : (p : Bool) → p && false ≡ false
-not_second true = refl
-not_second false = refl
-
-pub and-true : (p : Bool) → p && true ≡ p
-and-true true = refl
-and-true false = refl
-
 pub same_more : (a b : List ℕ) (i : ℕ) → same_to a b (i + 1) ≡ (same_to a b i && eqb (get_or a i 0) (get_or b i 0))
 same_more a b i = rw add-one
 

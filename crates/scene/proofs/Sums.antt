@@ -3,7 +3,6 @@ use mathlib.Core.Path.{◌≡◌, refl, sym, ap, ap₂, ◌∙◌}
 use mathlib.Core.List.{List}
 use Prim.Native.Nat.{ℕ, zero, suc, ◌+◌, ◌*◌, ◌%◌}
 use native.Mathlib.Nat.{add-suc, add-zero, add_comm}
-use native.Mathlib.Numerals.{add-one}
 use native.Mathlib.Omega.{arith}
 use Rattle.lists.specs.Lists.{total}
 use Rattle.lists.proofs.Laws.{total_same}
@@ -11,9 +10,6 @@ use Rattle.fixed.specs.Little.{u16_at}
 use Rattle.scene.specs.Layout.{payload_words, check_modulus}
 use Rattle.scene.specs.Blocks.{checksum_of}
 use Rattle.scene.specs.Strips.{column_of}
-
-pub sum_turn : (start : ℕ) (f : ℕ → ℕ) (i a x : ℕ) → a ≡ start + total i f → x ≡ f i → a + x ≡ start + total (i + 1) f
-sum_turn start f i a x e q = rw (add-one, e, q) (omega arith)
 
 -- ---- sums of sums
 total_split : (a b : ℕ) (f : ℕ → ℕ) → total (a + b) f ≡ total a f + total b (λ l. f (a + l))

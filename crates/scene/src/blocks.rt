@@ -1,5 +1,5 @@
 // Blocks: their check, and the bytes of a draw.
-ghost use Rattle.std.specs.Prelude.{◌≡◌, ◌&&◌, ◌+◌, ◌*◌, ◌<◌, ◌≤◌, length, take, drop, eqb};
+ghost use Rattle.std.specs.Prelude.{◌≡◌, ◌&&◌, ◌+◌, ◌*◌, ◌<◌, ◌≤◌, length, eqb};
 ghost use Rattle.scene.specs.Layout.{block_bytes, payload_bytes, check_modulus, draw_blocks, draw_bytes};
 ghost use Rattle.scene.specs.Strips.{column_of};
 ghost use Rattle.scene.specs.Blocks.{checksum_of, block_right, block_of, draw_of, same_to, same_draw};
