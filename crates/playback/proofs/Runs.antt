@@ -11,7 +11,7 @@ use Rattle.lists.specs.Lists.{total}
 use Rattle.lists.proofs.Laws.{over_put, over_all}
 use Rattle.render.specs.declared.Answer.{Answer}
 use Rattle.playback.specs.Replay.{start_of, scene_at, numbers_of, numbers_all, codes_of}
-use Rattle.playback.specs.Carrying.{part_of}
+use Rattle.playback.specs.Carrying.{scene_of}
 
 total_mono : (f : ℕ → ℕ) (i n : ℕ) → i ≤ n → total i f ≤ total n f
 total_mono f i zero h =
@@ -31,10 +31,10 @@ pub scene_ends : (run lengths : List ℕ) (i at end : ℕ) → i < length length
 scene_ends run lengths i at end l e a b =
     omega (arith, start_more lengths i, total_mono (λ k. get_or lengths k 0) (i + 1) (length lengths) (omega arith))
 
-pub part_is_scene : (run lengths : List ℕ) (i at end : ℕ) → at ≡ start_of lengths i → end ≡ at + get_or lengths i 0
-    → part_of run at end ≡ scene_at run lengths i
-part_is_scene run lengths i at end a b =
-    let e : end - at ≡ get_or lengths i 0 = omega arith in
+pub part_is_scene : (run lengths : List ℕ) (i at : ℕ) → at ≡ start_of lengths i
+    → scene_of run (record { at = at; end = at + get_or lengths i 0 }) ≡ scene_at run lengths i
+part_is_scene run lengths i at a =
+    let e : at + get_or lengths i 0 - at ≡ get_or lengths i 0 = omega arith in
     rw (e, a)
 
 pub numbers_more : (xs : List Answer) (a : Answer) → numbers_all (xs ++ (a ∷ [])) ≡ numbers_all xs ++ numbers_of a
@@ -45,27 +45,9 @@ pub codes_more : (xs : List Answer) (a : Answer) → codes_of (xs ++ (a ∷ []))
 codes_more [] a = refl
 codes_more (x ∷ xs) a = ap (λ (l : List ℕ). x.code ∷ l) (codes_more xs a)
 
--- seven numbers stored in a place of seven
-pub seven_stored : (s : List ℕ) (a b c d e f g : ℕ) → length s ≡ 7
-    → set (set (set (set (set (set (set s 0 a) 1 b) 2 c) 3 d) 4 e) 5 f) 6 g ≡ a ∷ b ∷ c ∷ d ∷ e ∷ f ∷ g ∷ []
-seven_stored s a b c d e f g h =
-    ap (λ (t : List ℕ). set t 6 g)
-    (ap (λ (t : List ℕ). set t 5 f)
-    (ap (λ (t : List ℕ). set t 4 e)
-    (ap (λ (t : List ℕ). set t 3 d)
-    (ap (λ (t : List ℕ). set t 2 c)
-    (ap (λ (t : List ℕ). set t 1 b) (over_put [] s 0 a refl (omega arith))
-    ∙ over_put (a ∷ []) s 1 b refl (omega arith))
-    ∙ over_put (a ∷ b ∷ []) s 2 c refl (omega arith))
-    ∙ over_put (a ∷ b ∷ c ∷ []) s 3 d refl (omega arith))
-    ∙ over_put (a ∷ b ∷ c ∷ d ∷ []) s 4 e refl (omega arith))
-    ∙ over_put (a ∷ b ∷ c ∷ d ∷ e ∷ []) s 5 f refl (omega arith))
-    ∙ over_put (a ∷ b ∷ c ∷ d ∷ e ∷ f ∷ []) s 6 g refl (omega arith)
-    ∙ over_all (a ∷ b ∷ c ∷ d ∷ e ∷ f ∷ g ∷ []) s (sym h)
-
 -- a place of seven that was lent and comes back
-pub place_back : (s q : List ℕ) (place stop : ℕ) (a b : Answer) → stop ≡ place + 7 → q ≡ numbers_of a → a ≡ b
-    → take place s ++ (q ++ drop (stop - place) (drop place s)) ≡ take place s ++ (numbers_of b ++ drop 7 (drop place s))
-place_back s q place stop a b e g h =
+pub place_back : (s q : List ℕ) (place stop : ℕ) (a : Answer) → stop ≡ place + 7 → q ≡ numbers_of a
+    → take place s ++ (q ++ drop (stop - place) (drop place s)) ≡ take place s ++ (numbers_of a ++ drop 7 (drop place s))
+place_back s q place stop a e g =
     let k : stop - place ≡ 7 = omega arith in
-    rw (k, g, h)
+    rw (k, g)

@@ -8,6 +8,7 @@ use lib.Dec.{eqb}
 use lib.IntN.{ℤ}
 use lib.ListN.{length, get_or, take, drop, length-append}
 use borrow.Author.Tests.{eqb-true}
+use Rattle.std.specs.Prelude.{None, Some}
 use Rattle.lists.specs.Lists.{over}
 use Rattle.lists.proofs.Laws.{upto_more, over_part}
 use Rattle.render.specs.declared.Answer.{Answer}
@@ -16,24 +17,22 @@ use Rattle.render.proofs.Demands.{only_good_draws_accepted, only_good_redraws_ac
 use Rattle.context.specs.Context.{keep, first_code}
 use Rattle.context.proofs.Codes.{keep_none, first_of_both}
 use Rattle.playback.specs.declared.Carried.{Carried}
-use Rattle.playback.specs.declared.Place.{Place}
+use Rattle.playback.specs.declared.Part.{Part}
 use Rattle.playback.specs.Replay.{start_of, scene_at, first_scenes, Shown, nothing, scene, next_answer, next_surface, next_scratch}
 use Rattle.playback.specs.Replay.{State, answer_in, next, replayed, started, state_at, end_of, numbers_of, numbers_all, codes_of}
 use Rattle.playback.specs.Carrying.{scene_of, shown_of, carried_on, Fits, Lies}
 use Rattle.playback.proofs.Runs.{start_more, scene_ends, part_is_scene, numbers_more, codes_more}
 
 -- ---- what is carried on
-module _ (c : Carried) (p : Place) (code : ℕ) where
+module _ (c : Carried) (p : Part) (code : ℕ) where
   -- by the test of the code
   abbrev carried_by : Bool → Carried
-  carried_by t =
-      cond t (record { any = true; at = p.at; end = p.end; first = c.first })
-      (record { any = c.any; at = c.at; end = c.end; first = keep c.first code })
+  carried_by t = cond t (record { last = Some p; first = c.first }) (record { last = c.last; first = keep c.first code })
 
-  shown_next : (run : List ℕ) → shown_of run (carried_on c p code) ≡ cond (eqb code 0) (scene (scene_of run p)) (shown_of run c)
+  shown_next : (run : List ℕ) → shown_of run (carried_on c p code).last ≡ cond (eqb code 0) (scene (scene_of run p)) (shown_of run c.last)
   shown_next run = by (eqb code 0)
     where
-      by : (t : Bool) → shown_of run (carried_by t) ≡ cond t (scene (scene_of run p)) (shown_of run c)
+      by : (t : Bool) → shown_of run (carried_by t).last ≡ cond t (scene (scene_of run p)) (shown_of run c.last)
       by true = refl
       by false = refl
 
@@ -46,12 +45,13 @@ module _ (c : Carried) (p : Place) (code : ℕ) where
           rw z (sym (keep_none c.first))
       by false e = refl
 
-  fits_next : (m : Mask) (run : List ℕ) → Fits m run c → Lies run p → (code ≡ 0 → Accepted m (scene_of run p)) → Fits m run (carried_on c p code)
+  fits_next : (m : Mask) (run : List ℕ) → Fits m run c.last → Lies run p → (code ≡ 0 → Accepted m (scene_of run p))
+      → Fits m run (carried_on c p code).last
   fits_next m run f l good = by (eqb code 0) refl
     where
-      by : (t : Bool) → eqb code 0 ≡ t → Fits m run (carried_by t)
-      by true e = record { starts = l.starts; ends = l.ends; accepted = λ _. good (eqb-true code 0 e) }
-      by false e = record { starts = f.starts; ends = f.ends; accepted = f.accepted }
+      by : (t : Bool) → eqb code 0 ≡ t → Fits m run (carried_by t).last
+      by true e = (l, good (eqb-true code 0 e))
+      by false e = f
 
 -- a scene with the code 0 passed the scene rules
 next_accepted : (m : Mask) (h : Shown) (t p : List ℕ) (scratch : ℕ) → (next_answer m h t (length p) scratch).code ≡ 0 → Accepted m t
@@ -64,7 +64,7 @@ pub record Held (run out₀ : List ℕ) (st : State) (k : ℕ) (c : Carried) (p 
   pub working : l ≡ st.scratch
   pub out : o ≡ over (numbers_all st.answers) out₀
   pub wrote : length (numbers_all st.answers) ≡ k * 7
-  pub shown : shown_of run c ≡ st.last
+  pub shown : shown_of run c.last ≡ st.last
   pub code : c.first ≡ first_code (codes_of st.answers)
 
 four : {X : Type 0} (f : Shown → List ℕ → List ℕ → List ℤ → X) {s s' : Shown} {t t' p p' : List ℕ} {l l' : List ℤ}
@@ -72,20 +72,20 @@ four : {X : Type 0} (f : Shown → List ℕ → List ℕ → List ℤ → X) {s 
 four f a b c d = λ i. f (a i) (b i) (c i) (d i)
 
 -- what a turn leaves, from what is carried, surface, scratch and answers
-pub record Turned (m : Mask) (run : List ℕ) (c : Carried) (at : Place) (p : List ℕ) (l : List ℤ) (o : List ℕ)
+pub record Turned (m : Mask) (run : List ℕ) (c : Carried) (at : Part) (k : ℕ) (p : List ℕ) (l : List ℤ) (o : List ℕ)
     (c' : Carried) (p' : List ℕ) (l' : List ℤ) (o' : List ℕ) : Type 0 where
-  pub carried : c' ≡ carried_on c at (next_answer m (shown_of run c) (scene_of run at) (length p) (length l)).code
-  pub picture : p' ≡ next_surface m (shown_of run c) (scene_of run at) p (length l)
-  pub working : l' ≡ next_scratch m (shown_of run c) (scene_of run at) (length p) l
-  pub out : o' ≡ take at.answer o
-      ++ (numbers_of (next_answer m (shown_of run c) (scene_of run at) (length p) (length l)) ++ drop 7 (drop at.answer o))
+  pub carried : c' ≡ carried_on c at (next_answer m (shown_of run c.last) (scene_of run at) (length p) (length l)).code
+  pub picture : p' ≡ next_surface m (shown_of run c.last) (scene_of run at) p (length l)
+  pub working : l' ≡ next_scratch m (shown_of run c.last) (scene_of run at) (length p) l
+  pub out : o' ≡ take (k * 7) o
+      ++ (numbers_of (next_answer m (shown_of run c.last) (scene_of run at) (length p) (length l)) ++ drop 7 (drop (k * 7) o))
 
 module _ (m : Mask) (run out₀ : List ℕ) (st : State) (k : ℕ) (c : Carried) (p : List ℕ) (l : List ℤ) (o : List ℕ) (h : Held run out₀ st k c p l o) where
-  held_next : (at : Place) (t : List ℕ) (c' : Carried) (p' : List ℕ) (l' : List ℤ) (o' : List ℕ) → scene_of run at ≡ t → at.answer ≡ k * 7
-      → k * 7 + 7 ≤ length out₀ → Turned m run c at p l o c' p' l' o' → Held run out₀ (next m st t) (k + 1) c' p' l' o'
+  held_next : (at : Part) (t : List ℕ) (c' : Carried) (p' : List ℕ) (l' : List ℤ) (o' : List ℕ) → scene_of run at ≡ t
+      → k * 7 + 7 ≤ length out₀ → Turned m run c at k p l o c' p' l' o' → Held run out₀ (next m st t) (k + 1) c' p' l' o'
   unfolding next
-  held_next at t c' p' l' o' is-t is-place room r =
-      let answer : Answer = next_answer m (shown_of run c) (scene_of run at) (length p) (length l) in
+  held_next at t c' p' l' o' is-t room r =
+      let answer : Answer = next_answer m (shown_of run c.last) (scene_of run at) (length p) (length l) in
       let same : answer ≡ answer_in m st t = four (λ s u v w. next_answer m s u (length v) (length w)) h.shown is-t h.picture h.working in
       let numbers : List ℕ = numbers_all st.answers in
       let more : numbers ++ numbers_of answer ≡ numbers_all (st.answers ++ (answer_in m st t ∷ [])) =
@@ -98,11 +98,11 @@ module _ (m : Mask) (run out₀ : List ℕ) (st : State) (k : ℕ) (c : Carried)
       record {
         picture = r.picture ∙ four (λ s u v w. next_surface m s u v (length w)) h.shown is-t h.picture h.working;
         working = r.working ∙ four (λ s u v w. next_scratch m s u (length v) w) h.shown is-t h.picture h.working;
-        out = r.out ∙ ap (λ (x : List ℕ). take at.answer x ++ (numbers_of answer ++ drop 7 (drop at.answer x))) h.out
-            ∙ over_part numbers out₀ (numbers_of answer) at.answer 7 (h.wrote ∙ sym is-place) refl (rw is-place room)
+        out = r.out ∙ ap (λ (x : List ℕ). take (k * 7) x ++ (numbers_of answer ++ drop 7 (drop (k * 7) x))) h.out
+            ∙ over_part numbers out₀ (numbers_of answer) (k * 7) 7 h.wrote refl room
             ∙ ap (λ (x : List ℕ). over x out₀) more;
         wrote = ap length (sym more) ∙ long;
-        shown = ap (shown_of run) r.carried ∙ shown_next c at answer.code run
+        shown = ap (λ (x : Carried). shown_of run x.last) r.carried ∙ shown_next c at answer.code run
             ∙ (λ i. cond (eqb (same i).code 0) (scene (is-t i)) (h.shown i));
         code = ap (λ (x : Carried). x.first) r.carried ∙ first_next c at answer.code ∙ (λ i. keep (h.code i) (same i).code) ∙ sym codes;
       }
@@ -117,55 +117,38 @@ module _ (run lengths : List ℕ) (m : Mask) (p₀ : List ℕ) (l₀ : List ℤ)
 
   -- after i scenes
   pub record Done (out₀ : List ℕ) (i : ℕ) (c : Carried) (from : ℕ) (p : List ℕ) (l : List ℤ) (o : List ℕ) : Type 0 where
-    pub count : i ≤ length lengths
     pub start : from ≡ start_of lengths i
-    pub fits : Fits m run c
+    pub fits : Fits m run c.last
     pub held : Held run out₀ (state_at run lengths m p₀ l₀ i) i c p l o
 
   module _ (out₀ : List ℕ) where
-    pub done_first : (c : Carried) → c ≡ record { any = false; at = 0; end = 0; first = 0 } → Done out₀ 0 c 0 p₀ l₀ out₀
+    pub done_first : Done out₀ 0 (record { last = None; first = 0 }) 0 p₀ l₀ out₀
     unfolding state_at
-    done_first c e =
+    done_first =
         record {
-          count = omega arith;
           start = refl;
-          fits = rw e (record { starts = omega arith; ends = omega arith; accepted = λ h. absurd (true≢false (sym h)) });
-          held = record { picture = refl; working = refl; out = refl; wrote = refl; shown = ap (shown_of run) e; code = ap (λ (x : Carried). x.first) e };
+          fits = tt;
+          held = record { picture = refl; working = refl; out = refl; wrote = refl; shown = refl; code = refl };
         }
 
-    -- the place of scene i lies in the run
-    pub lies : (i from n : ℕ) (c : Carried) (p : List ℕ) (l : List ℤ) (o : List ℕ) (at : Place) → Done out₀ i c from p l o → i < length lengths
-        → start_of lengths (length lengths) ≡ length run → n ≡ get_or lengths i 0 → at.at ≡ from → at.end ≡ from + n → Lies run at
-    lies i from n c p l o at d less whole en ea ee =
-        record {
-          starts = omega arith;
-          ends = scene_ends run lengths i from at.end less whole d.start (ee ∙ ap (λ (k : ℕ). from + k) en);
-        }
+    -- scene i lies in the run
+    pub lies : (i from : ℕ) (c : Carried) (p : List ℕ) (l : List ℤ) (o : List ℕ) → Done out₀ i c from p l o → i < length lengths
+        → start_of lengths (length lengths) ≡ length run → Lies run (record { at = from; end = from + get_or lengths i 0 })
+    lies i from c p l o d less whole =
+        record { starts = omega arith; ends = scene_ends run lengths i from (from + get_or lengths i 0) less whole d.start refl }
 
-    pub done_next : (i from n : ℕ) (c : Carried) (p : List ℕ) (l : List ℤ) (o : List ℕ) (at : Place) (c' : Carried) (p' : List ℕ) (l' : List ℤ) (o' : List ℕ)
+    pub done_next : (i from : ℕ) (c : Carried) (p : List ℕ) (l : List ℤ) (o : List ℕ) (c' : Carried) (p' : List ℕ) (l' : List ℤ) (o' : List ℕ)
         → Done out₀ i c from p l o → i < length lengths → start_of lengths (length lengths) ≡ length run → length lengths * 7 ≤ length out₀
-        → n ≡ get_or lengths i 0 → at ≡ record { at = from; end = from + n; answer = i * 7 } → Turned m run c at p l o c' p' l' o'
-        → Done out₀ (i + 1) c' (from + n) p' l' o'
-    done_next i from n c p l o at c' p' l' o' d less whole room en is r =
-        let starts : at.at ≡ from = ap (λ (x : Place). x.at) is in
-        let ends : at.end ≡ from + n = ap (λ (x : Place). x.end) is in
-        let code : ℕ = (next_answer m (shown_of run c) (scene_of run at) (length p) (length l)).code in
-        let there : scene_of run at ≡ scene_at run lengths i =
-        part_is_scene run lengths i at.at at.end (starts ∙ d.start) (omega (arith, starts, ends, en)) in
+        → Turned m run c (record { at = from; end = from + get_or lengths i 0 }) i p l o c' p' l' o'
+        → Done out₀ (i + 1) c' (from + get_or lengths i 0) p' l' o'
+    done_next i from c p l o c' p' l' o' d less whole room r =
+        let at : Part = record { at = from; end = from + get_or lengths i 0 } in
+        let code : ℕ = (next_answer m (shown_of run c.last) (scene_of run at) (length p) (length l)).code in
+        let there : scene_of run at ≡ scene_at run lengths i = part_is_scene run lengths i from d.start in
         record {
-          count = omega arith;
-          start = omega (arith, start_more lengths i, en, d.start);
+          start = omega (arith, start_more lengths i, d.start);
           fits = rw r.carried
-              (fits_next c at code m run d.fits (lies i from n c p l o at d less whole en starts ends)
-              (next_accepted m (shown_of run c) (scene_of run at) p (length l)));
+              (fits_next c at code m run d.fits (lies i from c p l o d less whole) (next_accepted m (shown_of run c.last) (scene_of run at) p (length l)));
           held = rw (state_more i)
-              (held_next m run out₀ (state_at run lengths m p₀ l₀ i) i c p l o d.held at (scene_at run lengths i) c' p' l' o' there
-              (ap (λ (x : Place). x.answer) is) (omega arith) r);
+              (held_next m run out₀ (state_at run lengths m p₀ l₀ i) i c p l o d.held at (scene_at run lengths i) c' p' l' o' there (omega arith) r);
         }
-
-    -- the end of the loop
-    pub done_all : (i : ℕ) (c : Carried) (from : ℕ) (p : List ℕ) (l : List ℤ) (o : List ℕ) → Done out₀ i c from p l o → i ≡ length lengths
-        → (c.first ≡ first_code (codes_of (end_of run lengths m p₀ l₀).answers))
-        × ((p ≡ (end_of run lengths m p₀ l₀).surface)
-        × ((l ≡ (end_of run lengths m p₀ l₀).scratch) × (o ≡ over (numbers_all (end_of run lengths m p₀ l₀).answers) out₀)))
-    done_all i c from p l o d e = rw (← e) (d.held.code, (d.held.picture, (d.held.working, d.held.out)))

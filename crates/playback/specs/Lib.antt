@@ -1,3 +1,4 @@
 -- The definitions that contracts cite.
 pub mod Replay
 pub mod Carrying
+pub mod Number

@@ -6,6 +6,7 @@ pub mod scenes;
 
 ghost use Rattle.std.specs.Prelude.{◌≡◌, length};
 ghost use Rattle.render.specs.Answers.{mask_of};
+ghost use Rattle.playback.specs.Number.{number_of};
 ghost use Rattle.playback.specs.Replay.{replay_answer, replay_surface, replay_scratch, replay_answers};
 
 use crate::judge::judge;
@@ -19,21 +20,34 @@ pub struct Replayed {
     pub first: u32,
 }
 
-// What is carried from scene to scene: whether one was accepted, where the last such lies, and the first code other than 0.
+// TEMP
+#[derive(Clone, Copy, PartialEq, Eq, Debug)]
+pub enum Code { OutOfMemory, BadLength }
+
+impl Code {
+    pub fn number(self) -> u32
+        ensures { result ≡ number_of self }
+    {
+        match self {
+            Code::OutOfMemory => codes::OUT_OF_MEMORY,
+            Code::BadLength => codes::BAD_LENGTH,
+        }
+    }
+}
+// ENDTEMP
+
+// Where a scene lies in the run.
 #[derive(Clone, Copy)]
-pub struct Carried {
-    pub any: bool,
+pub struct Part {
     pub at: usize,
     pub end: usize,
-    pub first: u32,
 }
 
-// Where a scene lies in the run, and where its answer goes.
+// What is carried from scene to scene: where the one accepted last lies, and the first code other than 0.
 #[derive(Clone, Copy)]
-pub struct Place {
-    pub at: usize,
-    pub end: usize,
-    pub answer: usize,
+pub struct Carried {
+    pub last: Option<Part>,
+    pub first: u32,
 }
 
 // Replays the scenes of a run, by their lengths, with one mask for all or none. Seven numbers for each scene go to the answers.
@@ -59,13 +73,14 @@ pub fn replay(
         ≡ replay_answers run.now lengths.now (mask_of masked mask.now)
         surface.old scratch.old answers.old }
 {
-    let code = judge(run.len(), lengths, answers.len());
-    if code != ACCEPTED {
-        return Replayed { code, first: code };
-    }
-    let first = play(run, lengths, masked, mask, surface, scratch, answers);
-    Replayed {
-        code: ACCEPTED,
-        first,
+    match judge(run.len(), lengths, answers.len()) {
+        Err(code) => Replayed {
+            code: code.number(),
+            first: code.number(),
+        },
+        Ok(()) => Replayed {
+            code: ACCEPTED,
+            first: play(run, lengths, masked, mask, surface, scratch, answers),
+        },
     }
 }

@@ -1,13 +1,12 @@
 // The scenes of a replay, one by one.
-ghost use Rattle.std.specs.Prelude.{◌≡◌, ◌++◌, ◌≤◌, ◌*◌, ◌+◌, length, take, drop};
+ghost use Rattle.std.specs.Prelude.{◌≡◌, ◌≤◌, ◌*◌, length};
 ghost use Rattle.lists.specs.Lists.{over};
 ghost use Rattle.context.specs.Context.{first_code};
 ghost use Rattle.render.specs.Answers.{mask_of};
 ghost use Rattle.playback.specs.Replay.{start_of, next_answer, next_surface, next_scratch, end_of, numbers_of, numbers_all, codes_of};
 ghost use Rattle.playback.specs.Carrying.{scene_of, shown_of, carried_on, Fits, Lies};
 
-use crate::judge::wide;
-use crate::{Carried, Place};
+use crate::{Carried, Part};
 use codes::ACCEPTED;
 use render::Answer;
 
@@ -35,20 +34,25 @@ pub fn play(
         surface.old scratch.old).answers) answers.old }
 {
     let mut carried = Carried {
-        any: false,
-        at: 0,
-        end: 0,
-        first: 0,
+        last: None,
+        first: ACCEPTED,
     };
     let mut at = 0;
-    let mut i = 0;
-    while i < lengths.len() {
-        let end = at + wide(lengths[i]);
-        let answer = i * 7;
-        let place = Place { at, end, answer };
-        carried = turn(run, masked, mask, carried, place, surface, scratch, answers);
+    for i in 0..lengths.len() {
+        let end = at + lengths[i] as usize;
+        let from = i * 7;
+        let to = from + 7;
+        carried = turn(
+            run,
+            masked,
+            mask,
+            carried,
+            Part { at, end },
+            surface,
+            scratch,
+            &mut answers[from..to],
+        );
         at = end;
-        i = i + 1;
     }
     carried.first
 }
@@ -59,97 +63,96 @@ fn turn(
     masked: bool,
     mask: &[u8],
     carried: Carried,
-    place: Place,
+    part: Part,
     surface: &mut [u8],
     scratch: &mut [i32],
     answers: &mut [u32],
 ) -> Carried
-    requires { (Fits (mask_of masked mask.now) run.now carried × Lies run.now place) × (place.answer + 7 ≤ length answers.old) }
+    requires { (Fits (mask_of masked mask.now) run.now carried.last × Lies run.now part) × (length answers.old ≡ 7) }
     ensures value { result
-        ≡ carried_on carried place (next_answer (mask_of masked mask.now) (shown_of run.now carried) (scene_of run.now place)
+        ≡ carried_on carried part (next_answer (mask_of masked mask.now) (shown_of run.now carried.last) (scene_of run.now part)
         (length surface.old) (length scratch.old)).code }
     ensures surface_after { surface.new
-        ≡ next_surface (mask_of masked mask.now) (shown_of run.now carried) (scene_of run.now place)
+        ≡ next_surface (mask_of masked mask.now) (shown_of run.now carried.last) (scene_of run.now part)
         surface.old (length scratch.old) }
     ensures scratch_after { scratch.new
-        ≡ next_scratch (mask_of masked mask.now) (shown_of run.now carried) (scene_of run.now place)
+        ≡ next_scratch (mask_of masked mask.now) (shown_of run.now carried.last) (scene_of run.now part)
         (length surface.old) scratch.old }
     ensures answers_after { answers.new
-        ≡ take place.answer answers.old
-        ++ (numbers_of (next_answer (mask_of masked mask.now) (shown_of run.now carried) (scene_of run.now place)
-        (length surface.old) (length scratch.old))
-        ++ drop 7 (drop place.answer answers.old)) }
+        ≡ numbers_of (next_answer (mask_of masked mask.now) (shown_of run.now carried.last) (scene_of run.now part)
+        (length surface.old) (length scratch.old)) }
 {
-    let answer = show(run, masked, mask, carried, place, surface, scratch);
-    let first = place.answer;
-    let stop = first + 7;
-    put(&mut answers[first..stop], answer);
-    carry(carried, place, answer.code)
+    let answer = show(run, masked, mask, carried.last, part, surface, scratch);
+    answers.copy_from_slice(&numbers(answer));
+    carried.after(part, answer.code)
 }
 
-// What is carried on after a scene's code.
-fn carry(carried: Carried, place: Place, code: u32) -> Carried
-    ensures { result ≡ carried_on carried place code }
-{
-    if code == ACCEPTED {
-        return Carried {
-            any: true,
-            at: place.at,
-            end: place.end,
-            first: carried.first,
-        };
-    }
-    Carried {
-        any: carried.any,
-        at: carried.at,
-        end: carried.end,
-        first: context::kept(carried.first, code),
+impl Carried {
+    // What is carried on after a scene's code.
+    fn after(self, part: Part, code: u32) -> Carried
+        ensures { result ≡ carried_on self part code }
+    {
+        if code == ACCEPTED {
+            Carried {
+                last: Some(part),
+                first: self.first,
+            }
+        } else {
+            Carried {
+                last: self.last,
+                first: context::kept(self.first, code),
+            }
+        }
     }
 }
 
-// The scene at a place: redrawn from the one accepted last, which is not judged again, or drawn in full.
+impl Part {
+    // The scene itself.
+    fn of(self, run: &[u8]) -> &[u8]
+        requires { Lies run.now self }
+        ensures { result.now ≡ scene_of run.now self }
+    {
+        &run[self.at..self.end]
+    }
+}
+
+// The scene of a part: redrawn from the one accepted last, which is not judged again, or drawn in full.
 fn show(
     run: &[u8],
     masked: bool,
     mask: &[u8],
-    carried: Carried,
-    place: Place,
+    last: Option<Part>,
+    part: Part,
     surface: &mut [u8],
     scratch: &mut [i32],
 ) -> Answer
-    requires { Fits (mask_of masked mask.now) run.now carried × Lies run.now place }
+    requires { Fits (mask_of masked mask.now) run.now last × Lies run.now part }
     ensures value { result
-        ≡ next_answer (mask_of masked mask.now) (shown_of run.now carried) (scene_of run.now place)
+        ≡ next_answer (mask_of masked mask.now) (shown_of run.now last) (scene_of run.now part)
         (length surface.old) (length scratch.old) }
     ensures surface_after { surface.new
-        ≡ next_surface (mask_of masked mask.now) (shown_of run.now carried) (scene_of run.now place)
+        ≡ next_surface (mask_of masked mask.now) (shown_of run.now last) (scene_of run.now part)
         surface.old (length scratch.old) }
     ensures scratch_after { scratch.new
-        ≡ next_scratch (mask_of masked mask.now) (shown_of run.now carried) (scene_of run.now place)
+        ≡ next_scratch (mask_of masked mask.now) (shown_of run.now last) (scene_of run.now part)
         (length surface.old) scratch.old }
 {
-    let at = place.at;
-    let end = place.end;
-    let new = &run[at..end];
-    let any = carried.any;
-    if any {
-        let from = carried.at;
-        let to = carried.end;
-        return render::redraw_from(&run[from..to], new, masked, mask, surface, scratch);
+    match last {
+        Some(old) => render::redraw_from(
+            old.of(run),
+            part.of(run),
+            masked,
+            mask,
+            surface,
+            scratch,
+        ),
+        None => render::draw(part.of(run), masked, mask, surface, scratch),
     }
-    render::draw(new, masked, mask, surface, scratch)
 }
 
 // The seven numbers of an answer.
-fn put(part: &mut [u32], a: Answer)
-    requires { length part.old ≡ 7 }
-    ensures { part.new ≡ numbers_of a }
+fn numbers(a: Answer) -> [u32; 7]
+    ensures { result ≡ numbers_of a }
 {
-    part[0] = a.code;
-    part[1] = a.draw;
-    part[2] = a.scene;
-    part[3] = a.x;
-    part[4] = a.y;
-    part[5] = a.width;
-    part[6] = a.height;
+    [a.code, a.draw, a.scene, a.x, a.y, a.width, a.height]
 }

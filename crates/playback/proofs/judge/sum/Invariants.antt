@@ -1,11 +1,7 @@
 use mathlib.Core.Path.{◌≡◌}
-use Prim.Native.Nat.{◌≤◌, ◌*◌, ◌-◌}
-use lib.ListN.{length}
+use Prim.Native.Nat.{◌≤◌, ◌*◌}
 use Rattle.playback.specs.Replay.{start_of}
 use Rattle.playback.proofs.judge.sum.Given as goal
 
 abbrev pub invariant-loop-i : goal.invariant-loop-i
-invariant-loop-i l = (l.i ≤ length l.lengths) × ((l.s ≡ start_of l.lengths l.i) × (l.s ≤ l.i * 4294967296))
-
-abbrev pub decreases-loop-i : goal.decreases-loop-i
-decreases-loop-i l = length l.lengths - l.i
+invariant-loop-i l = (l.s ≡ start_of l.lengths l.i) × (l.s ≤ l.i * 4294967296)
