@@ -1,6 +1,6 @@
 -- A row's text read back is the row.
 use mathlib.Core.Path.{◌≡◌, refl, sym, ap, ◌∙◌}
-use mathlib.Core.Bool.{Bool, true, false, true≢false, false≢true}
+use mathlib.Core.Bool.{Bool, true≢false}
 use mathlib.Core.List.{List}
 use mathlib.Core.Logic.{⊎_elim}
 use Prim.Native.Nat.{ℕ, zero, suc, ◌+◌, ◌*◌, ◌/◌, ◌%◌, ◌<◌}
@@ -14,7 +14,7 @@ use Rattle.lists.specs.Lists.{upto}
 use Rattle.lists.proofs.Laws.{upto_length, run_fits, tab_ext}
 use Rattle.rect.proofs.Laws.{either}
 use Rattle.text.specs.Text.{hex_digit, cell_text, row_text}
-use Rattle.console.specs.Words.{Tells}
+use Rattle.std.specs.Bool.{Decides}
 use Rattle.compare.specs.Texts.{digit_value, byte_read, row_bytes, Row, RowRead}
 
 -- ---- digits
@@ -83,10 +83,9 @@ module _ (n : ℕ) (s : List ℕ) (row : Row n s) where
       ap (λ i. get_or s i 0) e ∙ sym (channel (j / 4) (j % 4) j (omega arith) (omega arith) refl refl)))
 
 -- what is printed again tells whether a text is that of a row
-pub row_read : (n : ℕ) (t out again : List ℕ) (r : Bool) → out ≡ row_bytes n t → again ≡ row_text n out → Tells r (t ≡ again) → RowRead n t out r
-row_read n t out again true e f h = record { right = λ q. h ∙ f; wrong = λ q. absurd (true≢false q) }
-row_read n t out again false e f h =
+pub row_read : (n : ℕ) (t out again : List ℕ) (r : Bool) → out ≡ row_bytes n t → again ≡ row_text n out → Decides r (t ≡ again) → RowRead n t out r
+row_read n t out again r e f h =
     record {
-      right = λ q. absurd (false≢true q);
-      wrong = λ q s row g. h (g ∙ sym (f ∙ ap (row_text n) (e ∙ ap (row_bytes n) g ∙ row_back n s row)));
+      right = λ q. h.0 q ∙ f;
+      wrong = λ q s row g. true≢false (sym (h.1 (g ∙ sym (f ∙ ap (row_text n) (e ∙ ap (row_bytes n) g ∙ row_back n s row)))) ∙ q);
     }

@@ -1,16 +1,13 @@
 -- A picture's text read back. A reviewer of the paper need not read it.
 use Rattle.std.specs.Prelude.{◌≡◌, Bool, true, false, cond, List, ◌∷◌, ◌++◌, ℕ, ◌+◌, ◌*◌, ◌-◌, ◌/◌, ◌%◌, ◌<◌, leb, ltb, length, get_or}
-use Rattle.console.specs.Digits.{last_digits, IsDigitCount}
+use Rattle.std.specs.Fmt.{decimal}
 use Rattle.lists.specs.Lists.{tab}
 use Rattle.text.specs.Text.{row_text}
 use Rattle.compare.specs.declared.Size.{Size}
 
-abbrev pub no_number : ℕ
-no_number = 4294967295
-
 -- s is n as it is printed
 abbrev pub Printed : ℕ → List ℕ → Type 0
-Printed n s = (k : ℕ) × IsDigitCount 10 1 n k × (s ≡ last_digits 10 k n)
+Printed n s = s ≡ decimal n
 
 -- a picture's first line without its newline
 abbrev pub SizeLine : Size → List ℕ → Type 0

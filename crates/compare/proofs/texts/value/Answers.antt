@@ -1,30 +1,24 @@
-use Rattle.compare.specs.Texts.{digit_value}
 use native.Mathlib.Omega.{arith}
-use borrow.Author.Tests.{le-leb, lt-leb, lt-ltb, le-ltb}
-use borrow.Author.Rules.{rules}
+use Rattle.std.proofs.lemmas.Bool.Decides.{nat_tests}
+use Rattle.compare.specs.Texts.{digit_value}
 use Rattle.compare.proofs.texts.value.Goals as goal
 
-pub returns-then-digit-lt48 : goal.returns-then-digit-lt48
+pub returns-in-48-to-57 : goal.returns-in-48-to-57
 unfolding digit_value
-returns-then-digit-lt48 c =
-    (rw (lt-ltb _ _ c.if-digit-lt48.true), omega arith)
+returns-in-48-to-57 c = (grind (arith, nat_tests), omega (arith, c.in-48-to-57))
 
-pub returns-then-digit-le57 : goal.returns-then-digit-le57
+pub returns-in-97-to-102 : goal.returns-in-97-to-102
 unfolding digit_value
-returns-then-digit-le57 c =
-    (rw (le-ltb _ _ c.if-digit-lt48.false, le-leb _ _ c.if-digit-le57.true), omega arith)
+returns-in-97-to-102 c = (grind (arith, nat_tests), omega (arith, c.in-97-to-102))
 
-pub returns-then-digit-lt97 : goal.returns-then-digit-lt97
+pub returns-in_default : goal.returns-in_default
 unfolding digit_value
-returns-then-digit-lt97 c =
-    (rw (le-ltb _ _ c.if-digit-lt48.false, lt-leb _ _ c.if-digit-le57.false, lt-ltb _ _ c.if-digit-lt97.true), omega arith)
+returns-in_default c = (grind (arith, nat_tests), omega arith)
 
-pub returns-then-digit-le102 : goal.returns-then-digit-le102
+pub returns-in_default-2 : goal.returns-in_default-2
 unfolding digit_value
-returns-then-digit-le102 c =
-    (rw (le-ltb _ _ c.if-digit-lt48.false, lt-leb _ _ c.if-digit-le57.false, le-ltb _ _ c.if-digit-lt97.false, le-leb _ _ c.if-digit-le102.true), omega arith)
+returns-in_default-2 c = (grind (arith, nat_tests), omega arith)
 
-pub returns : goal.returns
+pub returns-in_default-3 : goal.returns-in_default-3
 unfolding digit_value
-returns c =
-    (rw (le-ltb _ _ c.if-digit-lt48.false, lt-leb _ _ c.if-digit-le57.false, le-ltb _ _ c.if-digit-lt97.false, lt-leb _ _ c.if-digit-le102.false), omega arith)
+returns-in_default-3 c = (grind (arith, nat_tests), omega arith)
