@@ -1,4 +1,3 @@
 -- The definitions that contracts cite.
 pub mod Replay
 pub mod Carrying
-pub mod Number

@@ -6,7 +6,6 @@ pub mod scenes;
 
 ghost use Rattle.std.specs.Prelude.{◌≡◌, length};
 ghost use Rattle.render.specs.Answers.{mask_of};
-ghost use Rattle.playback.specs.Number.{number_of};
 ghost use Rattle.playback.specs.Replay.{replay_answer, replay_surface, replay_scratch, replay_answers};
 
 use crate::judge::judge;
@@ -19,22 +18,6 @@ pub struct Replayed {
     pub code: u32,
     pub first: u32,
 }
-
-// TEMP
-#[derive(Clone, Copy, PartialEq, Eq, Debug)]
-pub enum Code { OutOfMemory, BadLength }
-
-impl Code {
-    pub fn number(self) -> u32
-        ensures { result ≡ number_of self }
-    {
-        match self {
-            Code::OutOfMemory => codes::OUT_OF_MEMORY,
-            Code::BadLength => codes::BAD_LENGTH,
-        }
-    }
-}
-// ENDTEMP
 
 // Where a scene lies in the run.
 #[derive(Clone, Copy)]
