@@ -5,87 +5,47 @@
 mod numbers;
 mod printing;
 
-ghost use Rattle.std.specs.Prelude.{◌≤◌, length};
-
 use crate::numbers::coordinate;
-use crate::printing::print_explanation;
-use console::arguments::argument_count;
-use console::files::{FILE_BUFFER, load};
-use console::lines::print_limit;
-use console::usage::is_called;
+use crate::printing::Question;
+use console::arguments::Arguments;
+use console::errors::{Stop, finish};
+use console::files::{append, read};
+use console::usage::Manual;
+use std::process::ExitCode;
 
-// The bytes of a buffer for a mask: one more than the largest picture has pixels, so that a longer mask has a wrong length too.
-const MASK_BUFFER: usize = 1048577;
+// The most bytes that are read of a mask: one more than the largest picture has pixels, so that a longer mask has a wrong length too.
+const MASK_LIMIT: usize = 1048577;
 
-// A pixel's coordinate: whether the argument is a number, and the number. One outside every picture stands for all larger ones and for all below 0.
-#[derive(Clone, Copy)]
-pub struct Coordinate {
-    pub given: bool,
-    pub value: usize,
-}
-
-fn main(rt: HostRuntime) {
-    let count = argument_count(&rt);
-    if !is_called(
-        &rt,
-        count == 4 || count == 5,
-        b"usage: explain SCENE X Y [MASK]\n",
-        b"Prints what each draw of a scene file does to a pixel, a line for each draw, and then the pixel. MASK is a file with a byte for\n\
+const MANUAL: Manual = Manual {
+    usage: "usage: explain SCENE X Y [MASK]\n",
+    help: "Prints what each draw of a scene file does to a pixel, a line for each draw, and then the pixel. MASK is a file with a byte for\n\
         each pixel, row by row from the lowest. A scene that is refused prints `refused CODE DRAW offset BYTE` with the place in the\n\
         file, a file that is too long `limit`.\n",
-    ) {
-        return;
-    }
-    let x = coordinate(&rt, 2);
-    if !x.given {
-        return;
-    }
-    let y = coordinate(&rt, 3);
-    if !y.given {
-        return;
-    }
-    let mut scene = [0u8; FILE_BUFFER];
-    let mut mask = [0u8; MASK_BUFFER];
-    lend_files(&rt, &mut scene, &mut mask, count == 5, x.value, y.value);
+};
+
+fn main(rt: HostRuntime) -> ExitCode {
+    let outcome = explain(&rt);
+    finish(&rt, outcome)
 }
 
-// A large array is made a slice in a function of its own, since the checker would write out an array that is lent directly.
-fn lend_files(
-    rt: &HostRuntime,
-    scene: &mut [u8; FILE_BUFFER],
-    mask: &mut [u8; MASK_BUFFER],
-    masked: bool,
-    x: usize,
-    y: usize,
-) {
-    load_files(rt, scene, mask, masked, x, y);
-}
-
-fn load_files(
-    rt: &HostRuntime,
-    scene: &mut [u8],
-    mask: &mut [u8],
-    masked: bool,
-    x: usize,
-    y: usize,
-) {
-    let first = load(rt, 1, scene);
-    if !first.readable {
-        return;
+fn explain(rt: &HostRuntime) -> Result<(), Stop> {
+    let arguments = Arguments::read(rt)?;
+    let masked = arguments.len() == 5;
+    MANUAL.judge(&arguments, masked || arguments.len() == 4)?;
+    let x = coordinate(rt, &arguments, 2)?;
+    let y = coordinate(rt, &arguments, 3)?;
+    let scene = read(rt, &arguments, 1)?.ok_or(Stop::TooLong)?;
+    let mut mask = Vec::new(rt.alloc());
+    if masked {
+        append(rt, &arguments, 4, MASK_LIMIT, &mut mask)?;
     }
-    let n = first.length;
-    if n == scene.len() {
-        print_limit(rt);
-        return;
-    }
-    if !masked {
-        print_explanation(rt, &scene[0..n], false, &scene[0..0], x, y);
-        return;
-    }
-    let second = load(rt, 4, mask);
-    if !second.readable {
-        return;
-    }
-    let m = second.length;
-    print_explanation(rt, &scene[0..n], true, &mask[0..m], x, y);
+    let question = Question {
+        scene: scene.as_slice(),
+        masked,
+        mask: mask.as_slice(),
+        x,
+        y,
+    };
+    question.answer(rt);
+    Ok(())
 }

@@ -5,113 +5,91 @@ ghost use Rattle.reason.specs.Explanations.{start_of, followed};
 
 use codes::ACCEPTED;
 use color::Pixel;
-use console::{Line, numbers};
-use reason::{COVERED, OUTSIDE};
+use console::output::told;
+use reason::{COVERED, Line, OUTSIDE};
+use std::{fmt, io};
 
-// The refusal, or a line for each draw and then the pixel.
-pub fn print_explanation(
-    rt: &HostRuntime,
-    scene: &[u8],
-    masked: bool,
-    mask: &[u8],
-    x: usize,
-    y: usize,
-) {
-    let start = reason::begin(scene, masked, mask, x, y);
-    if start.code != ACCEPTED {
-        Line::new()
-            .word(b"refused")
-            .hex(start.code as u64)
-            .decimal(start.draw as u64)
-            .word(b"offset")
-            .decimal(start.offset as u64)
-            .print(rt);
-        return;
-    }
-    let p = print_draws(
-        rt,
-        scene,
-        masked,
-        mask,
-        x,
-        y,
-        start.draws as usize,
-        start.pixel,
-    );
-    with_pixel(Line::new().word(b"pixel"), p).print(rt);
+// The pixel that is asked for, of a scene under a mask.
+#[derive(Clone, Copy)]
+pub struct Question<'a> {
+    pub scene: &'a [u8],
+    pub masked: bool,
+    pub mask: &'a [u8],
+    pub x: usize,
+    pub y: usize,
 }
 
-// A line for each of n draws. Returns the pixel after the last.
-fn print_draws(
-    rt: &HostRuntime,
-    scene: &[u8],
-    masked: bool,
-    mask: &[u8],
-    x: usize,
-    y: usize,
-    n: usize,
-    first: Pixel,
-) -> Pixel
-    requires { first ≡ (start_of scene.now (mask_of masked mask.now) x y).pixel }
-    ensures { result ≡ followed scene.now (mask_of masked mask.now) x y n }
-{
-    let mut p = first;
-    let mut i = 0;
-    while i < n {
-        let line = reason::explain_draw(scene, masked, mask, x, y, i, p);
-        print_line(rt, i, line);
-        p = line.after;
-        i += 1;
+impl Question<'_> {
+    // Prints the refusal, or a line for each draw and then the pixel.
+    pub fn answer(&self, rt: &HostRuntime) {
+        let start = reason::begin(self.scene, self.masked, self.mask, self.x, self.y);
+        if start.code != ACCEPTED {
+            told(
+                rt,
+                println!(rt;
+                    "refused {:04x} {} offset {}",
+                    start.code, start.draw, start.offset
+                ),
+            );
+            return;
+        }
+        let pixel = Digits(self.print_draws(rt, start.draws as usize, start.pixel));
+        told(rt, println!(rt; "pixel {pixel}"));
     }
-    p
-}
 
-fn print_line(rt: &HostRuntime, i: usize, line: reason::Line) {
-    let named = Line::new().word(b"draw").decimal(i as u64);
-    if line.kind == COVERED {
-        print_covered(rt, named, line);
-        return;
+    // A line for each of n draws. Returns the pixel after the last.
+    fn print_draws(&self, rt: &HostRuntime, n: usize, first: Pixel) -> Pixel
+        requires { first
+            ≡ (start_of self.now.scene.now (mask_of self.now.masked self.now.mask.now) self.now.x self.now.y).pixel }
+        ensures { result
+            ≡ followed self.now.scene.now (mask_of self.now.masked self.now.mask.now) self.now.x self.now.y n }
+    {
+        let mut p = first;
+        for i in 0..n {
+            let line = reason::explain_draw(
+                self.scene,
+                self.masked,
+                self.mask,
+                self.x,
+                self.y,
+                i,
+                p,
+            );
+            told(rt, print_line(rt, i, line));
+            p = line.after;
+        }
+        p
     }
-    if line.kind == OUTSIDE {
-        with_step(named.word(b"outside"), line).print(rt);
-        return;
-    }
-    with_step(named.word(b"uncovered"), line).print(rt);
-}
-
-// The pixel before the draw and after it.
-fn with_step(l: Line, line: reason::Line) -> Line {
-    let before = with_pixel(l.word(b"before"), line.before);
-    with_pixel(before.word(b"after"), line.after)
 }
 
 // Where the draw covers the pixel: k, the mask's byte where the draw uses the mask, and the paint.
-fn print_covered(rt: &HostRuntime, named: Line, line: reason::Line) {
-    let counted = with_step(named.word(b"covered"), line)
-        .word(b"k")
-        .decimal(line.k as u64);
-    if line.masked != 0 {
-        print_paint(
-            rt,
-            counted.word(b"mask").decimal(line.mask as u64),
-            line.paint,
-        );
-        return;
+fn print_line(rt: &HostRuntime, i: usize, line: Line) -> io::Result<()> {
+    let before = Digits(line.before);
+    let after = Digits(line.after);
+    let paint = Digits(line.paint);
+    let k = line.k;
+    let mask = line.mask;
+    match line.kind {
+        COVERED if line.masked != 0 => {
+            println!(rt;
+                "draw {i} covered before {before} after {after} k {k} mask {mask} paint {paint}"
+            )
+        }
+        COVERED => println!(rt;
+            "draw {i} covered before {before} after {after} k {k} paint {paint}"
+        ),
+        OUTSIDE => println!(rt; "draw {i} outside before {before} after {after}"),
+        _ => println!(rt; "draw {i} uncovered before {before} after {after}"),
     }
-    print_paint(rt, counted, line.paint);
-}
-
-fn print_paint(rt: &HostRuntime, l: Line, paint: Pixel) {
-    with_pixel(l.word(b"paint"), paint).print(rt);
 }
 
 // A pixel's four bytes as eight digits.
-fn with_pixel(l: Line, p: Pixel) -> Line {
-    let mut digits = [0u8; 16];
-    let k = numbers::hex(number(p), 8, &mut digits);
-    l.word(&digits[..k])
-}
+#[derive(Clone, Copy)]
+struct Digits(Pixel);
 
-fn number(p: Pixel) -> u64 {
-    (p.r as u64) * 16777216 + (p.g as u64) * 65536 + (p.b as u64) * 256 + p.a as u64
+impl fmt::Display for Digits {
+    fn fmt<W: fmt::Write>(&self, f: &mut fmt::Formatter<W>) -> fmt::Result {
+        let Pixel { r, g, b, a } = self.0;
+        write!(f, "{r:02x}{g:02x}{b:02x}{a:02x}")
+    }
 }
