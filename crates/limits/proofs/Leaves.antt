@@ -1,51 +1,43 @@
 -- What a call and its report leave, from what each step leaves.
 use mathlib.Core.Path.{◌≡◌, refl, sym, ap, ap₂, ◌∙◌}
-use mathlib.Core.Bool.{Bool, true, false}
-use mathlib.Core.List.{List, ◌++◌}
-use Prim.Native.Nat.{ℕ, ◌-◌, ◌≤◌}
-use native.Mathlib.Omega.{arith}
+use mathlib.Core.Bool.{true, false}
+use mathlib.Core.List.{List}
+use Prim.Native.Nat.{ℕ}
 use lib.IntN.{ℤ}
-use lib.ListN.{length, take, drop}
-use Rattle.lists.specs.Lists.{over}
-use Rattle.lists.proofs.Laws.{part_length}
+use lib.ListN.{length}
+use Rattle.std.proofs.Common.{Option, Some, None}
 use borrow.Author.Tests.{eq-eqb, ne_eqb}
 use Rattle.render.specs.declared.Answer.{Answer}
 use Rattle.render.specs.Answers.{no_mask, draw_answer, redraw_answer, draw_surface, redraw_surface, draw_scratch, redraw_scratch}
 use Rattle.limits.specs.Calls.{bytes, numbers, call_answer, call_surface, call_other, call_scratch, is_accepted, surface_left, other_left, scratch_left}
 
 -- answer, surface, other surface and scratch after a call
-abbrev Called : Bool → List ℕ → List ℕ → List ℕ → List ℕ → ℕ → Answer → List ℕ → List ℕ → List ℤ → Type 0
-Called full old new s o r a s' o' t' =
-    (a ≡ call_answer full old new (length s) r)
-    × ((s' ≡ call_surface full old new s r) × ((o' ≡ call_other full old o r) × (t' ≡ call_scratch full old new (length s) r)))
+abbrev Called : Option (List ℕ) → List ℕ → List ℕ → List ℕ → ℕ → Answer → List ℕ → List ℕ → List ℤ → Type 0
+Called old new s o r a s' o' t' =
+    (a ≡ call_answer old new (length s) r)
+    × ((s' ≡ call_surface old new s r) × ((o' ≡ call_other old o r) × (t' ≡ call_scratch old new (length s) r)))
 
 -- a drawing: the scratch t is filled, then the new scene is drawn
-pub drawing_leaves : (full : Bool) (old new s o : List ℕ) (t : List ℤ) (a : Answer) (s' : List ℕ) (f t' : List ℤ) → full ≡ true
+pub drawing_leaves : (new s o : List ℕ) (t : List ℤ) (a : Answer) (s' : List ℕ) (f t' : List ℤ)
     → f ≡ numbers (length t) → length f ≡ length t
     → (a ≡ draw_answer new no_mask (length s) (length f)) × ((s' ≡ draw_surface new no_mask s (length f)) × (t' ≡ draw_scratch new no_mask (length s) f))
-    → Called full old new s o (length t) a s' o t'
-drawing_leaves full old new s o t a s' f t' q e l d =
-    rw q (
-      d.0 ∙ ap (draw_answer new no_mask (length s)) l,
-      (
-        d.1.0
-            ∙ ap (draw_surface new no_mask s) l,
-        (refl, d.1.1 ∙ ap (draw_scratch new no_mask (length s)) e),
-      ),
-    )
+    → Called None new s o (length t) a s' o t'
+drawing_leaves new s o t a s' f t' e l d = (
+  d.0 ∙ ap (draw_answer new no_mask (length s)) l,
+  (d.1.0 ∙ ap (draw_surface new no_mask s) l, (refl, d.1.1 ∙ ap (draw_scratch new no_mask (length s)) e)),
+)
 
 -- a redraw: the old scene is drawn on both surfaces, the scratch is filled, then comes the redraw
-pub redraw_leaves : (full : Bool) (old new s o : List ℕ) (t : List ℤ) (a : Answer) (s₁ o₁ s' : List ℕ) (t₁ f t' : List ℤ) → full ≡ false
+pub redraw_leaves : (old new s o : List ℕ) (t : List ℤ) (a : Answer) (s₁ o₁ s' : List ℕ) (t₁ f t' : List ℤ)
     → s₁ ≡ draw_surface old no_mask s (length t) → length s₁ ≡ length s → length t₁ ≡ length t → o₁ ≡ draw_surface old no_mask o (length t₁)
     → f ≡ numbers (length t) → length f ≡ length t
     → (a ≡ redraw_answer old new no_mask (length s₁) (length f))
     × ((s' ≡ redraw_surface old new no_mask s₁ (length f)) × (t' ≡ redraw_scratch old new no_mask (length s₁) f))
-    → Called full old new s o (length t) a s' o₁ t'
-redraw_leaves full old new s o t a s₁ o₁ s' t₁ f t' q d n m e g l h =
-    rw q (
-      h.0 ∙ ap₂ (redraw_answer old new no_mask) n l,
-      (h.1.0 ∙ ap₂ (redraw_surface old new no_mask) d l, (e ∙ ap (draw_surface old no_mask o) m, h.1.1 ∙ ap₂ (redraw_scratch old new no_mask) n g)),
-    )
+    → Called (Some old) new s o (length t) a s' o₁ t'
+redraw_leaves old new s o t a s₁ o₁ s' t₁ f t' d n m e g l h = (
+  h.0 ∙ ap₂ (redraw_answer old new no_mask) n l,
+  (h.1.0 ∙ ap₂ (redraw_surface old new no_mask) d l, (e ∙ ap (draw_surface old no_mask o) m, h.1.1 ∙ ap₂ (redraw_scratch old new no_mask) n g)),
+)
 
 -- the report of an accepted call: the scene on the other surface
 pub report_leaves : (new o o₁ o' : List ℕ) (t f t' : List ℤ) → o₁ ≡ bytes 85 (length o) → length o₁ ≡ length o
@@ -54,21 +46,21 @@ pub report_leaves : (new o o₁ o' : List ℕ) (t f t' : List ℤ) → o₁ ≡ 
 report_leaves new o o₁ o' t f t' e n g l d = (d.0 ∙ ap₂ (draw_surface new no_mask) e l, d.1 ∙ ap₂ (draw_scratch new no_mask) n g)
 
 -- both: on surfaces of w bytes that hold a pattern
-module _ (full : Bool) (old new : List ℕ) (w r : ℕ) (s o : List ℕ) (a : Answer) (s' o' : List ℕ) (t' : List ℤ)
-    (at_first : s ≡ bytes 0 w) (other-first : o ≡ bytes 0 w) (length-first : length s ≡ w) (called : Called full old new s o r a s' o' t') where
-  answered : a ≡ call_answer full old new w r
-  answered = called.0 ∙ ap (λ (k : ℕ). call_answer full old new k r) length-first
+module _ (old : Option (List ℕ)) (new : List ℕ) (w r : ℕ) (s o : List ℕ) (a : Answer) (s' o' : List ℕ) (t' : List ℤ)
+    (at_first : s ≡ bytes 0 w) (other-first : o ≡ bytes 0 w) (length-first : length s ≡ w) (called : Called old new s o r a s' o' t') where
+  answered : a ≡ call_answer old new w r
+  answered = called.0 ∙ ap (λ (k : ℕ). call_answer old new k r) length-first
 
-  surface_left_lem : s' ≡ surface_left full old new w r
+  surface_left_lem : s' ≡ surface_left old new w r
   unfolding surface_left
-  surface_left_lem = called.1.0 ∙ ap (λ (z : List ℕ). call_surface full old new z r) at_first
+  surface_left_lem = called.1.0 ∙ ap (λ (z : List ℕ). call_surface old new z r) at_first
 
   pub accepted_leaves : (k j : ℕ) (o'' : List ℕ) (t'' : List ℤ) → a.code ≡ 0 → k ≡ w → j ≡ r
       → (o'' ≡ draw_surface new no_mask (bytes 85 k) j) × (t'' ≡ draw_scratch new no_mask k (numbers j))
-      → (s' ≡ surface_left full old new w r) × ((o'' ≡ other_left full old new w r) × (t'' ≡ scratch_left full old new w r))
+      → (s' ≡ surface_left old new w r) × ((o'' ≡ other_left old new w r) × (t'' ≡ scratch_left old new w r))
   unfolding other_left scratch_left
   accepted_leaves k j o'' t'' z e f d =
-      let q : is_accepted full old new w r ≡ true = eq-eqb _ 0 (sym (ap (λ (b : Answer). b.code) answered) ∙ z) in (
+      let q : is_accepted old new w r ≡ true = eq-eqb _ 0 (sym (ap (λ (b : Answer). b.code) answered) ∙ z) in (
         surface_left_lem,
         (
           rw q (d.0 ∙ ap₂ (λ (x y : ℕ). draw_surface new no_mask (bytes 85 x) y) e f),
@@ -76,27 +68,13 @@ module _ (full : Bool) (old new : List ℕ) (w r : ℕ) (s o : List ℕ) (a : An
         ),
       )
 
-  pub refused_leaves : (a.code ≡ 0 → ⊥) → (s' ≡ surface_left full old new w r) × ((o' ≡ other_left full old new w r) × (t' ≡ scratch_left full old new w r))
+  pub refused_leaves : (a.code ≡ 0 → ⊥) → (s' ≡ surface_left old new w r) × ((o' ≡ other_left old new w r) × (t' ≡ scratch_left old new w r))
   unfolding other_left scratch_left
   refused_leaves n =
-      let q : is_accepted full old new w r ≡ false = ne_eqb _ 0 (λ e. n (ap (λ (b : Answer). b.code) answered ∙ e)) in (
+      let q : is_accepted old new w r ≡ false = ne_eqb _ 0 (λ e. n (ap (λ (b : Answer). b.code) answered ∙ e)) in (
         surface_left_lem,
         (
-          rw q (called.1.1.0 ∙ ap (λ (z : List ℕ). call_other full old z r) other-first),
-          rw q (called.1.1.1 ∙ ap (λ (k : ℕ). call_scratch full old new k r) length-first),
+          rw q (called.1.1.0 ∙ ap (λ (z : List ℕ). call_other old z r) other-first),
+          rw q (called.1.1.1 ∙ ap (λ (k : ℕ). call_scratch old new k r) length-first),
         ),
       )
-
--- ---- buffers of which the first places are lent
-zero_off : (x : ℕ) → x - 0 ≡ x
-zero_off x = omega arith
-
-module _ {A : Type 0} (f : List ℕ → List ℕ → ℕ → ℕ → List A) (old new s : List ℕ) (t : List ℤ) (m n w r k : ℕ) where
-  pub lent_leaves : (q l : List A) → w ≤ length s → r ≤ length t
-      → q ≡ f (take (m - 0) old) (take (n - 0) new) (length (take (w - 0) s)) (length (take (r - 0) t)) → length q ≡ k - 0
-      → q ++ drop (k - 0) l ≡ over (f (take m old) (take n new) w r) l
-  lent_leaves q l a b e h =
-      let p : q ≡ f (take m old) (take n new) w r =
-      e ∙ ap₂ (λ (x y : ℕ). f (take x old) (take y new) (length (take (w - 0) s)) (length (take (r - 0) t))) (zero_off m) (zero_off n)
-      ∙ ap₂ (f (take m old) (take n new)) (part_length s 0 w (omega arith) a ∙ zero_off w) (part_length t 0 r (omega arith) b ∙ zero_off r) in
-      ap₂ (λ (z : List A) (j : ℕ). z ++ drop j l) p (sym h ∙ ap length p)

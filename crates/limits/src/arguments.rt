@@ -1,107 +1,125 @@
-// Calls as arguments give them. What is wrong with an argument is told on standard error, and then there is no call.
-ghost use Rattle.std.specs.Prelude.{◌+◌, ◌≤◌, ◌<◌, length};
-ghost use Rattle.limits.specs.Calls.{Sized};
+// Calls as arguments give them. An argument that is wrong ends the program.
+ghost use Rattle.std.specs.Prelude.{◌≡◌, ◌≤◌, ◌<◌, IfOk, vec_len};
+ghost use Rattle.limits.specs.Digits.{number_of, with_digit};
 
-use crate::words::{complain, number};
-use crate::{Call, SCRATCH_NUMBERS, SURFACE_BYTES};
-use console::files::load;
-use console::words::is_word;
+use crate::calls::Call;
+use console::arguments::Arguments;
+use console::errors::Stop;
+use console::files::read;
 
-// The call that starts at argument i, of the arguments before count. Its files are loaded.
-pub fn read_call(rt: &HostRuntime, i: usize, count: usize, old: &mut [u8], new: &mut [u8]) -> Call
-    requires { i < count }
-    ensures { Sized result (length old.new) (length new.new) }
+// The largest sizes.
+const SURFACE_BYTES: usize = 1048576;
+
+const SCRATCH_NUMBERS: usize = 16384;
+
+// The call that starts at argument i, with its files.
+pub fn read_call(rt: &HostRuntime, arguments: &Arguments, i: usize) -> Result<Call, Stop>
+    requires { i < vec_len arguments.now.all }
+    ensures { IfOk result (λ call. i < call.end) }
 {
-    if is_word(rt, i, b"draw") {
-        return read_draw(rt, i, count, new);
+    let rest = arguments.len() - i;
+    if arguments.is(i, b"draw") {
+        if rest < 4 {
+            return Err(wrong(rt, arguments, i, b" takes FILE SURFACE ROOM\n"));
+        }
+        let new = file(rt, arguments, i + 1)?;
+        sized(rt, arguments, i + 4, None, new)
+    } else if arguments.is(i, b"redraw") {
+        if rest < 5 {
+            return Err(wrong(rt, arguments, i, b" takes OLD NEW SURFACE ROOM\n"));
+        }
+        let old = file(rt, arguments, i + 1)?;
+        let new = file(rt, arguments, i + 2)?;
+        sized(rt, arguments, i + 5, Some(old), new)
+    } else {
+        Err(wrong(rt, arguments, i, b" is neither draw nor redraw\n"))
     }
-    if is_word(rt, i, b"redraw") {
-        return read_redraw(rt, i, count, old, new);
-    }
-    complain(rt, i, b" is neither draw nor redraw\n");
-    no_call()
 }
 
-fn read_draw(rt: &HostRuntime, i: usize, count: usize, new: &mut [u8]) -> Call
-    requires { i < count }
-    ensures { Sized result 0 (length new.new) }
-{
-    if count - i < 4 {
-        complain(rt, i, b" takes FILE SURFACE ROOM\n");
-        return no_call();
+// The file that argument i names.
+fn file(rt: &HostRuntime, arguments: &Arguments, i: usize) -> Result<Vec<u8>, Stop> {
+    match read(rt, arguments, i)? {
+        Some(file) => Ok(file),
+        None => Err(wrong(rt, arguments, i, b" is too long\n")),
     }
-    let n = load_file(rt, i + 1, new);
-    if n == new.len() {
-        return no_call();
-    }
-    sized(rt, i + 4, 0, n)
-}
-
-fn read_redraw(rt: &HostRuntime, i: usize, count: usize, old: &mut [u8], new: &mut [u8]) -> Call
-    requires { i < count }
-    ensures { Sized result (length old.new) (length new.new) }
-{
-    if count - i < 5 {
-        complain(rt, i, b" takes OLD NEW SURFACE ROOM\n");
-        return no_call();
-    }
-    let m = load_file(rt, i + 1, old);
-    if m == old.len() {
-        return no_call();
-    }
-    let n = load_file(rt, i + 2, new);
-    if n == new.len() {
-        return no_call();
-    }
-    sized(rt, i + 5, m, n)
-}
-
-// The length of the file that argument i names, or that of the buffer where there is none that fits.
-fn load_file(rt: &HostRuntime, i: usize, file: &mut [u8]) -> usize
-    ensures { result ≤ length file.new }
-{
-    let loaded = load(rt, i, file);
-    if !loaded.readable {
-        return file.len();
-    }
-    if loaded.length == file.len() {
-        complain(rt, i, b" is too long\n");
-    }
-    loaded.length
 }
 
 // The call with the sizes that its last two arguments are.
-fn sized(rt: &HostRuntime, end: usize, old: usize, new: usize) -> Call
+fn sized(
+    rt: &HostRuntime,
+    arguments: &Arguments,
+    end: usize,
+    old: Option<Vec<u8>>,
+    new: Vec<u8>,
+) -> Result<Call, Stop>
     requires { 2 ≤ end }
-    ensures { Sized result old new }
+    ensures { IfOk result (λ call. call.end ≡ end) }
 {
-    let surface = number(rt, end - 2);
-    if SURFACE_BYTES < surface {
-        complain(rt, end - 2, b" is not a number of bytes up to 1048576\n");
-        return no_call();
-    }
-    let scratch = number(rt, end - 1);
-    if SCRATCH_NUMBERS < scratch {
-        complain(rt, end - 1, b" is not a count of numbers up to 16384\n");
-        return no_call();
-    }
-    Call {
+    let surface = size(
+        rt,
+        arguments,
+        end - 2,
+        SURFACE_BYTES,
+        b" is not a number of bytes up to 1048576\n",
+    )?;
+    let scratch = size(
+        rt,
+        arguments,
+        end - 1,
+        SCRATCH_NUMBERS,
+        b" is not a count of numbers up to 16384\n",
+    )?;
+    Ok(Call {
         end,
         old,
         new,
         surface,
         scratch,
+    })
+}
+
+// The number that argument i is, which is at most so much.
+fn size(
+    rt: &HostRuntime,
+    arguments: &Arguments,
+    i: usize,
+    most: usize,
+    what: &[u8],
+) -> Result<usize, Stop>
+    ensures { IfOk result (λ n. n ≤ most) }
+{
+    match number(arguments.get(i).unwrap_or(b"")) {
+        Some(n) if n <= most => Ok(n),
+        _ => Err(wrong(rt, arguments, i, what)),
     }
 }
 
-fn no_call() -> Call
-    ensures { Sized result 0 0 }
+// The number that these bytes are, of nine digits at most behind its zeros.
+fn number(text: &[u8]) -> Option<usize>
+    ensures { result ≡ number_of text.now }
 {
-    Call {
-        end: 0,
-        old: 0,
-        new: 0,
-        surface: 0,
-        scratch: 0,
+    if text.is_empty() {
+        return None;
     }
+    let mut n = 0;
+    for &b in text {
+        n = more(n, b)?;
+    }
+    Some(n)
+}
+
+// A number with one more digit.
+fn more(n: usize, b: u8) -> Option<usize>
+    ensures { result ≡ with_digit n b }
+{
+    match b {
+        b'0'..=b'9' if n <= 99999999 => Some(n * 10 + (b - b'0') as usize),
+        _ => None,
+    }
+}
+
+// What is wrong with argument i.
+fn wrong(rt: &HostRuntime, arguments: &Arguments, i: usize, what: &[u8]) -> Stop {
+    let word = arguments.get(i).unwrap_or(b"");
+    Stop::wrong(rt.alloc(), &[b"limits: ".as_slice(), word, what])
 }

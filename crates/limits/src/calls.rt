@@ -1,60 +1,62 @@
 // The renderer's calls, and what they leave.
-ghost use Rattle.std.specs.Prelude.{◌≡◌, ◌-◌, ◌≤◌, ◌<◌, eqb, length, take};
-ghost use Rattle.lists.specs.Lists.{over};
+ghost use Rattle.std.specs.Prelude.{◌≡◌, ◌≤◌, length, option_map};
 ghost use Rattle.render.specs.Answers.{no_mask, draw_surface, draw_scratch};
-ghost use Rattle.limits.specs.Calls.{Sized, bytes, numbers, call_answer, call_surface, call_other, call_scratch, surface_left, other_left, scratch_left};
+ghost use Rattle.limits.specs.Calls.{bytes, numbers, call_answer, call_surface, call_other, call_scratch, surface_left, other_left, scratch_left};
 
-use crate::Call;
 use crate::patterns::{fill_bytes, fill_numbers, is_pattern, is_zero};
-use crate::words::print_words;
 use codes::ACCEPTED;
-use console::Line;
-use console::words::same_bytes;
+use console::arguments::Arguments;
+use console::errors::Stop;
+use console::output::told;
 use render::Answer;
 
-// Runs the call that starts at argument i, and prints its line. What it is not lent stays as it is.
-pub fn run(
-    rt: &HostRuntime,
-    i: usize,
-    c: Call,
-    old: &[u8],
-    new: &[u8],
-    surface: &mut [u8],
-    other: &mut [u8],
-    scratch: &mut [i32],
-)
-    requires i_lt_end { (i < c.end) × Sized c (length old.now) (length new.now) }
-    requires in_bounds { (1048576 ≤ length surface.old) × (1048576 ≤ length other.old) × (16384 ≤ length scratch.old) }
-    ensures surface_after { surface.new
-        ≡ over (surface_left (eqb (c.end - i) 4) (take c.old old.now) (take c.new new.now) c.surface c.scratch)
-        surface.old }
-    ensures other_after { other.new
-        ≡ over (other_left (eqb (c.end - i) 4) (take c.old old.now) (take c.new new.now) c.surface c.scratch)
-        other.old }
-    ensures scratch_after { scratch.new
-        ≡ over (scratch_left (eqb (c.end - i) 4) (take c.old old.now) (take c.new new.now) c.surface c.scratch)
-        scratch.old }
-{
-    let m = c.old;
-    let n = c.new;
-    let s = c.surface;
-    let r = c.scratch;
-    print_words(rt, i, c.end);
-    run_lent(
-        rt,
-        c.end - i == 4,
-        &old[0..m],
-        &new[0..n],
-        &mut surface[0..s],
-        &mut other[0..s],
-        &mut scratch[0..r],
-    );
+// A call: where its arguments end, its files, and the sizes of what it is lent. A drawing has no old file.
+#[derive(Drop)]
+pub struct Call {
+    pub end: usize,
+    pub old: Option<Vec<u8>>,
+    pub new: Vec<u8>,
+    pub surface: usize,
+    pub scratch: usize,
+    ghost sized: { (surface ≤ 1048576) × (scratch ≤ 16384) },
+}
+
+impl Call {
+    // Runs the call, which starts at argument i, and prints its line.
+    pub fn run(self, rt: &HostRuntime, arguments: &Arguments, i: usize) -> Result<(), Stop> {
+        let mut surface = vec![in rt.alloc(); 0u8; self.surface]?;
+        let mut other = vec![in rt.alloc(); 0u8; self.surface]?;
+        let mut scratch = vec![in rt.alloc(); 0i32; self.scratch]?;
+        print_words(rt, arguments, i, self.end);
+        let old = match &self.old {
+            Some(old) => Some(old.as_slice()),
+            None => None,
+        };
+        run_lent(
+            rt,
+            old,
+            self.new.as_slice(),
+            surface.as_mut_slice(),
+            other.as_mut_slice(),
+            scratch.as_mut_slice(),
+        );
+        Ok(())
+    }
+}
+
+// Prints the arguments of a call, with a space between two of them. Why these bytes cannot be written is told with the line's other part.
+fn print_words(rt: &HostRuntime, arguments: &Arguments, from: usize, to: usize) {
+    for i in from..to {
+        if from < i {
+            let _ = rt.write_all(b" ");
+        }
+        let _ = rt.write_all(arguments.get(i).unwrap_or(b""));
+    }
 }
 
 fn run_lent(
     rt: &HostRuntime,
-    full: bool,
-    old: &[u8],
+    old: Option<&[u8]>,
     new: &[u8],
     surface: &mut [u8],
     other: &mut [u8],
@@ -62,15 +64,15 @@ fn run_lent(
 )
     requires { length other.old ≡ length surface.old }
     ensures surface_after { surface.new
-        ≡ surface_left full old.now new.now (length surface.old) (length scratch.old) }
+        ≡ surface_left (option_map (λ o. o.now) old.entry) new.now (length surface.old) (length scratch.old) }
     ensures other_after { other.new
-        ≡ other_left full old.now new.now (length surface.old) (length scratch.old) }
+        ≡ other_left (option_map (λ o. o.now) old.entry) new.now (length surface.old) (length scratch.old) }
     ensures scratch_after { scratch.new
-        ≡ scratch_left full old.now new.now (length surface.old) (length scratch.old) }
+        ≡ scratch_left (option_map (λ o. o.now) old.entry) new.now (length surface.old) (length scratch.old) }
 {
     fill_bytes(surface, 0);
     fill_bytes(other, 0);
-    let answer = call(full, old, new, surface, other, scratch);
+    let answer = lend(old, new, surface, other, scratch);
     if answer.code == ACCEPTED {
         report_accepted(rt, answer, new, surface, other, scratch);
     } else {
@@ -79,38 +81,42 @@ fn run_lent(
 }
 
 // Leaves on the other surface what this one held before the call: a pattern, or the old scene's picture where it can be drawn.
-fn call(
-    full: bool,
-    old: &[u8],
+fn lend(
+    old: Option<&[u8]>,
     new: &[u8],
     surface: &mut [u8],
     other: &mut [u8],
     scratch: &mut [i32],
 ) -> Answer
-    ensures value { result ≡ call_answer full old.now new.now (length surface.old) (length scratch.old) }
-    ensures surface_after { surface.new ≡ call_surface full old.now new.now surface.old (length scratch.old) }
-    ensures other_after { other.new ≡ call_other full old.now other.old (length scratch.old) }
+    ensures value { result
+        ≡ call_answer (option_map (λ o. o.now) old.entry) new.now (length surface.old) (length scratch.old) }
+    ensures surface_after { surface.new
+        ≡ call_surface (option_map (λ o. o.now) old.entry) new.now surface.old (length scratch.old) }
+    ensures other_after { other.new
+        ≡ call_other (option_map (λ o. o.now) old.entry) other.old (length scratch.old) }
     ensures scratch_after { scratch.new
-        ≡ call_scratch full old.now new.now (length surface.old) (length scratch.old) }
+        ≡ call_scratch (option_map (λ o. o.now) old.entry) new.now (length surface.old) (length scratch.old) }
 {
-    if full {
-        fill_numbers(scratch);
-        return render::draw_unmasked(new, surface, scratch);
+    match old {
+        None => {
+            fill_numbers(scratch);
+            render::draw_unmasked(new, surface, scratch)
+        }
+        Some(old) => {
+            render::draw_unmasked(old, surface, scratch);
+            render::draw_unmasked(old, other, scratch);
+            fill_numbers(scratch);
+            render::redraw_unmasked(old, new, surface, scratch)
+        }
     }
-    render::draw_unmasked(old, surface, scratch);
-    render::draw_unmasked(old, other, scratch);
-    fill_numbers(scratch);
-    render::redraw_unmasked(old, new, surface, scratch)
 }
 
 fn report_refused(rt: &HostRuntime, a: Answer, surface: &[u8], other: &[u8], scratch: &[i32]) {
     print_line(
         rt,
         a,
-        same_bytes(surface, other),
-        b"kept",
-        is_pattern(scratch),
-        b"kept",
+        claim(surface == other, "kept"),
+        claim(is_pattern(scratch), "kept"),
     );
 }
 
@@ -126,51 +132,23 @@ fn report_accepted(
     ensures other_after { other.new ≡ draw_surface scene.now no_mask (bytes 85 (length other.old)) (length scratch.old) }
     ensures scratch_after { scratch.new ≡ draw_scratch scene.now no_mask (length other.old) (numbers (length scratch.old)) }
 {
-    let is_clear = is_zero(scratch);
+    let room = claim(is_zero(scratch), "zero");
     fill_bytes(other, 85);
     fill_numbers(scratch);
     render::draw_unmasked(scene, other, scratch);
-    print_line(
+    print_line(rt, a, claim(surface == other, "drawn"), room);
+}
+
+fn claim(holds: bool, word: &'static str) -> &'static str {
+    if holds { word } else { "WRONG" }
+}
+
+fn print_line(rt: &HostRuntime, a: Answer, surface: &str, room: &str) {
+    told(
         rt,
-        a,
-        same_bytes(surface, other),
-        b"drawn",
-        is_clear,
-        b"zero",
+        println!(rt;
+            ": {:04x} {} {} {} {} {} {}, surface {surface}, room {room}",
+            a.code, a.draw, a.scene, a.x, a.y, a.width, a.height
+        ),
     );
-}
-
-fn print_line(
-    rt: &HostRuntime,
-    a: Answer,
-    surface: bool,
-    surface_word: &[u8],
-    scratch: bool,
-    scratch_word: &[u8],
-) {
-    let numbers = answer_line(a).byte(b',').word(b"surface");
-    let drawn = claim(numbers, surface, surface_word)
-        .byte(b',')
-        .word(b"room");
-    claim(drawn, scratch, scratch_word).print(rt);
-}
-
-fn answer_line(a: Answer) -> Line {
-    Line::new()
-        .byte(b':')
-        .hex(a.code as u64)
-        .decimal(a.draw as u64)
-        .decimal(a.scene as u64)
-        .decimal(a.x as u64)
-        .decimal(a.y as u64)
-        .decimal(a.width as u64)
-        .decimal(a.height as u64)
-}
-
-fn claim(l: Line, holds: bool, word: &[u8]) -> Line {
-    if holds {
-        l.word(word)
-    } else {
-        l.word(b"WRONG")
-    }
 }
