@@ -1,14 +1,13 @@
 -- Starts and parts of a run, and answers as numbers.
-use mathlib.Core.Path.{◌≡◌, refl, sym, ap, ◌∙◌}
+use mathlib.Core.Path.{◌≡◌, refl, ap}
 use mathlib.Core.List.{List, [], ◌∷◌, ◌++◌}
 use mathlib.Core.Logic.{⊎_elim}
 use Prim.Native.Nat.{ℕ, zero, suc, ◌+◌, ◌-◌, ◌≤◌, ◌<◌}
 use native.Mathlib.Nat.{eq-or-lt_of_le, le_of_suc-le-suc}
 use native.Mathlib.Numerals.{add-one}
 use native.Mathlib.Omega.{arith}
-use lib.ListN.{length, get_or, set, take, drop}
+use lib.ListN.{length, get_or, take, drop}
 use Rattle.lists.specs.Lists.{total}
-use Rattle.lists.proofs.Laws.{over_put, over_all}
 use Rattle.render.specs.declared.Answer.{Answer}
 use Rattle.playback.specs.Replay.{start_of, scene_at, numbers_of, numbers_all, codes_of}
 use Rattle.playback.specs.Carrying.{scene_of}

@@ -1,7 +1,7 @@
 -- A turn of the replay's loop: the state after i + 1 scenes is the next of the state after i.
 use mathlib.Core.Path.{◌≡◌, refl, sym, ap, ◌∙◌}
 use mathlib.Core.List.{List, [], ◌∷◌, ◌++◌, foldl-append}
-use mathlib.Core.Bool.{Bool, true, false, cond, true≢false}
+use mathlib.Core.Bool.{Bool, true, false, cond}
 use Prim.Native.Nat.{ℕ, ◌+◌, ◌*◌, ◌≤◌, ◌<◌}
 use native.Mathlib.Omega.{arith}
 use lib.Dec.{eqb}
@@ -19,7 +19,7 @@ use Rattle.context.proofs.Codes.{keep_none, first_of_both}
 use Rattle.playback.specs.declared.Carried.{Carried}
 use Rattle.playback.specs.declared.Part.{Part}
 use Rattle.playback.specs.Replay.{start_of, scene_at, first_scenes, Shown, nothing, scene, next_answer, next_surface, next_scratch}
-use Rattle.playback.specs.Replay.{State, answer_in, next, replayed, started, state_at, end_of, numbers_of, numbers_all, codes_of}
+use Rattle.playback.specs.Replay.{State, answer_in, next, replayed, started, state_at, numbers_of, numbers_all, codes_of}
 use Rattle.playback.specs.Carrying.{scene_of, shown_of, carried_on, Fits, Lies}
 use Rattle.playback.proofs.Runs.{start_more, scene_ends, part_is_scene, numbers_more, codes_more}
 

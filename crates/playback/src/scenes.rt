@@ -138,14 +138,7 @@ fn show(
         (length surface.old) scratch.old }
 {
     match last {
-        Some(old) => render::redraw_from(
-            old.of(run),
-            part.of(run),
-            masked,
-            mask,
-            surface,
-            scratch,
-        ),
+        Some(old) => render::redraw_from(old.of(run), part.of(run), masked, mask, surface, scratch),
         None => render::draw(part.of(run), masked, mask, surface, scratch),
     }
 }
