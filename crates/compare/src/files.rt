@@ -22,7 +22,11 @@ pub struct Picture<'a> {
 }
 
 impl<'a> Picture<'a> {
-    pub fn open(rt: &HostRuntime, arguments: &'a Arguments, argument: usize) -> Result<Picture<'a>, Stop> {
+    pub fn open(
+        rt: &HostRuntime,
+        arguments: &'a Arguments,
+        argument: usize,
+    ) -> Result<Picture<'a>, Stop> {
         let source = Source::open(rt, arguments, argument)?;
         Ok(Picture {
             arguments,
@@ -70,7 +74,12 @@ impl<'a> Picture<'a> {
         if !self.fill(rt, text.as_mut_slice())? {
             return Err(self.damaged(rt, line, "the picture ends before this row does"));
         }
-        if !row_pixels(text.as_slice(), width, row.as_mut_slice(), again.as_mut_slice()) {
+        if !row_pixels(
+            text.as_slice(),
+            width,
+            row.as_mut_slice(),
+            again.as_mut_slice(),
+        ) {
             return Err(self.damaged(
                 rt,
                 line,
@@ -103,7 +112,14 @@ impl<'a> Picture<'a> {
         let number = InlineText::<20>::of(line);
         Stop::wrong(
             rt.alloc(),
-            &[name, b":", number.as_str().as_bytes(), b": ", what.as_bytes(), b"\n"],
+            &[
+                name,
+                b":",
+                number.as_str().as_bytes(),
+                b": ",
+                what.as_bytes(),
+                b"\n",
+            ],
         )
     }
 }

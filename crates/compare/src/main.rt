@@ -10,10 +10,10 @@
 mod files;
 mod texts;
 
-ghost use Rattle.std.specs.Prelude.{◌≡◌, ◌≤◌};
+ghost use Rattle.std.specs.Prelude.{◌≤◌, IsOk};
 
 use crate::files::Picture;
-use codes::{ILLEGAL_ARGUMENT, UNSUPPORTED_IMAGE_FORMAT};
+use codes::Code;
 use console::arguments::Arguments;
 use console::errors::{Stop, finish};
 use console::output::told;
@@ -49,18 +49,31 @@ fn compare(rt: &HostRuntime) -> Result<(), Stop> {
 }
 
 // The sizes are judged before any row is read.
-fn compare_sizes(rt: &HostRuntime, first: &mut Picture<'_>, second: &mut Picture<'_>) -> Result<(), Stop> {
+fn compare_sizes(
+    rt: &HostRuntime,
+    first: &mut Picture<'_>,
+    second: &mut Picture<'_>,
+) -> Result<(), Stop> {
     let a = first.read_size(rt)?;
     let b = second.read_size(rt)?;
-    if !difference::is_allowed(a.width, a.height) || !difference::is_allowed(b.width, b.height) {
-        print_refusal(rt, ILLEGAL_ARGUMENT);
-        return Ok(());
-    }
-    if a != b {
-        print_refusal(rt, UNSUPPORTED_IMAGE_FORMAT);
+    if let Err(code) = judge(a, b) {
+        print_refusal(rt, code);
         return Ok(());
     }
     compare_rows(rt, first, second, a.width as usize, a.height as usize)
+}
+
+// A size that no picture has, then two that differ.
+fn judge(a: Size, b: Size) -> Result<(), Code>
+    ensures { IsOk result → (a.width ≤ 1024) × (a.height ≤ 1024) }
+{
+    if !difference::is_allowed(a.width, a.height) || !difference::is_allowed(b.width, b.height) {
+        return Err(Code::IllegalArgument);
+    }
+    if a != b {
+        return Err(Code::UnsupportedImageFormat);
+    }
+    Ok(())
 }
 
 // From the top row, on line 2, down. Both must end behind the last.
@@ -85,8 +98,8 @@ fn compare_rows(
     Ok(())
 }
 
-fn print_refusal(rt: &HostRuntime, code: u32) {
-    told(rt, println!(rt; "refused {code:04x}"));
+fn print_refusal(rt: &HostRuntime, code: Code) {
+    told(rt, println!(rt; "refused {:04x}", code.number()));
 }
 
 fn print_comparison(rt: &HostRuntime, c: Comparison) {
@@ -94,7 +107,8 @@ fn print_comparison(rt: &HostRuntime, c: Comparison) {
     told(
         rt,
         println!(rt;
-            "{verdict} {} {} {} {} {} {} {}", c.count, c.x, c.y, c.width, c.height, c.largest, c.least
+            "{verdict} {} {} {} {} {} {} {}",
+            c.count, c.x, c.y, c.width, c.height, c.largest, c.least
         ),
     );
 }

@@ -1,5 +1,4 @@
 use mathlib.Core.Path.{◌≡◌}
-use Prim.Native.Nat.{ℕ}
 use Rattle.lists.specs.Lists.{tab, over}
 use Rattle.compare.specs.Texts.{byte_read}
 use Rattle.compare.proofs.texts.decode.Given as goal
