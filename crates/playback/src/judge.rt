@@ -1,5 +1,5 @@
 // Whether a whole replay is refused.
-ghost use Rattle.std.specs.Prelude.{◌≡◌, ◌≤◌, ◌<◌, length};
+ghost use Rattle.std.specs.Prelude.{◌≡◌, ◌≤◌, length};
 ghost use Rattle.codes.specs.Number.{number_told};
 ghost use Rattle.playback.specs.Replay.{start_of, most_scenes, replay_code};
 
@@ -34,10 +34,4 @@ fn sum(lengths: &[u32]) -> usize
         s += lengths[i] as usize;
     }
     s
-}
-
-pub fn wide(n: u32) -> usize
-    ensures { (result ≡ n) × (result < 4294967296) }
-{
-    n as usize
 }
