@@ -4,12 +4,8 @@ use mathlib.Core.Logic.{⊎_elim}
 use Prim.Native.Nat.{ℕ, zero, suc, ◌+◌, ◌<◌}
 use native.Mathlib.Nat.{eq-or-lt_of_le, le_of_suc-le-suc, not-suc-le-zero}
 use native.Mathlib.Numerals.{add-one}
-use borrow.Author.Tests.{ne_eqb}
 use Rattle.std.specs.Prelude.{Result, Ok, Err}
-use Rattle.codes.specs.declared.Code.{Code}
-use Rattle.codes.specs.First.{sooner, soonest, first_of, first_among}
-use Rattle.codes.specs.Number.{number_of, number_told}
-use Rattle.codes.proofs.Refusals.{refuses, number_refuses}
+use Rattle.codes.specs.First.{first_of, first_among}
 
 -- ---- of two
 module _ {E : Type 0} where
@@ -37,14 +33,3 @@ module _ {E : Type 0} where
   pub among_same : (f g : ℕ → Result Unit E) (n : ℕ) → ((i : ℕ) → f i ≡ g i) → first_among n f ≡ first_among n g
   among_same f g zero h = refl
   among_same f g (suc n) h = rw (among_same f g n h, h n)
-
-  -- the first by its number is the first
-  pub sooner_told : (code : E → Code) (f g : Result Unit E) → sooner (number_told code) f g ≡ first_of f g
-  sooner_told code (Ok u) g = refl
-  sooner_told code (Err e) g =
-      let e0 = ne_eqb (number_of (code e)) 0 (refuses (number_of (code e)) (number_refuses (code e))) in
-      rw e0
-
-  pub soonest_told : (code : E → Code) (n : ℕ) (f : ℕ → Result Unit E) → soonest (number_told code) (Ok tt) n f ≡ first_among n f
-  soonest_told code zero f = refl
-  soonest_told code (suc n) f = rw (soonest_told code n f) (sooner_told code (first_among n f) (f n))

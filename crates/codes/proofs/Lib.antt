@@ -1,6 +1,6 @@
 -- Laws of codes:
 --     Refusals   a refusal's code is not 0
---     First      the first of several: each before it is none, and a loop that looks for it
+--     First      the first of two: each before it is none
 --     Judged     the first refusal of several judgements, and that all accept
 --     Coded      what holds of the code of each holds of the code of the first
 pub mod Refusals

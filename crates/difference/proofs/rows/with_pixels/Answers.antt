@@ -32,7 +32,8 @@ loop-x-preserved-then-ne c =
     c.with_pixel-found.ensures
     ∙ ap (with_pixel a.width a.y (l.x - 1)) l.invariant
     ∙ sym (noted (omega arith) (omega arith)
-    (differs_is a.a.now a.b.now (l.x - 1) c.pixel.result c.pixel-in-loop-x.result c.ne.result c.ne.ensures c.pixel.ensures c.pixel-in-loop-x.ensures ∙ c.if-ne.true))
+    (differs_is a.a.now a.b.now (l.x - 1) c.pixel.result c.pixel-in-loop-x.result c.ne.result c.ne.ensures
+    c.pixel.ensures c.pixel-in-loop-x.ensures ∙ c.if-ne.true))
 
 pub loop-x-preserved : goal.loop-x-preserved
 unfolding same_pixel
@@ -42,7 +43,8 @@ loop-x-preserved c =
     let same = pixel_same a.width a.y a.a.now a.b.now a.f (l.x - 1) l.x (a.width - (l.x - 1)) (a.width - l.x) in
     l.invariant
     ∙ sym (same (omega arith) (omega arith)
-    (differs_is a.a.now a.b.now (l.x - 1) c.pixel.result c.pixel-in-loop-x.result c.ne.result c.ne.ensures c.pixel.ensures c.pixel-in-loop-x.ensures ∙ c.if-ne.false))
+    (differs_is a.a.now a.b.now (l.x - 1) c.pixel.result c.pixel-in-loop-x.result c.ne.result c.ne.ensures
+    c.pixel.ensures c.pixel-in-loop-x.ensures ∙ c.if-ne.false))
 
 pub returns : goal.returns
 returns c =
