@@ -1,10 +1,11 @@
 // The program's arguments, as the bytes that they are.
-ghost use Rattle.std.specs.Prelude.{◌≡◌, ◌≤◌, ◌↔◌, length, vec_len, IsTrue, IfOk};
+ghost use Rattle.std.specs.Prelude.{◌≡◌, ◌↔◌, vec_len, IsTrue, IfOk};
 
-use crate::errors::{INVALID, NAME_TOO_LONG, NO_TEXT};
+use crate::errors::{INVALID, NAME_TOO_LONG};
+use crate::files::name_text;
 use std::alloc::{AllocError, Global};
 use std::env::{Env, FillError};
-use std::{io, str};
+use std::io;
 
 // The longest that a file's name may be.
 pub const NAME_LIMIT: usize = 4096;
@@ -67,10 +68,7 @@ impl Arguments {
     // Argument i as the name of a file, which is text.
     pub fn name(&self, i: usize) -> io::Result<&str> {
         match self.all.get(i) {
-            Some(Word::Whole(word)) => match str::from_utf8(word.as_slice()) {
-                Ok(name) => Ok(name),
-                Err(_) => Err(io::Error::from_raw_os_error(NO_TEXT)),
-            },
+            Some(Word::Whole(word)) => name_text(word.as_slice()),
             Some(Word::Start(_)) => Err(io::Error::from_raw_os_error(NAME_TOO_LONG)),
             None => Err(io::Error::from_raw_os_error(INVALID)),
         }
@@ -101,39 +99,4 @@ pub fn copy(alloc: Global, bytes: &[u8]) -> Result<Vec<u8>, AllocError>
     let mut copy = Vec::new(alloc);
     copy.extend_from_slice(bytes)?;
     Ok(copy)
-}
-
-// 4,096 zeros, which hold any file's name.
-pub fn buffer() -> [u8; 4096]
-    ensures { length result ≡ 4096 }
-{
-    [0; 4096]
-}
-
-// Puts argument i at the start of the buffer and returns its length, or 0 where it is missing or longer than the buffer. One that is too long
-// leaves its first bytes there.
-pub fn argument(rt: &HostRuntime, i: usize, text: &mut [u8]) -> usize
-    ensures { result ≤ length text.new }
-{
-    match rt.arg(i, text) {
-        Ok(n) => n,
-        Err(_) => 0,
-    }
-}
-
-// How many arguments the program was started with, its own name among them.
-pub fn argument_count(rt: &HostRuntime) -> usize {
-    for i in 0..usize::MAX {
-        if !is_given(rt, i) {
-            return i;
-        }
-    }
-    usize::MAX
-}
-
-fn is_given(rt: &HostRuntime, i: usize) -> bool {
-    match rt.arg(i, &mut []) {
-        Err(FillError::NotPresent) => false,
-        _ => true,
-    }
 }

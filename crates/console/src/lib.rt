@@ -5,24 +5,8 @@
 pub mod arguments;
 pub mod errors;
 pub mod files;
-pub mod lines;
 pub mod numbers;
 pub mod output;
 pub mod pictures;
 pub mod sizes;
 pub mod usage;
-pub mod words;
-
-// What became of a file: whether it could be read, and how many of its bytes stand in the buffer. One that fills the buffer is too long.
-#[derive(Clone, Copy)]
-pub struct Loaded {
-    pub readable: bool,
-    pub length: usize,
-}
-
-// A line of output that is put together from left to right. What does not fit is left out.
-#[derive(Clone, Copy)]
-pub struct Line {
-    pub bytes: [u8; 160],
-    pub length: usize,
-}
