@@ -125,7 +125,7 @@ pub fn over_255(n: u16) -> u8
     ((m + (m >> 8)) >> 8) as u8
 }
 
-// v cut to 0..1.
+// v cut to 0..1, and a NaN to 0, as `clamped` says it; std's clamp keeps a NaN.
 fn clamp(v: f32) -> f32
     ensures { result ≡ clamped v }
 {
