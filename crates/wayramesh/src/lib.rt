@@ -1,7 +1,6 @@
 // The C interface: include/wayramesh.h tells a C caller what these functions take and answer. Each draw, redraw and replay notes its code in the context.
 #![tactic(auto)]
 
-pub mod calls;
 pub mod explain;
 pub mod planned;
 pub mod release;
@@ -43,8 +42,8 @@ pub extern "C" fn wayramesh_draw(
         ≡ noted context.old (draw_answer scene.now (mask_of (not (eqb lent 0)) mask.now)
         (length surface.old) (length scratch.old)).code))) }
 {
-    let answer = calls::draw(scene, lent, mask, surface, scratch);
-    context::note(context, answer.code);
+    let answer = render::draw(scene, lent != 0, mask, surface, scratch);
+    context.note(answer.code);
     answer
 }
 
@@ -72,8 +71,8 @@ pub extern "C" fn wayramesh_redraw(
         ≡ noted context.old (redraw_answer old.now new.now (mask_of (not (eqb lent 0)) mask.now)
         (length surface.old) (length scratch.old)).code))) }
 {
-    let answer = calls::redraw(old, new, lent, mask, surface, scratch);
-    context::note(context, answer.code);
+    let answer = render::redraw(old, new, lent != 0, mask, surface, scratch);
+    context.note(answer.code);
     answer
 }
 
@@ -102,8 +101,8 @@ pub extern "C" fn wayramesh_redraw_regions(
         ≡ noted context.old (regions_answer old.now new.now (mask_of (not (eqb lent 0)) mask.now)
         rectangles.now (length surface.old) (length scratch.old)).code))) }
 {
-    let answer = calls::redraw_regions(old, new, lent, mask, rectangles, surface, scratch);
-    context::note(context, answer.code);
+    let answer = regions::redraw_regions(old, new, lent != 0, mask, rectangles, surface, scratch);
+    context.note(answer.code);
     answer
 }
 
@@ -122,8 +121,8 @@ pub extern "C" fn wayramesh_redraw_planned(
         result surface.new scratch.new)
         × (context.new ≡ noted context.old result.code) }
 {
-    let answer = calls::redraw_planned(old, new, lent, mask, surface, scratch);
-    context::note(context, answer.code);
+    let answer = planner::redraw_planned(old, new, lent != 0, mask, surface, scratch);
+    context.note(answer.code);
     answer
 }
 
@@ -156,8 +155,8 @@ pub extern "C" fn wayramesh_replay(
         ≡ noted context.old (replay_answer scenes.now lengths.now (mask_of (not (eqb lent 0)) mask.now)
         surface.old scratch.old (length answers.old)).first)))) }
 {
-    let answer = calls::replay(scenes, lengths, lent, mask, surface, scratch, answers);
-    context::note(context, answer.first);
+    let answer = playback::replay(scenes, lengths, lent != 0, mask, surface, scratch, answers);
+    context.note(answer.first);
     answer.code
 }
 
@@ -166,7 +165,7 @@ pub extern "C" fn wayramesh_replay(
 pub extern "C" fn wayramesh_take_code(context: &mut Context) -> u32
     ensures { (result ≡ context.old.code) × (context.new ≡ fresh) }
 {
-    context::take(context)
+    context.take()
 }
 
 // Draws a scene in full with the plain engine: the same answer, the same bytes, in more time.
