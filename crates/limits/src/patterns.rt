@@ -1,8 +1,7 @@
 // Patterns in buffers, and what buffers hold.
 ghost use Rattle.std.specs.Prelude.{◌≡◌, ◌<◌, ℕ, ℤ, length, pos};
 ghost use Rattle.lists.specs.Lists.{tab};
-ghost use Rattle.console.specs.Words.{Tells};
-ghost use Rattle.limits.specs.Patterns.{pattern_byte, pattern_number, Rule};
+ghost use Rattle.limits.specs.Patterns.{pattern_byte, pattern_number, Rule, Tells};
 
 // A pattern of bytes, another one for each phase.
 pub fn fill_bytes(s: &mut [u8], phase: u8)
