@@ -74,11 +74,9 @@ fn paint_draws(
         surface.old }
 {
     let edition = scene::header::edition(scene);
-    let mut i = 0;
-    while i < count {
+    for i in 0..count {
         scene::blocks::read_draw(scene, i, d);
         paint_draw(surface, scratch, mask, d, edition, target);
-        i += 1;
     }
 }
 

@@ -278,9 +278,7 @@ fn draw_rect(
     let listed = fill.listed;
     let x = target.area.x0;
     let length = target.area.x1 - x;
-    let y1 = target.area.y1;
-    let mut y = target.area.y0;
-    while y < y1 {
+    for y in target.area.y0..target.area.y1 {
         let r = raster::row_bytes(target, y);
         let from = r.from;
         let to = r.to;
@@ -302,7 +300,6 @@ fn draw_rect(
                 listed,
             },
         );
-        y += 1;
     }
 }
 

@@ -104,14 +104,12 @@ fn covered_from(runs: &[u16], j: usize, n: usize) -> usize
     requires { (j ≤ n) × (n ≤ length runs.now) }
     ensures { Uncovered runs.now j result × (result ≤ n) }
 {
-    let mut r = j;
-    while r < n {
+    for r in j..n {
         if runs[r] % 32 != 0 {
             return r;
         }
-        r += 1;
     }
-    r
+    n
 }
 
 // The first run after j of which no sample is covered, or n.
@@ -119,14 +117,12 @@ fn covered_to(runs: &[u16], j: usize, n: usize) -> usize
     requires { (j < n) × (n ≤ length runs.now) }
     ensures { (j < result) × (result ≤ n) }
 {
-    let mut r = j + 1;
-    while r < n {
+    for r in j + 1..n {
         if runs[r] % 32 == 0 {
             return r;
         }
-        r += 1;
     }
-    r
+    n
 }
 
 // A part of the row, some of its runs, lent as its bytes.

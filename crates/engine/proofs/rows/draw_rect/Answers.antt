@@ -104,15 +104,6 @@ draw_row-requires c =
       mask_for = (through c.before.before.before.before.before.before).long;
     }
 
-pub overflow_add-y : goal.overflow_add-y
-overflow_add-y c =
-    let placed = c.requires.part.0.placed in
-    record { fits = omega (arith, placed.high, placed.on.high, c.loop-y-test.true) }
-
-pub loop-y-smaller : goal.loop-y-smaller
-loop-y-smaller c =
-    omega (arith, c.loop-y-test.true)
-
 pub loop-y-preserved : goal.loop-y-preserved
 loop-y-preserved c =
     let call = c.draw_row in

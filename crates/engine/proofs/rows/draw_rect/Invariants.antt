@@ -17,5 +17,3 @@ invariant-loop-y l =
     l.surface
     × (l.scratch ≡ l.initial.scratch) × (length l.buffer ≡ length l.initial.buffer) × (length l.runs ≡ length l.initial.runs)
 
-abbrev pub decreases-loop-y : goal.decreases-loop-y
-decreases-loop-y l = l.y1 - l.y

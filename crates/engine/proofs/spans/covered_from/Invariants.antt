@@ -7,5 +7,3 @@ use Rattle.engine.proofs.spans.covered_from.Given as goal
 abbrev pub invariant-loop-r : goal.invariant-loop-r
 invariant-loop-r l = Uncovered l.runs l.j l.r × (l.r ≤ l.n)
 
-abbrev pub decreases-loop-r : goal.decreases-loop-r
-decreases-loop-r l = l.n - l.r
