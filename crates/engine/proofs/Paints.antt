@@ -6,6 +6,7 @@ use Prim.Native.Nat.{ℕ, ◌*◌, ◌≤◌, ◌<◌}
 use native.Mathlib.Omega.{arith}
 use lib.Dec.{eqb}
 use lib.ListN.{length, drop, length-take, length-drop}
+use Rattle.std.specs.Bool.{then_some}
 use Rattle.color.specs.declared.Color.{Color}
 use Rattle.color.specs.declared.Pixel.{Pixel}
 use Rattle.color.specs.Channels.{bytes_of_color, premultiplied, UnderAlpha}
@@ -20,6 +21,8 @@ use Rattle.blend.specs.Spans.{hides, four_of, masked_pixel}
 use Rattle.blend.proofs.Masks.{masked_step}
 use Rattle.blend.proofs.Shortcuts.{hiding_replaces}
 use Rattle.path.specs.declared.Edge.{Edge}
+use Rattle.coverage.specs.Winding.{coverage}
+use Rattle.coverage.specs.Scissors.{scissored}
 use Rattle.paint.specs.declared.AnyGradient.TheVariants as gradient
 use Rattle.paint.specs.declared.LinearGradient.{LinearGradient}
 use Rattle.paint.specs.declared.LinearPoints.{LinearPoints}
@@ -43,7 +46,10 @@ use Rattle.scene.specs.Fields.{
   first_stop_at,
   stops_of,
   stop_count,
+  scissoring,
   scissors_of,
+  scissor_count,
+  non_zero_rule,
   blend_of,
 }
 use Rattle.scene.specs.Rules.{stop_limit_of}
@@ -57,7 +63,7 @@ use Rattle.engine.specs.declared.Tint.TheVariants.{Plain, Transformed}
 use Rattle.engine.specs.declared.Shade.{Shade}
 use Rattle.engine.specs.declared.Shade.TheVariants.{Solid, Gradient}
 use Rattle.engine.specs.declared.Style.{Style}
-use Rattle.engine.specs.Rows.{coverage_with, step_with, tinted_by, shade_at, style_of, in_mode, SameBlend, Tints, MadeLinear, MadeRadial, Shades}
+use Rattle.engine.specs.Rows.{Few, scissored_by, coverage_with, step_with, tinted_by, shade_at, style_of, in_mode, SameBlend, Tints, MadeLinear, MadeRadial, Shades}
 use Rattle.engine.specs.Background.{HidingPaint}
 use Rattle.engine.proofs.Unclamped.{drawn_under}
 
@@ -110,13 +116,25 @@ as_src mode k m s p u l h =
 pub hiding_as_src : (mode : ℕ) (paint : ℕ → ℕ → Pixel) → HidingPaint mode paint → SameBlend mode_src mode paint
 hiding_as_src mode paint h x y k m p u = as_src mode k m (paint x y) p u (h x y).1 (h x y).0
 
+-- scissors where they are on
+pub few_chosen : (t : Bool) (n : ℕ) → n ≤ 4 → Few (then_some t n)
+few_chosen true n h = h
+few_chosen false n h = tt
+
+cut_chosen : (t : Bool) (n : ℕ) (scissors : List ℕ) (x y k : ℕ) → scissored_by (then_some t n) scissors x y k ≡ scissored t scissors n x y k
+unfolding scissored
+cut_chosen true n scissors x y k = refl
+cut_chosen false n scissors x y k = refl
+
 module _ (d : List ℕ) (n mode : ℕ) (shade : Shade) (ramp : List ℕ) (paint : (x y : ℕ) → shade_at shade ramp x y ≡ draw_paint d x y)
     (same : SameBlend mode (blend_of d) (shade_at shade ramp)) where
   own_step : (es : List Edge) (mask : ℕ → ℕ → ℕ) (x y : ℕ) (q : Pixel)
       → step_with (in_mode (style_of d n shade) mode) es (scissors_of d) ramp (mask x y) x y q ≡ unclamped_of es d mask x y q
   unfolding step_with coverage_with unclamped_of coverage_of draw_mask
   own_step es mask x y q =
-      same x y (coverage_of es d x y) (draw_mask d mask x y) q (subst UnderAlpha (sym (paint x y)) (drawn_under d x y))
+      ap (λ (k : ℕ). composite_on mode k (draw_mask d mask x y) (shade_at shade ramp x y) q)
+      (cut_chosen (scissoring d) (scissor_count d) (scissors_of d) x y (coverage es (non_zero_rule d) x y))
+      ∙ same x y (coverage_of es d x y) (draw_mask d mask x y) q (subst UnderAlpha (sym (paint x y)) (drawn_under d x y))
       ∙ ap (λ (p : Pixel). composite_on (blend_of d) (coverage_of es d x y) (draw_mask d mask x y) p q) (paint x y)
 
   pub own_steps : (t : Target) (es fs : List Edge) (mask : ℕ → ℕ → ℕ) (s r : List ℕ) (style : Style) (scissors : List ℕ)

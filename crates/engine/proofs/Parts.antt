@@ -1,5 +1,5 @@
 -- A row of a gradient, part after part: the pixels between two parts are not covered, and stay as they are.
-use mathlib.Core.Path.{◌≡◌, sym, ap, subst, ◌∙◌}
+use mathlib.Core.Path.{◌≡◌, refl, sym, ap, subst, ◌∙◌}
 use mathlib.Core.List.{List, ◌++◌}
 use Prim.Native.Nat.{ℕ, ◌+◌, ◌-◌, ◌*◌, ◌≤◌, ◌<◌}
 use native.Mathlib.Omega.{arith}
@@ -16,6 +16,7 @@ use Rattle.raster.proofs.Runs.{run_same, run_is, stored_all, stored_part, part_p
 use Rattle.blend.specs.PorterDuff.{composite_on}
 use Rattle.blend.specs.Rows.{Coverage, composite_row}
 use Rattle.blend.proofs.Masks.{uncovered_masked}
+use Rattle.engine.specs.Rows.{RowCoverage}
 use Rattle.engine.specs.Spans.{Uncovered}
 use Rattle.engine.proofs.RowLaws.{first_of, first_part}
 
@@ -23,6 +24,11 @@ use Rattle.engine.proofs.RowLaws.{first_of, first_part}
 pub uncovered_more : (runs : List ℕ) (j e : ℕ) → Uncovered runs j e → level_of runs e ≡ 0 → Uncovered runs j (e + 1)
 uncovered_more runs j e t q =
     (omega (arith, t.0), λ i a b. below_more (λ i. j ≤ i → level_of runs i ≡ 0) e (λ i b a. t.1 i a b) (λ a. q) i b a)
+
+-- where a part of a row of w pixels begins and ends
+pub part_within : (runs : List ℕ) (w from to : ℕ) → RowCoverage w runs → from ≤ to → to ≤ length runs
+    → (start_of runs from ≤ start_of runs to) × (start_of runs to ≤ w)
+part_within runs w from to r a b = (starts_rise runs (length runs) r.0.rises from to a b, first_within runs (length runs) w r.0 to b)
 
 -- a part of a row from a to e, whose paint q is given back at the start of the buffer
 pub part_row : (mode x a e s t : ℕ) (ks q rest row r : List ℕ) (f : ℕ → Pixel) → a ≡ s → e ≡ t → length q ≡ (e - a) * 4
@@ -68,12 +74,6 @@ stepped mode ks paint d j = composite_on mode (get_or ks j 0) 255 (paint j) (pix
 
 -- a row of w pixels by its n runs
 module _ (runs : List ℕ) (n w : ℕ) (r : Runs runs n w) where
-  -- k's that are at most 16 are so in the first m runs
-  pub first_covered : Coverage (expand runs n) → (m : ℕ) → m ≤ n → Coverage (expand runs m)
-  first_covered h m k i l =
-      let b : i < start_of runs m = omega (arith, l, first_length runs n w r m k) in
-      subst (λ (z : ℕ). z ≤ 16) (first_at runs n w r m i k b) (h i (omega (arith, b, first_within runs n w r m k, runs_length runs n w r)))
-
   module _ (mode : ℕ) (paint : ℕ → Pixel) (d : List ℕ) (fits : length d ≡ w * 4) where
     -- up to the next run that is covered
     pub stored_past : (s : List ℕ) (j : ℕ) → Stored (stepped mode (expand runs n) paint d) d (start_of runs j) s → (m : ℕ) → Uncovered runs j m → m ≤ n
@@ -86,17 +86,14 @@ module _ (runs : List ℕ) (n w : ℕ) (r : Runs runs n w) where
     pub stored_through : (s : List ℕ) (j m a e : ℕ) → a ≡ start_of runs j → e ≡ start_of runs m
         → Stored (stepped mode (expand runs n) paint d) d (start_of runs j) s → (q : List ℕ) → j ≤ m → m ≤ n
         → q ≡ run (start_of runs m - start_of runs j)
-        (λ i. composite_on mode (get_or (expand runs m) (start_of runs j + i) 0) 255 (paint (start_of runs j + i))
+        (λ i. composite_on mode (get_or (expand runs n) (start_of runs j + i) 0) 255 (paint (start_of runs j + i))
         (pixel_in (take (e * 4 - a * 4) (drop (a * 4) s)) i))
         → Stored (stepped mode (expand runs n) paint d) d (start_of runs m) (take (a * 4) s ++ (q ++ drop (e * 4 - a * 4) (drop (a * 4) s)))
     stored_through s j m a e b c o q h k u =
         rw (b, c)
         (stored_made (λ i. composite_on mode (get_or (expand runs n) i 0) 255 (paint i)) o (start_of runs m) q (starts_rise runs n r.rises j m h k)
         (omega (arith, fits, first_within runs n w r m k))
-        (u
-        ∙ rw (b, c)
-        (run_same (start_of runs m - start_of runs j) _ _
-        (λ i l. rw (first_at runs n w r m (start_of runs j + i) k (omega (arith, l, starts_rise runs n r.rises j m h k)))))))
+        (u ∙ rw (b, c) refl))
 
     -- the whole row
     pub stored_whole : (s : List ℕ) (j : ℕ) → Stored (stepped mode (expand runs n) paint d) d (start_of runs j) s → j ≡ n

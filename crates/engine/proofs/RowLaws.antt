@@ -8,6 +8,7 @@ use native.Mathlib.Omega.{arith}
 use lib.ListN.{length, get_or, take, drop, length-append, length-drop, length-take}
 use lib.IntN.{ℤ}
 use lib.Seq.{take_at, drop_at, take-append-le}
+use Rattle.std.specs.Prelude.{Option, Some, None}
 use Rattle.lists.specs.Lists.{tab}
 use Rattle.lists.proofs.Laws.{upto_same, tab_at, tab_length}
 use Rattle.color.specs.declared.Pixel.{Pixel}
@@ -33,7 +34,7 @@ use Rattle.engine.specs.declared.TintedGradient.{TintedGradient}
 use Rattle.engine.specs.declared.Shade.{Shade}
 use Rattle.engine.specs.declared.Shade.TheVariants.{Solid, Gradient}
 use Rattle.engine.specs.Picture.{mask_at}
-use Rattle.engine.specs.Rows.{coverage_with, mask_with, step_with, tinted_by, gradient_tinted, shade_at}
+use Rattle.engine.specs.Rows.{scissored_by, coverage_with, mask_with, step_with, tinted_by, gradient_tinted, shade_at}
 
 tab_same : {A : Type 0} (n : ℕ) (f g : ℕ → A) → ((k : ℕ) → k < n → f k ≡ g k) → tab n f ≡ tab n g
 tab_same n f g h = upto_same n (λ k. f k ∷ []) (λ k. g k ∷ []) (λ k l. ap (λ a. a ∷ []) (h k l))
@@ -46,30 +47,35 @@ tab_fits n f c o h i l =
 pub coverage_fits : (es : List Edge) (nonzero : Bool) (x y n : ℕ) (c : List ℕ) → c ≡ tab n (λ i. coverage es nonzero (x + i) y) → Coverage c
 coverage_fits es nonzero x y n c o = tab_fits n (λ i. coverage es nonzero (x + i) y) c o (λ i. coverage_at_most_16 es nonzero (x + i) y)
 
+-- scissors only take away
+cut_at_most : (s : Option ℕ) (scissors : List ℕ) (x y k : ℕ) → scissored_by s scissors x y k ≤ k
+cut_at_most None scissors x y k = omega arith
+cut_at_most (Some n) scissors x y k = scissored_at_most true scissors n x y k
+
 module _ (style : Style) (es : List Edge) (scissors : List ℕ) (x y : ℕ) where
   pub with_at_most : (i : ℕ) → coverage_with style es scissors i y ≤ 16
   unfolding coverage_with
   with_at_most i =
-      le_trans (scissored_at_most style.scissoring scissors style.scissors i y (coverage es style.nonzero i y))
+      le_trans (cut_at_most style.scissors scissors i y (coverage es style.nonzero i y))
       (coverage_at_most_16 es style.nonzero i y)
 
   -- without scissoring
-  pub cover_plain : (n : ℕ) (c : List ℕ) → style.scissoring ≡ false → c ≡ tab n (λ i. coverage es style.nonzero (x + i) y)
+  pub cover_plain : (n : ℕ) (c : List ℕ) → style.scissors ≡ None → c ≡ tab n (λ i. coverage es style.nonzero (x + i) y)
       → c ≡ tab n (λ i. coverage_with style es scissors (x + i) y)
-  unfolding coverage_with scissored
+  unfolding coverage_with
   cover_plain n c e o = o ∙ tab_same n _ _ (λ i l. rw e)
 
   -- with it
-  pub cover_scissored : (n : ℕ) (c b : List ℕ) → style.scissoring ≡ true → b ≡ tab n (λ i. coverage es style.nonzero (x + i) y)
-      → c ≡ tab n (λ i. scissored true scissors style.scissors (x + i) y (get_or b i 0))
+  pub cover_scissored : (n count : ℕ) (c b : List ℕ) → style.scissors ≡ Some count → b ≡ tab n (λ i. coverage es style.nonzero (x + i) y)
+      → c ≡ tab n (λ i. scissored true scissors count (x + i) y (get_or b i 0))
       → c ≡ tab n (λ i. coverage_with style es scissors (x + i) y)
   unfolding coverage_with
-  cover_scissored n c b e o q =
+  cover_scissored n count c b e o q =
       q
       ∙ tab_same n _ _
       (λ i l.
-      ap (scissored true scissors style.scissors (x + i) y) (ap (λ (s : List ℕ). get_or s i 0) o ∙ tab_at n _ i 0 l)
-      ∙ ap (λ (t : Bool). scissored t scissors style.scissors (x + i) y (coverage es style.nonzero (x + i) y)) (sym e))
+      ap (scissored true scissors count (x + i) y) (ap (λ (s : List ℕ). get_or s i 0) o ∙ tab_at n _ i 0 l)
+      ∙ ap (λ (t : Option ℕ). scissored_by t scissors (x + i) y (coverage es style.nonzero (x + i) y)) (sym e))
 
   -- every k is at most 16
   pub cover_fits : (n : ℕ) (c : List ℕ) → c ≡ tab n (λ i. coverage_with style es scissors (x + i) y) → Coverage c
@@ -156,19 +162,18 @@ module _ (mode x y : ℕ) (mask : ℕ → ℕ) (ks row ramp r : List ℕ) (s : S
   gradient_blended g e o = o ∙ rw e
 
   -- the paint's pixels come from q
-  pub painted_row : (n k m : ℕ) (q rest : List ℕ) → length ks ≡ n → k ≡ n → length q ≡ m → q ≡ run n (λ i. shade_at s ramp (x + i) y)
-      → r ≡ run k (λ i. composite_on mode (get_or ks (0 + i) 0) (mask i) (pixel_in (take (m - 0) (drop 0 (q ++ rest))) i) (pixel_in row i))
+  pub painted_row : (n k : ℕ) (q : List ℕ) → length ks ≡ n → k ≡ n → q ≡ run n (λ i. shade_at s ramp (x + i) y)
+      → r ≡ run k (λ i. composite_on mode (get_or ks (0 + i) 0) (mask i) (pixel_in q i) (pixel_in row i))
       → r ≡ composite_row mode ks mask (λ i. shade_at s ramp (x + i) y) row
-  painted_row n k m q rest l e v o u =
+  painted_row n k q l e o u =
       let f : ℕ → Pixel = λ i. shade_at s ramp (x + i) y in
-      let paint = take (m - 0) (drop 0 (q ++ rest)) in
       u
-      ∙ ap (λ (j : ℕ). run j (λ i. composite_on mode (get_or ks (0 + i) 0) (mask i) (pixel_in paint i) (pixel_in row i))) (e ∙ sym l)
+      ∙ ap (λ (j : ℕ). run j (λ i. composite_on mode (get_or ks (0 + i) 0) (mask i) (pixel_in q i) (pixel_in row i))) (e ∙ sym l)
       ∙ run_same (length ks) _ _
       (λ i h.
       let z : 0 + i ≡ i = omega arith in
       ap₂ (λ (c : ℕ) (p : Pixel). composite_on mode c (mask i) p (pixel_in row i)) (ap (λ (j : ℕ). get_or ks j 0) z)
-      (ap (λ (t : List ℕ). pixel_in t i) (first_of (q ++ rest) m ∙ first_part q rest m v ∙ o) ∙ run_at n f i (rw l at h)))
+      (ap (λ (t : List ℕ). pixel_in t i) o ∙ run_at n f i (rw l at h)))
 
 -- ---- numbers behind the ramp, of which some are given back as q
 module _ (s q : List ℕ) (k : ℕ) (l : ramp_numbers + k ≤ length s) (e : length q ≡ k) where

@@ -4,3 +4,4 @@ pub mod Unclamped
 pub mod Rows
 pub mod Spans
 pub mod Background
+pub mod Props

@@ -1,6 +1,7 @@
 -- What the row functions compute of a draw that was taken apart. A reviewer of the paper need not read it.
-use Rattle.std.specs.Prelude.{ℕ, ◌+◌, ◌*◌, ◌≤◌, ◌<◌, ◌≡◌, Bool, true, cond, List, ℤ, pos, length, take, drop, replicate}
-use Rattle.runs.specs.Runs.{start_of, expand, Runs}
+use Rattle.std.specs.Prelude.{ℕ, ◌+◌, ◌*◌, ◌≤◌, ◌<◌, ◌≡◌, Bool, true, cond, Option, None, Some, List, ℤ, pos, length, take, drop, replicate}
+use Rattle.std.specs.Bool.{then_some}
+use Rattle.runs.specs.Runs.{expand, Runs}
 use Rattle.color.specs.declared.Pixel.{Pixel}
 use Rattle.color.specs.Channels.{UnderAlpha}
 use Rattle.rect.specs.declared.Rect.{Rect}
@@ -12,7 +13,6 @@ use Rattle.coverage.specs.Band.{Needed, Band}
 use Rattle.coverage.specs.Scissors.{scissored}
 use Rattle.coverage.specs.Clips.{scissor_box}
 use Rattle.coverage.specs.Winding.{coverage}
-use Rattle.raster.specs.declared.Range.{Range}
 use Rattle.raster.specs.declared.Target.{Target}
 use Rattle.blend.specs.PorterDuff.{composite_on}
 use Rattle.blend.specs.Rows.{Coverage}
@@ -33,7 +33,6 @@ use Rattle.scene.specs.Header.{count_of}
 use Rattle.scene.specs.Fields.{blend_of, non_zero_rule, scissoring, scissors_of, scissor_count, spread_of, ramp_premultiplied, uses_mask, stops_of, stop_count}
 use Rattle.engine.specs.Picture.{draw_edges, draw_transform, draw_paint}
 use Rattle.engine.specs.declared.Style.{Style}
-use Rattle.engine.specs.declared.Strip.{Strip}
 use Rattle.engine.specs.declared.Tint.{Tint}
 use Rattle.engine.specs.declared.Tint.TheVariants.{Plain, Transformed}
 use Rattle.engine.specs.declared.TintedGradient.{TintedGradient}
@@ -41,9 +40,14 @@ use Rattle.engine.specs.declared.Shade.{Shade}
 use Rattle.engine.specs.declared.Shade.TheVariants.{Solid, Gradient}
 
 -- ---- what is computed at a pixel
+-- k, where the path covers k of the pixel's samples: cut by so many scissors, or by none where scissoring is off
+abbrev pub scissored_by : Option ℕ → List ℕ → ℕ → ℕ → ℕ → ℕ
+scissored_by None scissors x y k = k
+scissored_by (Some n) scissors x y k = scissored true scissors n x y k
+
 -- k
 unfoldable pub coverage_with : Style → List Edge → List ℕ → ℕ → ℕ → ℕ
-coverage_with s es scissors x y = scissored s.scissoring scissors s.scissors x y (coverage es s.nonzero x y)
+coverage_with s es scissors x y = scissored_by s.scissors scissors x y (coverage es s.nonzero x y)
 
 -- premultiplied bytes by a colour transformation, or as they are
 unfoldable pub tinted_by : Tint → Pixel → Pixel
@@ -72,17 +76,17 @@ clip_of d = cond (scissoring d) (scissor_box (scissors_of d) (scissor_count d)) 
 
 -- ---- what is asked
 -- of the scissors
+abbrev pub Few : Option ℕ → Type 0
+Few None = Unit
+Few (Some n) = n ≤ 4
+
 abbrev pub Scissors : Style → List ℕ → Type 0
-Scissors s scissors = (s.scissors ≤ 4) × (64 ≤ length scissors)
+Scissors s scissors = Few s.scissors × (64 ≤ length scissors)
 
 -- of the run that a gradient's ramp lies in
 abbrev pub Shaded : Shade → List ℕ → Type 0
 Shaded (Solid p) ramp = Unit
 Shaded (Gradient g) ramp = HeldGradient g.gradient ramp
-
--- of the pixels of a row
-abbrev pub OnSurface : Strip → Type 0
-OnSurface s = (s.y < 1024) × (s.x + s.length ≤ 1024)
 
 -- of what is lent for a row of n pixels: four bytes for each, and a run
 abbrev pub RowRoom : ℕ → List ℕ → List ℕ → Type 0
@@ -103,15 +107,13 @@ rows_of t y end = record {
   area = record { x0 = t.area.x0; y0 = y; x1 = t.area.x1; y1 = end };
 }
 
--- of the runs of a row of n pixels, so many of them
-abbrev pub RowCoverage : ℕ → List ℕ → ℕ → Type 0
-RowCoverage n runs count = Runs runs count n × Coverage (expand runs count)
+-- k of each pixel, by the runs of a row
+abbrev pub levels : List ℕ → List ℕ
+levels runs = expand runs (length runs)
 
--- of some runs of a row of n pixels
-abbrev pub PartOfRow : List ℕ → Range → ℕ → Type 0
-PartOfRow runs part n =
-    Runs runs part.to (start_of runs part.to) × (part.from ≤ part.to) × (part.to ≤ length runs) × (start_of runs part.to ≤ n)
-    × Coverage (expand runs part.to)
+-- of the runs of a row of n pixels
+abbrev pub RowCoverage : ℕ → List ℕ → Type 0
+RowCoverage n runs = Runs runs (length runs) n × Coverage (levels runs)
 
 -- of a surface of width by height pixels, and a rectangle on it
 abbrev pub Area : ℕ → ℕ → Rect → List ℕ → Type 0
@@ -139,8 +141,7 @@ abbrev pub style_of : List ℕ → ℕ → Shade → Style
 style_of d n shade = record {
   edges = n;
   nonzero = non_zero_rule d;
-  scissoring = scissoring d;
-  scissors = scissor_count d;
+  scissors = then_some (scissoring d) (scissor_count d);
   masked = uses_mask d;
   mode = blend_of d;
   shade = shade;
@@ -151,7 +152,6 @@ abbrev pub in_mode : Style → ℕ → Style
 in_mode s mode = record {
   edges = s.edges;
   nonzero = s.nonzero;
-  scissoring = s.scissoring;
   scissors = s.scissors;
   masked = s.masked;
   mode = mode;

@@ -140,33 +140,38 @@ fn paint_hides(d: &[u8], ramp: &mut [u32]) -> bool
 {
     let mode = scene::fields::blend_mode(d);
     let shade = shade(d, ramp);
-    shade_hides(mode, shade, ramp)
+    shade.hides(mode, ramp)
 }
 
-pub fn shade_hides(mode: u16, shade: Shade, ramp: &[u32]) -> bool
-    requires { Shaded shade ramp.now }
-    ensures { result ≡ true → HidingPaint mode (shade_at shade ramp.now) }
-{
-    match shade {
-        Shade::Solid(p) => blend::factor::hides(mode, p.a),
-        Shade::Gradient(g) => gradient_hides(mode, g, ramp),
+impl Shade {
+    // Whether the paint is seen to hide what is under it, in a mode.
+    pub fn hides(self, mode: u16, ramp: &[u32]) -> bool
+        requires { Shaded self ramp.now }
+        ensures { result ≡ true → HidingPaint mode (shade_at self ramp.now) }
+    {
+        match self {
+            Shade::Solid(p) => blend::factor::hides(mode, p.a),
+            Shade::Gradient(g) => g.hides(mode, ramp),
+        }
     }
 }
 
-// Of a gradient, an opaque one is seen to hide, without a colour transformation.
-fn gradient_hides(mode: u16, g: TintedGradient, ramp: &[u32]) -> bool
-    requires { HeldGradient g.gradient ramp.now }
-    ensures { result ≡ true → HidingPaint mode (gradient_tinted g ramp.now) }
-{
-    let gradient = g.gradient;
-    let tint = g.tint;
-    match tint {
-        Tint::Plain => {
-            if blend::factor::hides(mode, 255) {
-                return paint::opacity::is_opaque(gradient, ramp);
+impl TintedGradient {
+    // Of a gradient, an opaque one is seen to hide, without a colour transformation.
+    fn hides(self, mode: u16, ramp: &[u32]) -> bool
+        requires { HeldGradient self.gradient ramp.now }
+        ensures { result ≡ true → HidingPaint mode (gradient_tinted self ramp.now) }
+    {
+        let gradient = self.gradient;
+        let tint = self.tint;
+        match tint {
+            Tint::Plain => {
+                if blend::factor::hides(mode, 255) {
+                    return paint::opacity::is_opaque(gradient, ramp);
+                }
+                false
             }
-            false
+            Tint::Transformed(t) => false,
         }
-        Tint::Transformed(t) => false,
     }
 }

@@ -5,10 +5,9 @@ ghost use Rattle.paint.specs.declared.Paint.TheVariants.{Linear, Radial};
 ghost use Rattle.scene.specs.Layout.{draw_bytes};
 ghost use Rattle.scene.specs.Fields.{paint_of};
 ghost use Rattle.scene.specs.Accepted.{AcceptedFields};
-ghost use Rattle.engine.specs.Rows.{tinted_by, style_of, Tints, Shades, MadeRamp, MadeLinear, MadeRadial};
+ghost use Rattle.engine.specs.Rows.{style_of, Tints, Shades, MadeRamp, MadeLinear, MadeRadial};
 
 use crate::{Shade, Style, Tint, TintedGradient};
-use color::Pixel;
 use paint::{AnyGradient, LinearGradient, LinearPoints, Paint, RadialGradient, RadialPoints};
 
 // How the draw is filled, with a shade and n edges.
@@ -19,8 +18,7 @@ pub fn style(d: &[u8], n: usize, shade: Shade) -> Style
     Style {
         edges: n,
         nonzero: scene::fields::non_zero_rule(d),
-        scissoring: scene::fields::scissoring(d),
-        scissors: scene::fields::scissor_count(d),
+        scissors: scene::fields::scissoring(d).then_some(scene::fields::scissor_count(d)),
         masked: scene::fields::uses_mask(d),
         mode: scene::fields::blend_mode(d),
         shade,
@@ -36,7 +34,7 @@ pub fn shade(d: &[u8], ramp: &mut [u32]) -> Shade
     let tint = tint(d);
     let paint = scene::fields::paint(d);
     match paint {
-        Paint::Solid(c) => Shade::Solid(tinted(tint, paint::row::solid_pixel(c))),
+        Paint::Solid(c) => Shade::Solid(tint.pixel(paint::row::solid_pixel(c))),
         Paint::Linear(p) => Shade::Gradient(TintedGradient {
             gradient: AnyGradient::Linear(linear(d, p, ramp)),
             tint,
@@ -57,16 +55,6 @@ fn tint(d: &[u8]) -> Tint
         return Tint::Transformed(transform::fixed_transform(scene::fields::transform(d)));
     }
     Tint::Plain
-}
-
-// A pixel, by the colour transformation.
-pub fn tinted(tint: Tint, p: Pixel) -> Pixel
-    ensures { result ≡ tinted_by tint p }
-{
-    match tint {
-        Tint::Plain => p,
-        Tint::Transformed(t) => transform::transform_pixel(t, p),
-    }
 }
 
 // The draw's linear gradient.

@@ -5,17 +5,21 @@
 //     edges    the draw's path as edges in the scratch
 //     decode   the rest of the draw, decoded once: rule, scissors, blend mode, and its paint with its ramp and its colour transformation
 //     rows     row after row: its coverage as runs of pixels that are covered alike, their paint, and both blended into the surface
+//     shading  the paint of a row
 //     spans    a gradient's row, made only where it is covered, or blended as a plain colour where it has one
 //
 // What a stage computes is in a crate of its own: `scene` reads the fields, `outline` makes the edges and their box, `coverage` counts a
 // row's samples, `paint` colours a row, `transform` gives it other colours, `blend` stores it.
 #![tactic(auto)]
 
+ghost use Rattle.std.specs.Prelude.{◌+◌, ◌≤◌, ◌<◌};
+
 mod background;
 pub mod decode;
 pub mod draws;
 pub mod edges;
 pub mod rows;
+pub mod shading;
 pub mod spans;
 
 use color::Pixel;
@@ -23,14 +27,13 @@ use paint::AnyGradient;
 use raster::Target;
 use transform::FixedTransform;
 
-// How a draw is filled: the number of its edges, its fill rule, whether scissoring is on and by how many scissors, whether it is drawn through the
+// How a draw is filled: the number of its edges, its fill rule, by how many scissors it is cut where scissoring is on, whether it is drawn through the
 // mask, its blend mode, its paint.
 #[derive(Clone, Copy)]
 pub struct Style {
     pub edges: usize,
     pub nonzero: bool,
-    pub scissoring: bool,
-    pub scissors: usize,
+    pub scissors: Option<usize>,
     pub masked: bool,
     pub mode: u16,
     pub shade: Shade,
@@ -73,10 +76,11 @@ pub enum Tint {
     Transformed(FixedTransform),
 }
 
-// The pixels (x, y) to (x + length - 1, y).
+// The pixels (x, y) to (x + length - 1, y), which lie on the largest surface.
 #[derive(Clone, Copy)]
 pub struct Strip {
     pub x: usize,
     pub y: usize,
     pub length: usize,
+    ghost on_surface: { (y < 1024) × (x + length ≤ 1024) },
 }

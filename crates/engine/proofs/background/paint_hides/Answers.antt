@@ -10,4 +10,4 @@ returns c =
     λ t. let d = c.args.d.now in
     let s = c.shade-shade in
     same_hides c.blend_mode-mode.result (blend_of d) (shade_at s.result s.new.ramp) (draw_paint d) c.blend_mode-mode.ensures
-    s.ensures.paint (c.shade_hides.ensures t)
+    s.ensures.paint (c.hides.ensures t)

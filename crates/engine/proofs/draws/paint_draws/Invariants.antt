@@ -12,4 +12,3 @@ abbrev pub invariant-loop-i : goal.invariant-loop-i
 invariant-loop-i l =
     (l.i ≤ l.count) × (length l.surface ≡ length l.initial.surface) × (l.scratch ≡ l.initial.scratch) × (length l.d ≡ length l.initial.d)
     × (l.surface ≡ stepped l.target (unclamped_all l.edition (first_draws l.scene l.i) (mask_at l.target.width l.mask)) l.initial.surface)
-

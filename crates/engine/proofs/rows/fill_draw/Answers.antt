@@ -8,11 +8,12 @@ use Rattle.lists.proofs.Laws.{part_length}
 use Rattle.path.specs.Stored.{edges_of}
 use Rattle.coverage.specs.Scanline.{Outlined}
 use Rattle.paint.specs.Buffers.{ramp_numbers}
+use Rattle.scene.specs.Fields.{scissoring, scissor_count}
 use Rattle.engine.specs.declared.Style.{Style}
 use Rattle.engine.specs.Picture.{mask_at, draw_paint}
-use Rattle.engine.specs.Rows.{shade_at, Shaded, MaskFor, style_of, in_mode, SameBlend}
+use Rattle.engine.specs.Rows.{Few, shade_at, Shaded, MaskFor, style_of, in_mode, SameBlend}
 use Rattle.engine.proofs.RowLaws.{first_part, first_given}
-use Rattle.engine.proofs.Paints.{own_steps, scissors_length}
+use Rattle.engine.proofs.Paints.{few_chosen, own_steps, scissors_length}
 use Rattle.engine.proofs.rows.fill_draw.Goals as goal
 use Rattle.engine.proofs.rows.fill_draw.Tie as tie
 use Rattle.engine.proofs.rows.fill_draw.Lts as lts
@@ -37,9 +38,9 @@ long c =
     c.requires.in_bounds
 
 -- the draw's style in a mode under which its paint is blended alike
-styled : (c : lts.After-hiding_style tie.the-claims reads.Pre reads.Post tie.handed_clauses) → let a = c.args in
-    c.hiding_style-style.result ≡ in_mode (style_of a.d.now a.n c.shade-shade.result) c.hiding_style-style.result.mode
-styled c = c.hiding_style-style.ensures.value ∙ ap (λ (z : Style). in_mode z c.hiding_style-style.result.mode) c.style.ensures
+styled : (c : lts.After-hiding tie.the-claims reads.Pre reads.Post tie.handed_clauses) → let a = c.args in
+    c.hiding-style.result ≡ in_mode (style_of a.d.now a.n c.shade-shade.result) c.hiding-style.result.mode
+styled c = c.hiding-style.ensures.value ∙ ap (λ (z : Style). in_mode z c.hiding-style.result.mode) c.style.ensures
 
 shaded : (c : lts.After-shade tie.the-claims reads.Pre reads.Post tie.handed_clauses) → Shaded c.shade-shade.result (take ramp_numbers (numbers c))
 shaded c = subst (Shaded c.shade-shade.result) (sym (ramp c)) c.shade-shade.ensures.asked
@@ -56,12 +57,12 @@ pub style-requires : goal.style-requires
 style-requires c =
     c.requires.d_len.0
 
-pub slice_bounds-hiding_style-end : goal.slice_bounds-hiding_style-end
-slice_bounds-hiding_style-end c =
+pub slice_bounds-hiding-end : goal.slice_bounds-hiding-end
+slice_bounds-hiding-end c =
     omega (arith, long c.before.before.before.before)
 
-pub hiding_style-style-requires : goal.hiding_style-style-requires
-hiding_style-style-requires c =
+pub hiding-style-requires : goal.hiding-style-requires
+hiding-style-requires c =
     subst (λ (z : Style). Shaded z.shade (take ramp_numbers (numbers c.before.before.before.before.before))) (sym c.style.ensures)
     (shaded c.before.before.before.before.before)
 
@@ -69,8 +70,8 @@ pub scissors-requires : goal.scissors-requires
 scissors-requires c =
     c.requires.d_len.0
 
-pub fill_style-requires : goal.fill_style-requires
-fill_style-requires c =
+pub draw-requires : goal.draw-requires
+draw-requires c =
     let a = c.args in
     let e = sym (styled c.before.before.before.before.before) in
     let scissors = subst (λ (z : List ℕ). 64 ≤ length z) (sym c.scissors.ensures) (omega (arith, scissors_length a.d.now c.requires.d_len.0)) in
@@ -81,7 +82,7 @@ fill_style-requires c =
             (omega (arith, c.requires.outlined.few, long c.before.before.before.before.before.before.before.before.before.before)),
       );
       scissors = (
-        (subst (λ (z : Style). z.scissors ≤ 4) e c.requires.d_len.1.scissors, scissors),
+        (subst (λ (z : Style). Few z.scissors) e (few_chosen (scissoring a.d.now) (scissor_count a.d.now) c.requires.d_len.1.scissors), scissors),
         subst (λ (z : Style). Shaded z.shade (take ramp_numbers (numbers c.before.before.before.before.before.before.before.before.before.before))) e
             (shaded c.before.before.before.before.before.before.before.before.before.before),
       );
@@ -91,9 +92,9 @@ fill_style-requires c =
 
 pub returns : goal.returns
 returns c =
-    let call = c.fill_style in
+    let call = c.draw in
     let scissors = c.scissors in
-    let hiding = c.hiding_style-style in
+    let hiding = c.hiding-style in
     let style = c.style in
     let shade = c.shade-shade in
     let a = c.args in
