@@ -121,7 +121,7 @@ pub few_chosen : (t : Bool) (n : ℕ) → n ≤ 4 → Few (then_some t n)
 few_chosen true n h = h
 few_chosen false n h = tt
 
-cut_chosen : (t : Bool) (n : ℕ) (scissors : List ℕ) (x y k : ℕ) → scissored_by (then_some t n) scissors x y k ≡ scissored t scissors n x y k
+pub cut_chosen : (t : Bool) (n : ℕ) (scissors : List ℕ) (x y k : ℕ) → scissored_by (then_some t n) scissors x y k ≡ scissored t scissors n x y k
 unfolding scissored
 cut_chosen true n scissors x y k = refl
 cut_chosen false n scissors x y k = refl

@@ -48,7 +48,7 @@ pub coverage_fits : (es : List Edge) (nonzero : Bool) (x y n : ℕ) (c : List �
 coverage_fits es nonzero x y n c o = tab_fits n (λ i. coverage es nonzero (x + i) y) c o (λ i. coverage_at_most_16 es nonzero (x + i) y)
 
 -- scissors only take away
-cut_at_most : (s : Option ℕ) (scissors : List ℕ) (x y k : ℕ) → scissored_by s scissors x y k ≤ k
+pub cut_at_most : (s : Option ℕ) (scissors : List ℕ) (x y k : ℕ) → scissored_by s scissors x y k ≤ k
 cut_at_most None scissors x y k = omega arith
 cut_at_most (Some n) scissors x y k = scissored_at_most true scissors n x y k
 

@@ -16,11 +16,13 @@ use Rattle.raster.proofs.Runs.{run_same, run_is}
 use Rattle.path.specs.Stored.{edges_of}
 use Rattle.scene.specs.Blocks.{draw_of}
 use Rattle.scene.specs.Header.{count_of, edition_of, background_of}
-use Rattle.scene.specs.Fields.{scissors_of}
+use Rattle.coverage.specs.Winding.{coverage}
+use Rattle.scene.specs.Fields.{scissoring, scissors_of, scissor_count, non_zero_rule}
 use Rattle.engine.specs.declared.Style.{Style}
 use Rattle.engine.specs.declared.Shade.{Shade}
 use Rattle.engine.specs.Picture.{coverage_of, draw_paint, draw_mask, step_of, draw_step, draw_all, first_draws, pixel_at, mask_at}
 use Rattle.engine.specs.Rows.{coverage_with, mask_with, shade_at, style_of}
+use Rattle.engine.proofs.Paints.{cut_chosen}
 use Rattle.plain.specs.Asked.{step_at, pixelwise}
 use lib.IntN.{ℤ}
 
@@ -64,7 +66,7 @@ module _ (w h : ℕ) where
   own_steps l d sc ramp mask s n shade p r e f g o =
       o
       ∙ pixelwise_same (λ x y. step_at s (edges_of l s.edges) sc ramp (mask_with s (mask x y)) x y) (step_of (edges_of l n) d mask) p
-      (λ x y q. rw (e, f, g x y))
+      (λ x y q. rw (e, f, g x y, cut_chosen (scissoring d) (scissor_count d) (scissors_of d) x y (coverage (edges_of l n) (non_zero_rule d) x y)))
 
   -- no draw, and one draw more
   pub draws_none : (edition : ℕ) (scene : List ℕ) (mask : ℕ → ℕ → ℕ) (s : List ℕ) → length s ≡ h * w * 4

@@ -65,11 +65,9 @@ fn draw_first(
         surface.old }
 {
     let edition = scene::header::edition(scene);
-    let mut i = 0;
-    while i < n {
+    for i in 0..n {
         scene::blocks::read_draw(scene, i, d);
         draw_one(surface, scratch, mask, d, edition, width, height);
-        i += 1;
     }
 }
 

@@ -2,15 +2,14 @@
 ghost use Rattle.std.specs.Prelude.{◌≡◌, true, cond, ◌*◌, ◌≤◌, ◌<◌, length, get_or};
 ghost use Rattle.path.specs.Stored.{edges_of};
 ghost use Rattle.coverage.specs.Scanline.{Outlined};
-ghost use Rattle.paint.specs.Circles.{HeldGradient};
 ghost use Rattle.engine.specs.Picture.{mask_at};
-ghost use Rattle.engine.specs.Rows.{mask_with, tinted_by, gradient_tinted, shade_at, Shaded, Scissors, MaskFor};
+ghost use Rattle.engine.specs.Rows.{mask_with, shade_at, Shaded, Scissors, MaskFor};
 ghost use Rattle.plain.specs.Asked.{step_at, pixelwise};
 
-use crate::samples::count_pixel;
+use crate::samples::Outline;
 use crate::scissors::scissor_pixel;
 use color::Pixel;
-use engine::{Shade, Style, Tint, TintedGradient};
+use engine::{Shade, Strip, Style};
 
 // The draw at each pixel: pixel i of the surface is the pixel (i % width, i / width).
 pub fn draw_pixels(
@@ -33,9 +32,7 @@ pub fn draw_pixels(
         (mask_with style (mask_at width mask.now x y)) x y)
         surface.old }
 {
-    let n = height * width;
-    let mut i = 0;
-    while i < n {
+    for i in 0..height * width {
         let p = step_pixel(
             scratch,
             scissors,
@@ -47,7 +44,6 @@ pub fn draw_pixels(
             raster::pixel(surface, i),
         );
         raster::put_pixel(surface, i, p);
-        i += 1;
     }
 }
 
@@ -78,44 +74,23 @@ fn step_pixel(
     requires x_bound { (x < 1024) × (y < 1024) }
     ensures { result ≡ step_at style (edges_of scratch.now style.edges) scissors.now ramp.now m x y p }
 {
-    let covered = count_pixel(scratch, style.edges, style.nonzero, x, y);
-    let k = scissor_pixel(scissors, style.scissors, style.scissoring, x, y, covered);
-    let shade = style.shade;
-    let paint = paint_pixel(ramp, shade, x, y);
+    let outline = Outline {
+        scratch,
+        edges: style.edges,
+        nonzero: style.nonzero,
+    };
+    let k = scissor_pixel(scissors, style.scissors, x, y, outline.count_pixel(x, y));
+    let paint = paint_pixel(style.shade, ramp, x, y);
     blend::step::composite_pixel(style.mode, k as u8, m, paint, p)
 }
 
-// The premultiplied paint of the pixel (x, y).
-fn paint_pixel(ramp: &[u32], shade: Shade, x: usize, y: usize) -> Pixel
+// The premultiplied paint of the pixel (x, y): a row of one pixel.
+fn paint_pixel(shade: Shade, ramp: &[u32], x: usize, y: usize) -> Pixel
     requires shaded { Shaded shade ramp.now }
     requires x_bound { (x < 1024) × (y < 1024) }
     ensures { result ≡ shade_at shade ramp.now x y }
 {
-    match shade {
-        Shade::Solid(p) => p,
-        Shade::Gradient(g) => gradient_pixel(ramp, g, x, y),
-    }
-}
-
-// The same of a gradient: a row of one pixel, and then the colour transformation.
-fn gradient_pixel(ramp: &[u32], g: TintedGradient, x: usize, y: usize) -> Pixel
-    requires held_gradient { HeldGradient g.gradient ramp.now }
-    requires x_bound { (x < 1024) × (y < 1024) }
-    ensures { result ≡ gradient_tinted g ramp.now x y }
-{
     let mut row = [0u8; 4];
-    let gradient = g.gradient;
-    let tint = g.tint;
-    paint::row::gradient_row(gradient, ramp, x, y, 1, &mut row);
-    tint_pixel(tint, raster::pixel(&row, 0))
-}
-
-// A pixel, by the colour transformation.
-fn tint_pixel(tint: Tint, p: Pixel) -> Pixel
-    ensures { result ≡ tinted_by tint p }
-{
-    match tint {
-        Tint::Plain => p,
-        Tint::Transformed(t) => transform::transform_pixel(t, p),
-    }
+    shade.row(ramp, Strip { x, y, length: 1 }, &mut row);
+    raster::pixel(&row, 0)
 }

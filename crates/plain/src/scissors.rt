@@ -1,6 +1,7 @@
 // Scissors: k of a pixel outside every rectangle is 0.
 ghost use Rattle.std.specs.Prelude.{◌≡◌, ◌+◌, ◌*◌, ◌<◌, ◌≤◌, ◌^◌, length};
-ghost use Rattle.coverage.specs.Scissors.{spans_pixel, in_scissor, in_scissors, scissored};
+ghost use Rattle.coverage.specs.Scissors.{spans_pixel, in_scissor, in_scissors};
+ghost use Rattle.engine.specs.Rows.{Few, scissored_by};
 
 // Whether pixel x is one of start to start + size - 1, as whole numbers.
 fn is_within(start: i32, size: i32, x: usize) -> bool
@@ -40,27 +41,27 @@ fn is_in_scissors(scissors: &[u8], n: usize, x: usize, y: usize) -> bool
     requires { (n ≤ 4) × (64 ≤ length scissors.now) × (x < 1024) × (y < 1024) }
     ensures { result ≡ in_scissors scissors.now n x y }
 {
-    let mut i = 0;
-    while i < n {
+    for i in 0..n {
         if is_in_scissor(scissors, i, x, y) {
             return true;
         }
-        i += 1;
     }
     false
 }
 
-// k of the pixel (x, y), where its path covers k of its samples.
-pub fn scissor_pixel(scissors: &[u8], n: usize, on: bool, x: usize, y: usize, k: usize) -> usize
-    requires { (n ≤ 4) × (64 ≤ length scissors.now) × (x < 1024) × (y < 1024) }
-    ensures { result ≡ scissored on scissors.now n x y k }
+// k of the pixel (x, y), where its path covers k of its samples: cut by so many rectangles where scissoring is on.
+pub fn scissor_pixel(scissors: &[u8], count: Option<usize>, x: usize, y: usize, k: usize) -> usize
+    requires { Few count × (64 ≤ length scissors.now) × (x < 1024) × (y < 1024) }
+    ensures { result ≡ scissored_by count scissors.now x y k }
 {
-    if !on {
-        return k;
-    }
-    if is_in_scissors(scissors, n, x, y) {
-        k
-    } else {
-        0
+    match count {
+        None => k,
+        Some(n) => {
+            if is_in_scissors(scissors, n, x, y) {
+                k
+            } else {
+                0
+            }
+        }
     }
 }

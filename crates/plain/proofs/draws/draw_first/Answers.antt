@@ -49,10 +49,6 @@ draw_one-requires c =
       mask_for = subst (λ (z : List ℕ). MaskFor (uses_mask z) (a.height * a.width) a.mask.now) (sym r.ensures) asked;
     }
 
-pub loop-i-smaller : goal.loop-i-smaller
-loop-i-smaller c =
-    omega (arith, c.loop-i-test.true)
-
 pub loop-i-preserved : goal.loop-i-preserved
 loop-i-preserved c =
     let p = c.draw_one in

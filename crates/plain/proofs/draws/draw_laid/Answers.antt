@@ -5,10 +5,11 @@ use Prim.Native.Nat.{ℕ, ◌*◌, ◌≤◌}
 use native.Mathlib.Omega.{arith}
 use lib.ListN.{length}
 use Rattle.coverage.specs.Scanline.{Outlined}
+use Rattle.scene.specs.Fields.{scissoring, scissor_count}
 use Rattle.engine.specs.declared.Style.{Style}
 use Rattle.engine.specs.Picture.{mask_at}
-use Rattle.engine.specs.Rows.{Shaded, MaskFor}
-use Rattle.engine.proofs.Paints.{scissors_length}
+use Rattle.engine.specs.Rows.{Few, Shaded, MaskFor}
+use Rattle.engine.proofs.Paints.{few_chosen, scissors_length}
 use Rattle.plain.proofs.Pixelwise.{own_steps}
 use Rattle.plain.proofs.draws.draw_laid.Goals as goal
 
@@ -20,7 +21,7 @@ draw_pixels-requires c =
     let p = c.requires in
     let e = sym style.ensures in
     let long = subst (λ (z : List ℕ). 64 ≤ length z) (sym c.scissors.ensures) (omega (arith, scissors_length a.d.now p.d_len.0)) in
-    let few = subst (λ (z : Style). z.scissors ≤ 4) e p.d_len.1.scissors in
+    let few = subst (λ (z : Style). Few z.scissors) e (few_chosen (scissoring a.d.now) (scissor_count a.d.now) p.d_len.1.scissors) in
     record {
       outlined = subst (λ (z : Style). Outlined a.scratch.now z.edges) e p.outlined;
       scissors =

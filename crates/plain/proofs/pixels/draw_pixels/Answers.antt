@@ -12,14 +12,14 @@ use Rattle.plain.specs.Asked.{step_at}
 use Rattle.plain.proofs.Pixelwise.{few_pixels, some_width, column_in_lem, row_in, own_byte}
 use Rattle.plain.proofs.pixels.draw_pixels.Goals as goal
 
-pub overflow_mul-n : goal.overflow_mul-n
-overflow_mul-n c =
+pub overflow_mul-i : goal.overflow_mul-i
+overflow_mul-i c =
     let p = c.requires.surface_len in
     record { fits = omega (arith, few_pixels c.args.width c.args.height p.1 p.2) }
 
 pub loop-i-init : goal.loop-i-init
 loop-i-init c =
-    (omega arith, stored_none _ _)
+    stored_none _ _
 
 pub mask_byte-requires : goal.mask_byte-requires
 mask_byte-requires c =
@@ -37,7 +37,7 @@ nonzero_div-i c =
 
 pub pixel-requires : goal.pixel-requires
 pixel-requires c =
-    omega (arith, c.requires.surface_len.0, c.loop-i-test.true, c.loop-i.invariant.1.long)
+    omega (arith, c.requires.surface_len.0, c.loop-i-test.true, c.loop-i.invariant.long)
 
 pub step_pixel-p-requires : goal.step_pixel-p-requires
 step_pixel-p-requires c =
@@ -49,16 +49,7 @@ step_pixel-p-requires c =
 
 pub put_pixel-requires : goal.put_pixel-requires
 put_pixel-requires c =
-    omega (arith, c.requires.surface_len.0, c.loop-i-test.true, c.loop-i.invariant.1.long)
-
-pub overflow_add-i : goal.overflow_add-i
-overflow_add-i c =
-    let p = c.requires.surface_len in
-    record { fits = omega (arith, few_pixels c.args.width c.args.height p.1 p.2, c.loop-i-test.true) }
-
-pub loop-i-smaller : goal.loop-i-smaller
-loop-i-smaller c =
-    omega (arith, c.loop-i-test.true)
+    omega (arith, c.requires.surface_len.0, c.loop-i-test.true, c.loop-i.invariant.long)
 
 pub loop-i-preserved : goal.loop-i-preserved
 loop-i-preserved c =
@@ -73,17 +64,14 @@ loop-i-preserved c =
     (mask_with a.style (mask_at w a.mask.now (j % w) (j / w))) (j % w) (j / w) in
     let made : step.result ≡ f l.i (pixel_in l.surface l.i) = step.ensures
     ∙ ap₂ (λ (m : ℕ) (q : Pixel). step_at a.style (edges_of a.scratch.now a.style.edges) a.scissors.now a.ramp.now m (l.i % w) (l.i / w) q)
-    (byte.ensures ∙ own_byte a.style.masked a.mask.now w l.i) pixel.ensures in (
-      omega (arith, c.loop-i-test.true),
-      stored_step f l.invariant.1 put.new.s step.result put.ensures made
-          (omega (arith, c.requires.surface_len.0, c.loop-i-test.true)),
-    )
+    (byte.ensures ∙ own_byte a.style.masked a.mask.now w l.i) pixel.ensures in
+    stored_step f l.invariant put.new.s step.result put.ensures made (omega (arith, c.requires.surface_len.0, c.loop-i-test.true))
 
 pub shape_of-surface : goal.shape_of-surface
 shape_of-surface c =
-    c.loop-i.invariant.1.long
+    c.loop-i.invariant.long
 
 pub returns : goal.returns
 returns c =
     let l = c.loop-i in
-    stored_all l.invariant.1 (c.args.height * c.args.width) (omega (arith, c.loop-i-test.false, l.invariant.0)) c.requires.surface_len.0
+    stored_all l.invariant (c.args.height * c.args.width) (omega (arith, c.loop-i-test.false)) c.requires.surface_len.0

@@ -11,10 +11,7 @@ use Rattle.plain.proofs.pixels.draw_pixels.Given as goal
 -- `plain::pixels::draw_pixels` meets its contract. Assumes nothing.
 abbrev pub invariant-loop-i : goal.invariant-loop-i
 invariant-loop-i l =
-    (l.i ≤ l.n)
-    × Stored (λ j. step_at l.style (edges_of l.scratch l.style.edges) l.scissors l.ramp (mask_with l.style (mask_at l.width l.mask (j % l.width) (j / l.width)))
+    Stored (λ j. step_at l.style (edges_of l.scratch l.style.edges) l.scissors l.ramp (mask_with l.style (mask_at l.width l.mask (j % l.width) (j / l.width)))
     (j % l.width) (j / l.width)
     (pixel_in l.initial.surface j)) l.initial.surface l.i l.surface
 
-abbrev pub decreases-loop-i : goal.decreases-loop-i
-decreases-loop-i l = l.n - l.i

@@ -1,20 +1,19 @@
--- `plain::pixels::paint_pixel` meets its contract. Assumes nothing.
-use mathlib.Core.Path.{subst, ◌∙◌}
-use Rattle.engine.specs.declared.Shade.{Shade}
-use Rattle.engine.specs.Rows.{Shaded, shade_at}
-use borrow.Author.Rules.{rules}
+-- `plain::pixels::paint_pixel` meets its contract: the first pixel of a row of one.
+use mathlib.Core.List.{List}
+use mathlib.Core.Path.{◌≡◌, ap, ◌∙◌}
+use Prim.Native.Nat.{ℕ, ◌+◌}
+use native.Mathlib.Nat.{add-zero}
+use native.Mathlib.Omega.{arith}
+use Rattle.color.specs.declared.Pixel.{Pixel}
+use Rattle.raster.specs.Surface.{pixel_in}
+use Rattle.raster.proofs.Pixels.{run_at}
+use Rattle.engine.specs.Rows.{shade_at}
 use Rattle.plain.proofs.pixels.paint_pixel.Goals as goal
 
-pub gradient_pixel-requires : goal.gradient_pixel-requires
-gradient_pixel-requires c =
-    record { held_gradient = subst (λ (z : Shade). Shaded z c.args.ramp.now) c.in-Gradient.is c.requires.shaded; x_bound = c.requires.x_bound }
-
-pub returns-in-Solid : goal.returns-in-Solid
-unfolding shade_at
-returns-in-Solid c =
-    search rules
-
-pub returns-in-Gradient : goal.returns-in-Gradient
-unfolding shade_at
-returns-in-Gradient c =
-    c.gradient_pixel.ensures ∙ rw c.in-Gradient.is
+pub returns : goal.returns
+returns c =
+    let a = c.args in
+    let f : ℕ → Pixel = λ i. shade_at a.shade a.ramp.now (a.x + i) a.y in
+    let e : a.x + 0 ≡ a.x = add-zero a.x in
+    c.pixel.ensures ∙ ap (λ (s : List ℕ). pixel_in s 0) c.row.ensures ∙ run_at 1 f 0 (omega arith)
+    ∙ ap (λ (x : ℕ). shade_at a.shade a.ramp.now x a.y) e

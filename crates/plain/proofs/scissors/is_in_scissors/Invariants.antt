@@ -9,5 +9,3 @@ use Rattle.plain.proofs.scissors.is_in_scissors.Given as goal
 abbrev pub invariant-loop-i : goal.invariant-loop-i
 invariant-loop-i l = (l.i ≤ l.n) × (in_scissors l.scissors l.i l.x l.y ≡ false)
 
-abbrev pub decreases-loop-i : goal.decreases-loop-i
-decreases-loop-i l = l.n - l.i

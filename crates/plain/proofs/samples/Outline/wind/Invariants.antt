@@ -1,13 +1,11 @@
--- `plain::samples::wind` meets its contract. Assumes nothing.
+-- `plain::samples::Outline::wind` meets its contract. Assumes nothing.
 use mathlib.Core.Path.{◌≡◌}
 use Prim.Native.Nat.{◌-◌, ◌≤◌}
 use Rattle.path.specs.Stored.{edges_of}
 use Rattle.coverage.specs.Winding.{winding}
-use Rattle.plain.proofs.samples.wind.Given as goal
+use Rattle.plain.proofs.samples.Outline.wind.Given as goal
 
--- `plain::samples::wind` meets its contract. Assumes nothing.
+-- `plain::samples::Outline::wind` meets its contract. Assumes nothing.
 abbrev pub invariant-loop-i : goal.invariant-loop-i
 invariant-loop-i l = (l.i ≤ l.n) × (l.sum ≡ winding (edges_of l.scratch l.i) l.x l.y)
 
-abbrev pub decreases-loop-i : goal.decreases-loop-i
-decreases-loop-i l = l.n - l.i

@@ -1,4 +1,4 @@
--- `plain::samples::take_sample` meets its contract. Assumes nothing.
+-- `plain::samples::Outline::take_sample` meets its contract. Assumes nothing.
 use mathlib.Core.Path.{◌≡◌, sym, ap, ap₂, subst, ◌∙◌}
 use Prim.Native.Nat.{ℕ, ◌+◌, ◌*◌, ◌≤◌, ◌<◌}
 use native.Mathlib.Omega.{arith}
@@ -9,7 +9,7 @@ use mir.Facts.{to_z_pos}
 use Rattle.fixed.proofs.Signed.{back}
 use Rattle.path.specs.Stored.{edges_of}
 use Rattle.coverage.specs.Winding.{winding, inside_by, one_if, sample}
-use Rattle.plain.proofs.samples.take_sample.Goals as goal
+use Rattle.plain.proofs.samples.Outline.take_sample.Goals as goal
 
 -- a sample's place, as it is handed on
 place : (i : ℕ) → i < 4096 → to_z w32 (64 * i + 32) ≡ sample i
@@ -20,15 +20,15 @@ low i h = subst (λ (z : ℤ). nat_abs z ≤ 8388608) (sym (place i h)) (omega a
 
 pub wind-requires : goal.wind-requires
 wind-requires c =
-    record { outlined = c.requires.outlined; x_bound = (low c.args.i c.requires.i_bound.0, low c.args.j c.requires.i_bound.1) }
+    (low c.args.i c.requires.0, low c.args.j c.requires.1)
 
 pub returns : goal.returns
 returns c =
     let a = c.args in
     let w = c.wind in (
       c.one_if_inside.ensures.0
-          ∙ ap (λ (z : ℤ). one_if (inside_by a.nonzero z))
+          ∙ ap (λ (z : ℤ). one_if (inside_by a.self.now.nonzero z))
           (back w32 w.result w.type_inv ∙ w.ensures
-          ∙ ap₂ (winding (edges_of a.scratch.now a.n)) (place a.i c.requires.i_bound.0) (place a.j c.requires.i_bound.1)),
+          ∙ ap₂ (winding (edges_of a.self.now.scratch.now a.self.now.edges)) (place a.i c.requires.0) (place a.j c.requires.1)),
       c.one_if_inside.ensures.1,
     )

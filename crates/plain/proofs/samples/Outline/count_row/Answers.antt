@@ -1,10 +1,10 @@
--- `plain::samples::count_row` meets its contract. Assumes nothing.
+-- `plain::samples::Outline::count_row` meets its contract. Assumes nothing.
 use mathlib.Core.Path.{◌≡◌, refl, ap₂}
 use Prim.Native.Nat.{◌+◌}
 use native.Mathlib.Numerals.{add-one}
 use native.Mathlib.Omega.{arith}
 use borrow.Author.Rules.{rules}
-use Rattle.plain.proofs.samples.count_row.Goals as goal
+use Rattle.plain.proofs.samples.Outline.count_row.Goals as goal
 
 pub loop-m-init : goal.loop-m-init
 loop-m-init c =
@@ -12,7 +12,7 @@ loop-m-init c =
 
 pub take_sample-k-requires : goal.take_sample-k-requires
 take_sample-k-requires c =
-    record { outlined = c.requires.outlined; i_bound = (omega arith, c.requires.x_bound.1) }
+    (omega arith, c.requires.1)
 
 pub overflow_add-k : goal.overflow_add-k
 overflow_add-k c =

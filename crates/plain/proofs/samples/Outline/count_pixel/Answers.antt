@@ -1,11 +1,11 @@
--- `plain::samples::count_pixel` meets its contract. Assumes nothing.
+-- `plain::samples::Outline::count_pixel` meets its contract. Assumes nothing.
 use mathlib.Core.Path.{◌≡◌, refl, ap₂}
 use Prim.Native.Nat.{◌+◌}
 use native.Mathlib.Numerals.{add-one}
 use native.Mathlib.Omega.{arith}
 use Rattle.coverage.specs.Winding.{coverage}
 use borrow.Author.Rules.{rules}
-use Rattle.plain.proofs.samples.count_pixel.Goals as goal
+use Rattle.plain.proofs.samples.Outline.count_pixel.Goals as goal
 
 pub loop-m-init : goal.loop-m-init
 loop-m-init c =
@@ -13,7 +13,7 @@ loop-m-init c =
 
 pub count_row-k-requires : goal.count_row-k-requires
 count_row-k-requires c =
-    record { outlined = c.requires.outlined; x_bound = (c.requires.x_bound.0, omega arith) }
+    (c.requires.0, omega arith)
 
 pub overflow_add-k : goal.overflow_add-k
 overflow_add-k c =
