@@ -144,6 +144,11 @@ module _ (d : List ℕ) (n mode : ℕ) (shade : Shade) (ramp : List ℕ) (paint 
       o
       ∙ rw (e, f, g) (overlay_same t.width t.height t.area _ _ s (λ x y k l i. own_step es mask x y (pixel_of t.width s x y)))
 
+-- the draw's style in a mode under which its paint is blended alike
+pub styled : (d : List ℕ) (n : ℕ) (shade : Shade) (s r : Style) → s ≡ style_of d n shade → r ≡ in_mode s r.mode
+    → r ≡ in_mode (style_of d n shade) r.mode
+styled d n shade s r e f = f ∙ ap (λ (z : Style). in_mode z r.mode) e
+
 -- ---- what the gradient's functions ask
 abbrev points_of : LinearPoints → Paint → LinearPoints
 points_of q (paint.Solid c) = q

@@ -7,14 +7,14 @@ use lib.ListN.{length, get_or, take, drop, take-append-drop}
 use borrow.Author.Count.{below_more}
 use Rattle.lists.proofs.Laws.{part_length}
 use Rattle.runs.specs.Runs.{start_of, level_of, expand, Runs}
-use Rattle.runs.proofs.Expand.{starts_rise, runs_length, first_length, first_at, first_within, level_at_lem}
+use Rattle.runs.proofs.Expand.{starts_rise, runs_length, first_within, level_at_lem}
 use Rattle.color.specs.declared.Pixel.{Pixel}
 use Rattle.raster.specs.Surface.{run, pixel_in}
 use Rattle.raster.specs.Rows.{Stored}
 use Rattle.raster.proofs.Pixels.{run_at}
 use Rattle.raster.proofs.Runs.{run_same, run_is, stored_all, stored_part, part_pixel}
 use Rattle.blend.specs.PorterDuff.{composite_on}
-use Rattle.blend.specs.Rows.{Coverage, composite_row}
+use Rattle.blend.specs.Rows.{composite_row}
 use Rattle.blend.proofs.Masks.{uncovered_masked}
 use Rattle.engine.specs.Rows.{RowCoverage}
 use Rattle.engine.specs.Spans.{Uncovered}

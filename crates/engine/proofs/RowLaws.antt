@@ -1,13 +1,13 @@
 -- A row's coverage and a row of pixels, taken apart and put together.
 use mathlib.Core.Path.{◌≡◌, refl, sym, ap, ap₂, ◌∙◌}
 use mathlib.Core.List.{List, [], ◌∷◌, ◌++◌}
-use mathlib.Core.Bool.{Bool, true, false}
+use mathlib.Core.Bool.{Bool, true}
 use Prim.Native.Nat.{ℕ, ◌+◌, ◌-◌, ◌*◌, ◌≤◌, ◌<◌}
 use native.Mathlib.Nat.{le_trans}
 use native.Mathlib.Omega.{arith}
-use lib.ListN.{length, get_or, take, drop, length-append, length-drop, length-take}
+use lib.ListN.{length, get_or, take, drop, length-append, length-drop}
 use lib.IntN.{ℤ}
-use lib.Seq.{take_at, drop_at, take-append-le}
+use lib.Seq.{take_at}
 use Rattle.std.specs.Prelude.{Option, Some, None}
 use Rattle.lists.specs.Lists.{tab}
 use Rattle.lists.proofs.Laws.{upto_same, tab_at, tab_length}
@@ -24,7 +24,6 @@ use Rattle.path.specs.Stored.{edges_of}
 use Rattle.coverage.specs.Winding.{coverage}
 use Rattle.coverage.specs.Scissors.{scissored}
 use Rattle.coverage.proofs.Limits.{coverage_at_most_16, scissored_at_most}
-use Rattle.paint.specs.Buffers.{ramp_numbers}
 use Rattle.transform.specs.declared.FixedTransform.{FixedTransform}
 use Rattle.transform.specs.Transforms.{transformed}
 use Rattle.engine.specs.declared.Style.{Style}
@@ -120,9 +119,6 @@ first_part q rest n e = take_at q rest n e
 pub first_given : (b q : List ℕ) (n : ℕ) → length q ≡ n → n ≤ length b → length (q ++ drop (n - 0) b) ≡ length b
 first_given b q n e h = simp (length-append, length-drop) (omega arith)
 
-pub back_length : (b q : List ℕ) (n m : ℕ) → n ≤ m → m ≤ length b → length q ≡ m - n → length (take n b ++ (q ++ drop (m - n) (drop n b))) ≡ length b
-back_length b q n m l h e = simp (length-append, length-take, length-drop) (omega arith)
-
 -- ---- pixels by a colour transformation
 module _ (n : ℕ) (row : List ℕ) (t : Tint) where
   pub plain_row : t ≡ Plain → length row ≡ n * 4 → row ≡ run n (λ i. tinted_by t (pixel_in row i))
@@ -175,28 +171,11 @@ module _ (mode x y : ℕ) (mask : ℕ → ℕ) (ks row ramp r : List ℕ) (s : S
       ap₂ (λ (c : ℕ) (p : Pixel). composite_on mode c (mask i) p (pixel_in row i)) (ap (λ (j : ℕ). get_or ks j 0) z)
       (ap (λ (t : List ℕ). pixel_in t i) o ∙ run_at n f i (rw l at h)))
 
--- ---- numbers behind the ramp, of which some are given back as q
-module _ (s q : List ℕ) (k : ℕ) (l : ramp_numbers + k ≤ length s) (e : length q ≡ k) where
-  pub ramp_kept : take ramp_numbers (take ramp_numbers s ++ (q ++ drop (ramp_numbers + k - ramp_numbers) (drop ramp_numbers s))) ≡ take ramp_numbers s
-  ramp_kept = take_at (take ramp_numbers s) _ ramp_numbers (simp length-take (omega arith))
-
-  pub list_given : (n : ℕ) → n ≤ k
-      → take n (drop ramp_numbers (take ramp_numbers s ++ (q ++ drop (ramp_numbers + k - ramp_numbers) (drop ramp_numbers s)))) ≡ take n q
-  list_given n h =
-      rw (drop_at (take ramp_numbers s) (q ++ drop (ramp_numbers + k - ramp_numbers) (drop ramp_numbers s)) ramp_numbers (simp length-take (omega arith)))
-      (take-append-le n q (drop (ramp_numbers + k - ramp_numbers) (drop ramp_numbers s)) (omega arith))
-
-pub behind_ramp : (s : List ℕ) (k : ℕ) → take (ramp_numbers + k - ramp_numbers) (drop ramp_numbers s) ≡ take k (drop ramp_numbers s)
-behind_ramp s k =
-    let e : ramp_numbers + k - ramp_numbers ≡ k = omega arith in
-    ap (λ (m : ℕ). take m (drop ramp_numbers s)) e
-
--- ---- a rectangle drawn with the same edges, the same ramp and the same rows
-pub same_steps : (style : Style) (n : ℕ) (scissors mask s r : List ℕ) {t u : Target} {z e : List ℤ} {m k : List ℕ} → t ≡ u → z ≡ e → m ≡ k
-    → r ≡ stepped t (λ x y. step_with style (edges_of z n) scissors m (mask_at t.width mask x y) x y) s
-    → r ≡ stepped u (λ x y. step_with style (edges_of e n) scissors k (mask_at u.width mask x y) x y) s
-same_steps style n scissors mask s r {t = t} {u = u} {z = z} {e = e} {m = m} a b c o =
+-- ---- a rectangle drawn with the same edges and the same rows
+pub same_steps : (style : Style) (n : ℕ) (scissors ramp mask s r : List ℕ) {t u : Target} {z e : List ℤ} → t ≡ u → z ≡ e
+    → r ≡ stepped t (λ x y. step_with style (edges_of z n) scissors ramp (mask_at t.width mask x y) x y) s
+    → r ≡ stepped u (λ x y. step_with style (edges_of e n) scissors ramp (mask_at u.width mask x y) x y) s
+same_steps style n scissors ramp mask s r {t = t} {u = u} {z = z} {e = e} a b o =
     o
-    ∙ ap (λ (w : Target). stepped w (λ x y. step_with style (edges_of z n) scissors m (mask_at w.width mask x y) x y) s) a
-    ∙ ap (λ (w : List ℤ). stepped u (λ x y. step_with style (edges_of w n) scissors m (mask_at u.width mask x y) x y) s) b
-    ∙ ap (λ (w : List ℕ). stepped u (λ x y. step_with style (edges_of e n) scissors w (mask_at u.width mask x y) x y) s) c
+    ∙ ap (λ (w : Target). stepped w (λ x y. step_with style (edges_of z n) scissors ramp (mask_at w.width mask x y) x y) s) a
+    ∙ ap (λ (w : List ℤ). stepped u (λ x y. step_with style (edges_of w n) scissors ramp (mask_at u.width mask x y) x y) s) b

@@ -1,5 +1,5 @@
 -- What the row functions compute of a draw that was taken apart. A reviewer of the paper need not read it.
-use Rattle.std.specs.Prelude.{ℕ, ◌+◌, ◌*◌, ◌≤◌, ◌<◌, ◌≡◌, Bool, true, cond, Option, None, Some, List, ℤ, pos, length, take, drop, replicate}
+use Rattle.std.specs.Prelude.{ℕ, ◌*◌, ◌≤◌, ◌<◌, ◌≡◌, Bool, true, cond, Option, None, Some, List, ℤ, pos, length, replicate}
 use Rattle.std.specs.Bool.{then_some}
 use Rattle.runs.specs.Runs.{expand, Runs}
 use Rattle.color.specs.declared.Pixel.{Pixel}
@@ -9,7 +9,6 @@ use Rattle.rect.specs.Rects.{On, whole}
 use Rattle.path.specs.declared.Edge.{Edge}
 use Rattle.path.specs.Stored.{edges_of}
 use Rattle.coverage.specs.Scanline.{Outlined}
-use Rattle.coverage.specs.Band.{Needed, Band}
 use Rattle.coverage.specs.Scissors.{scissored}
 use Rattle.coverage.specs.Clips.{scissor_box}
 use Rattle.coverage.specs.Winding.{coverage}
@@ -25,7 +24,7 @@ use Rattle.paint.specs.declared.RadialPoints.{RadialPoints}
 use Rattle.paint.specs.Gradient.{fixed_points}
 use Rattle.paint.specs.Radial.{fixed_circle, focal_allowed}
 use Rattle.paint.specs.Ramps.{ramp_of}
-use Rattle.paint.specs.Buffers.{ramp_numbers, LimitedPoints, HeldRamp, Written}
+use Rattle.paint.specs.Buffers.{LimitedPoints, HeldRamp, Written}
 use Rattle.paint.specs.Circles.{LimitedCircle, HeldGradient, gradient_at}
 use Rattle.transform.specs.Transforms.{transformed}
 use Rattle.scene.specs.Blocks.{draw_of}
@@ -91,13 +90,6 @@ Shaded (Gradient g) ramp = HeldGradient g.gradient ramp
 -- of what is lent for a row of n pixels: four bytes for each, and a run
 abbrev pub RowRoom : ℕ → List ℕ → List ℕ → Type 0
 RowRoom n buffer runs = (length buffer ≡ n * 4) × (length runs ≡ n)
-
--- of the numbers behind the ramp, so many of them: every edge of the n that is not among them misses the row y, or every row from y to before end
-abbrev pub ListedFor : List ℤ → ℕ → List ℕ → ℕ → ℕ → Type 0
-ListedFor scratch n numbers count y = (ramp_numbers + count ≤ length numbers) × Needed scratch n y (take count (drop ramp_numbers numbers))
-
-abbrev pub ListedIn : List ℤ → ℕ → List ℕ → ℕ → ℕ → ℕ → Type 0
-ListedIn scratch n numbers count y end = (ramp_numbers + count ≤ length numbers) × Band scratch n y end (take count (drop ramp_numbers numbers))
 
 -- the rows of a target from y to before end
 abbrev pub rows_of : Target → ℕ → ℕ → Target

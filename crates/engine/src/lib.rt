@@ -13,6 +13,8 @@
 #![tactic(auto)]
 
 ghost use Rattle.std.specs.Prelude.{◌+◌, ◌≤◌, ◌<◌};
+ghost use Rattle.engine.specs.Rows.{Shaded, Scissors};
+ghost use Rattle.engine.specs.Props.{shaded_prop, scissors_prop};
 
 mod background;
 pub mod decode;
@@ -24,7 +26,6 @@ pub mod spans;
 
 use color::Pixel;
 use paint::AnyGradient;
-use raster::Target;
 use transform::FixedTransform;
 
 // How a draw is filled: the number of its edges, its fill rule, by how many scissors it is cut where scissoring is on, whether it is drawn through the
@@ -39,20 +40,15 @@ pub struct Style {
     pub shade: Shade,
 }
 
-// A draw on a rectangle of the surface, and how many of its edges are listed as those that the rectangle's rows meet.
+// A style with what it reads: the ramp of its paint, the bytes of its scissors, and the mask's.
 #[derive(Clone, Copy)]
-pub struct Fill {
+pub struct Brush<'a> {
     pub style: Style,
-    pub target: Target,
-    pub listed: usize,
-}
-
-// The same on a row.
-#[derive(Clone, Copy)]
-pub struct FillRow {
-    pub style: Style,
-    pub strip: Strip,
-    pub listed: usize,
+    pub ramp: &'a [u32],
+    pub scissors: &'a [u8],
+    pub mask: &'a [u8],
+    ghost shaded: { Shaded style.shade ramp.now } by { shaded_prop style.shade ramp.now },
+    ghost cut: { Scissors style scissors.now } by { scissors_prop style scissors.now },
 }
 
 // What a draw paints with, ready for its rows: a premultiplied pixel, already transformed, or a gradient.

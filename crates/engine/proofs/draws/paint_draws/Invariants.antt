@@ -1,6 +1,6 @@
 -- `draws::paint_draws` meets its contract: the draws before i are painted.
 use mathlib.Core.Path.{◌≡◌}
-use Prim.Native.Nat.{◌-◌, ◌≤◌}
+use Prim.Native.Nat.{◌≤◌}
 use lib.ListN.{length}
 use Rattle.raster.specs.Rows.{stepped}
 use Rattle.engine.specs.Picture.{first_draws, mask_at}

@@ -1,6 +1,6 @@
 -- `rows::ShadedRow::blend_masked` meets its contract: the paint's row, blended through the mask by all of the row's runs.
 use mathlib.Core.Path.{◌≡◌, sym, ap, ◌∙◌}
-use Prim.Native.Nat.{ℕ, ◌-◌, ◌*◌, ◌≤◌}
+use Prim.Native.Nat.{ℕ, ◌-◌, ◌*◌}
 use native.Mathlib.Omega.{arith}
 use lib.ListN.{length, get_or}
 use Rattle.runs.specs.Runs.{start_of}
@@ -27,5 +27,5 @@ returns c =
     let s = a.self.now in
     let call = c.composite_masked_runs in
     let width : start_of s.runs.now (length s.runs.now) - 0 ≡ s.strip.length = omega (arith, s.covered.0.last) in
-    painted_row s.style.mode s.strip.x s.strip.y (λ i. get_or a.mask.now i 0) (levels s.runs.now) a.row.now s.ramp.now call.new.row s.style.shade
+    painted_row s.brush.style.mode s.strip.x s.strip.y (λ i. get_or s.brush.mask.now i 0) (levels s.runs.now) a.row.now s.brush.ramp.now call.new.row s.brush.style.shade
     s.strip.length _ c.row.new.paints (runs_length s.runs.now (length s.runs.now) s.strip.length s.covered.0) width c.row.ensures call.ensures
