@@ -1,6 +1,5 @@
 // Where the first draw hides the background, which need not be filled there: a panel's own, a rectangle over most of the surface in an opaque paint.
 ghost use Rattle.std.specs.Prelude.{◌≡◌, true, ◌≤◌, length};
-ghost use Rattle.rect.specs.Rects.{none};
 ghost use Rattle.path.specs.Stored.{edges_of};
 ghost use Rattle.coverage.specs.Scanline.{Outlined};
 ghost use Rattle.coverage.specs.Covers.{Covered};
@@ -40,7 +39,7 @@ pub fn hidden_rect(
     ensures hides { Hides result (unclamped_all (edition_of scene.now) (first_draws scene.now count)) }
 {
     if count == 0 {
-        return no_pixel();
+        return Rect::EMPTY;
     }
     let edition = scene::header::edition(scene);
     scene::blocks::read_draw(scene, 0, d);
@@ -61,7 +60,7 @@ fn hidden_by(scratch: &mut [i32], d: &[u8], edition: u32, width: usize, height: 
         clear_edges(scratch, n);
         return r;
     }
-    no_pixel()
+    Rect::EMPTY
 }
 
 // Pixels that n edges are seen to cover whole: their box, or their box without its outermost pixels, or none. A side that lies on the border of two pixels
@@ -72,7 +71,7 @@ fn covered_rect(scratch: &[i32], n: usize, width: usize, height: usize) -> Rect
     ensures { Covered (edges_of scratch.now n) result }
 {
     let b = outline::bounds::bounds(scratch, n, width, height);
-    if rect::is_empty(b) {
+    if b.is_empty() {
         return b;
     }
     if is_covered(scratch, n, b) {
@@ -87,7 +86,7 @@ fn covered_rect(scratch: &[i32], n: usize, width: usize, height: usize) -> Rect
     if is_covered(scratch, n, inner) {
         return inner;
     }
-    no_pixel()
+    Rect::EMPTY
 }
 
 // Whether they are seen to cover a rectangle that has a pixel.
@@ -96,22 +95,10 @@ fn is_covered(scratch: &[i32], n: usize, a: Rect) -> bool
     requires x1_bound { (a.x1 ≤ 1024) × (a.y1 ≤ 1024) }
     ensures { result ≡ true → Covered (edges_of scratch.now n) a }
 {
-    if rect::is_empty(a) {
+    if a.is_empty() {
         return false;
     }
     coverage::covers::covers(scratch, n, a)
-}
-
-// A rectangle without a pixel.
-fn no_pixel() -> Rect
-    ensures { result ≡ none }
-{
-    Rect {
-        x0: 0,
-        y0: 0,
-        x1: 0,
-        y1: 0,
-    }
 }
 
 // Whether a draw is seen to hide what its path covers, and its path is short.

@@ -116,7 +116,7 @@ fn misses(d: &[u8], edition: u32, target: Target) -> bool
         return false;
     }
     let hull = draw_hull(d, edition, width, height);
-    rect::is_empty(rect::meet(a, hull))
+    a.meet(hull).is_empty()
 }
 
 // A draw whose n edges lie in the scratch, at every pixel of the target: only the pixels of its box, inside the rectangle round its scissors, are gone
@@ -138,9 +138,9 @@ fn paint_box(
 {
     let width = target.width;
     let height = target.height;
-    let outer = rect::meet(outline::bounds::bounds(scratch, n, width, height), clip(d));
-    let b = rect::meet(target.area, outer);
-    if rect::is_empty(b) {
+    let outer = outline::bounds::bounds(scratch, n, width, height).meet(clip(d));
+    let b = target.area.meet(outer);
+    if b.is_empty() {
         return;
     }
     let inner = Target {

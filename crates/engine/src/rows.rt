@@ -141,7 +141,7 @@ impl FillArea<'_> {
         let y1 = target.area.y1;
         let mut y = target.area.y0;
         while y < y1 {
-            let end = rect::least(y + BAND_ROWS, y1);
+            let end = (y + BAND_ROWS).min(y1);
             let count = coverage::filter_edges(scratch, self.brush.style.edges, y, end, list);
             let band = FillArea {
                 brush: self.brush,
@@ -177,7 +177,7 @@ impl FillArea<'_> {
         let x = target.area.x0;
         let length = target.area.x1 - x;
         for y in target.area.y0..target.area.y1 {
-            let r = raster::row_bytes(target, y);
+            let r = target.row_bytes(y);
             let m = mask_bytes(brush.style.masked, r);
             let own = Brush {
                 style: brush.style,

@@ -86,4 +86,4 @@ returns-then-is_covered-2 c =
 pub returns : goal.returns
 returns c =
     let a = c.args in
-    empty_covered (edges_of a.scratch.now a.n) c.no_pixel.result (ap empty_of c.no_pixel.ensures)
+    empty_covered (edges_of a.scratch.now a.n) _ refl

@@ -24,4 +24,4 @@ returns-then-hides_covered c =
 pub returns : goal.returns
 returns c =
     let a = c.args in
-    record { scratch_unchanged = refl; hides = empty_hides c.no_pixel.result (unclamped_step a.edition a.d.now) (ap empty_of c.no_pixel.ensures) }
+    record { scratch_unchanged = refl; hides = empty_hides _ (unclamped_step a.edition a.d.now) refl }

@@ -14,7 +14,7 @@ pub returns-then-count-eq0 : goal.returns-then-count-eq0
 returns-then-count-eq0 c =
     let a = c.args in
     let draws = unclamped_all (edition_of a.scene.now) (first_draws a.scene.now a.count) in
-    record { scratch_unchanged = refl; hides = empty_hides c.no_pixel.result draws (ap empty_of c.no_pixel.ensures) }
+    record { scratch_unchanged = refl; hides = empty_hides _ draws refl }
 
 pub hidden_by-requires : goal.hidden_by-requires
 hidden_by-requires c =

@@ -27,7 +27,7 @@ overflow_add-y c =
 
 pub filter_edges-count-requires : goal.filter_edges-count-requires
 filter_edges-count-requires c =
-    let least = c.least-end in
+    let least = c.min-end in
     let placed = c.requires.part.0.placed in
     let n = c.args.self.now.brush.style.edges in
     record {
@@ -51,7 +51,7 @@ draw_rows-requires c =
     let a = c.args in
     let t = a.self.now.target in
     let n = a.self.now.brush.style.edges in
-    let end = c.least-end in
+    let end = c.min-end in
     let found = c.filter_edges-count in
     record {
       outlined = (
@@ -69,7 +69,7 @@ draw_rows-requires c =
 
 pub loop-y-smaller : goal.loop-y-smaller
 loop-y-smaller c =
-    omega (arith, c.least-end.ensures, c.loop-y-test.true)
+    omega (arith, c.min-end.ensures, c.loop-y-test.true)
 
 pub loop-y-preserved : goal.loop-y-preserved
 loop-y-preserved c =
@@ -77,7 +77,7 @@ loop-y-preserved c =
     let l = c.loop-y in
     let a = c.args in
     let b = a.self.now.brush in
-    let end = c.least-end in
+    let end = c.min-end in
     let drawn = same_steps b.style b.style.edges b.scissors.now b.ramp.now b.mask.now l.surface call.new.surface c.rows_of.ensures l.invariant.1
     call.ensures.surface_after in (
       rows_band a.self.now.target _ a.surface.now c.requires.part.0 l.invariant.0 end.result (omega (arith, end.ensures, c.loop-y-test.true))
