@@ -27,7 +27,7 @@ use Rattle.scene.specs.Header.{count_of, edition_of, background_of}
 use Rattle.scene.specs.Fields.{scissoring, uses_mask, blend_of, non_zero_rule}
 use Rattle.engine.specs.declared.Shade.{Shade}
 use Rattle.engine.specs.declared.Shade.TheVariants.{Solid}
-use Rattle.engine.specs.declared.Tint.TheVariants.{Plain}
+use Rattle.std.specs.Prelude.{None}
 use Rattle.engine.specs.declared.TintedGradient.{TintedGradient}
 use Rattle.engine.specs.Picture.{draw_edges, coverage_of, draw_paint, draw_mask, first_draws, pixel_at}
 use Rattle.engine.specs.Unclamped.{unclamped_of, unclamped_step, unclamped_all}
@@ -44,7 +44,7 @@ unfolding shade_at
 solid_hides mode s p ramp e l h = rw e (λ x y. (h, l))
 
 -- an opaque gradient as it is
-pub plain_hides : (mode : ℕ) (g : TintedGradient) (ramp : List ℕ) → g.tint ≡ Plain → hides mode 255 ≡ true → OpaqueGradient g.gradient ramp
+pub plain_hides : (mode : ℕ) (g : TintedGradient) (ramp : List ℕ) → g.tint ≡ None → hides mode 255 ≡ true → OpaqueGradient g.gradient ramp
     → HidingPaint mode (gradient_tinted g ramp)
 unfolding tinted_by
 plain_hides mode g ramp e h o = rw e (λ x y. rw (o x y) (h, omega arith))

@@ -12,11 +12,12 @@ use Rattle.paint.specs.declared.LinearGradient.{LinearGradient}
 use Rattle.paint.specs.Paints.{gradient_color}
 use Rattle.paint.specs.Buffers.{stops_in, linear_at}
 use Rattle.paint.proofs.Slope.{one_t}
-use Rattle.engine.specs.declared.Tint.{Tint}
+use Rattle.std.specs.Prelude.{Option}
+use Rattle.transform.specs.declared.FixedTransform.{FixedTransform}
 use Rattle.engine.specs.Rows.{tinted_by}
 
 -- the pixel q at x, tinted, is the paint p of each
-pub level_row : (mode x y : ℕ) (ks row r ramp : List ℕ) (l : LinearGradient) (tint : Tint) (q p : Pixel) → l.points.x0 ≡ l.points.x1
+pub level_row : (mode x y : ℕ) (ks row r ramp : List ℕ) (l : LinearGradient) (tint : Option FixedTransform) (q p : Pixel) → l.points.x0 ≡ l.points.x1
     → q ≡ linear_at l (stops_in ramp l.count) x y → p ≡ tinted_by tint q → r ≡ composite_row mode ks (λ i. 255) (λ i. p) row
     → r ≡ composite_row mode ks (λ i. 255) (λ i. tinted_by tint (linear_at l (stops_in ramp l.count) (x + i) y)) row
 level_row mode x y ks row r ramp l tint q p e made o u =

@@ -58,8 +58,7 @@ use Rattle.scene.proofs.Accepted.{stops_fit}
 use Rattle.lists.proofs.Laws.{part_length}
 use Rattle.engine.specs.Picture.{coverage_of, draw_transform, draw_paint, draw_mask}
 use Rattle.engine.specs.Unclamped.{unclamped_of}
-use Rattle.engine.specs.declared.Tint.{Tint}
-use Rattle.engine.specs.declared.Tint.TheVariants.{Plain, Transformed}
+use Rattle.std.specs.Prelude.{Option, None, Some}
 use Rattle.engine.specs.declared.Shade.{Shade}
 use Rattle.engine.specs.declared.Shade.TheVariants.{Solid, Gradient}
 use Rattle.engine.specs.declared.Style.{Style}
@@ -68,16 +67,16 @@ use Rattle.engine.specs.Background.{HidingPaint}
 use Rattle.engine.proofs.Unclamped.{drawn_under}
 
 -- ---- the colour transformation
-pub tint_on : (d : List ℕ) (t : FixedTransform) → transforms d ≡ true → t ≡ fixed_transform (transform_of d) → Tints d (Transformed t)
+pub tint_on : (d : List ℕ) (t : FixedTransform) → transforms d ≡ true → t ≡ fixed_transform (transform_of d) → Tints d (Some t)
 unfolding tinted_by draw_transform
 tint_on d t e f p = rw e (ap (λ (u : FixedTransform). transformed u p) f)
 
-pub tint_off : (d : List ℕ) → transforms d ≡ false → Tints d Plain
+pub tint_off : (d : List ℕ) → transforms d ≡ false → Tints d None
 unfolding tinted_by draw_transform
 tint_off d e p = rw e
 
 -- ---- the paint
-module _ (d : List ℕ) (t : Tint) (tints : Tints d t) where
+module _ (d : List ℕ) (t : Option FixedTransform) (tints : Tints d t) where
   pub solid_shades : (c : Color) (p q : Pixel) (before : List ℕ) → paint_of d ≡ paint.Solid c → p ≡ premultiplied (bytes_of_color c) → q ≡ tinted_by t p
       → Shades d (Solid q) before before
   unfolding shade_at draw_paint paint_at

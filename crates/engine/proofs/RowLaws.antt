@@ -27,8 +27,6 @@ use Rattle.coverage.proofs.Limits.{coverage_at_most_16, scissored_at_most}
 use Rattle.transform.specs.declared.FixedTransform.{FixedTransform}
 use Rattle.transform.specs.Transforms.{transformed}
 use Rattle.engine.specs.declared.Style.{Style}
-use Rattle.engine.specs.declared.Tint.{Tint}
-use Rattle.engine.specs.declared.Tint.TheVariants.{Plain, Transformed}
 use Rattle.engine.specs.declared.TintedGradient.{TintedGradient}
 use Rattle.engine.specs.declared.Shade.{Shade}
 use Rattle.engine.specs.declared.Shade.TheVariants.{Solid, Gradient}
@@ -120,12 +118,12 @@ pub first_given : (b q : List ℕ) (n : ℕ) → length q ≡ n → n ≤ length
 first_given b q n e h = simp (length-append, length-drop) (omega arith)
 
 -- ---- pixels by a colour transformation
-module _ (n : ℕ) (row : List ℕ) (t : Tint) where
-  pub plain_row : t ≡ Plain → length row ≡ n * 4 → row ≡ run n (λ i. tinted_by t (pixel_in row i))
+module _ (n : ℕ) (row : List ℕ) (t : Option FixedTransform) where
+  pub plain_row : t ≡ None → length row ≡ n * 4 → row ≡ run n (λ i. tinted_by t (pixel_in row i))
   unfolding tinted_by
   plain_row e l = rw e (run_is n (pixel_in row) row l (λ i k. refl))
 
-  pub transformed_row : (f : FixedTransform) (r : List ℕ) → t ≡ Transformed f → r ≡ run n (λ i. transformed f (pixel_in row i))
+  pub transformed_row : (f : FixedTransform) (r : List ℕ) → t ≡ Some f → r ≡ run n (λ i. transformed f (pixel_in row i))
       → r ≡ run n (λ i. tinted_by t (pixel_in row i))
   unfolding tinted_by
   transformed_row f r e o = o ∙ rw e

@@ -32,8 +32,7 @@ use Rattle.scene.specs.Header.{count_of}
 use Rattle.scene.specs.Fields.{blend_of, non_zero_rule, scissoring, scissors_of, scissor_count, spread_of, ramp_premultiplied, uses_mask, stops_of, stop_count}
 use Rattle.engine.specs.Picture.{draw_edges, draw_transform, draw_paint}
 use Rattle.engine.specs.declared.Style.{Style}
-use Rattle.engine.specs.declared.Tint.{Tint}
-use Rattle.engine.specs.declared.Tint.TheVariants.{Plain, Transformed}
+use Rattle.transform.specs.declared.FixedTransform.{FixedTransform}
 use Rattle.engine.specs.declared.TintedGradient.{TintedGradient}
 use Rattle.engine.specs.declared.Shade.{Shade}
 use Rattle.engine.specs.declared.Shade.TheVariants.{Solid, Gradient}
@@ -49,9 +48,9 @@ unfoldable pub coverage_with : Style → List Edge → List ℕ → ℕ → ℕ 
 coverage_with s es scissors x y = scissored_by s.scissors scissors x y (coverage es s.nonzero x y)
 
 -- premultiplied bytes by a colour transformation, or as they are
-unfoldable pub tinted_by : Tint → Pixel → Pixel
-tinted_by Plain p = p
-tinted_by (Transformed t) p = transformed t p
+unfoldable pub tinted_by : Option FixedTransform → Pixel → Pixel
+tinted_by None p = p
+tinted_by (Some t) p = transformed t p
 
 -- the paint, with a ramp in a run of numbers
 abbrev pub gradient_tinted : TintedGradient → List ℕ → ℕ → ℕ → Pixel
@@ -155,7 +154,7 @@ abbrev pub SameBlend : ℕ → ℕ → (ℕ → ℕ → Pixel) → Type 0
 SameBlend a b paint = (x y k m : ℕ) (p : Pixel) → UnderAlpha (paint x y) → composite_on a k m (paint x y) p ≡ composite_on b k m (paint x y) p
 
 -- its colour transformation
-abbrev pub Tints : List ℕ → Tint → Type 0
+abbrev pub Tints : List ℕ → Option FixedTransform → Type 0
 Tints d t = (p : Pixel) → tinted_by t p ≡ draw_transform d p
 
 -- the ramp of its stops, written to the run `before`

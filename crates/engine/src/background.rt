@@ -16,7 +16,7 @@ ghost use Rattle.engine.specs.Background.{HidingPaint, HidesCovered, Hides};
 
 use crate::decode::shade;
 use crate::edges::{clear_edges, lay_edges};
-use crate::{Shade, Tint, TintedGradient};
+use crate::{Shade, TintedGradient};
 use paint::build::RAMP_NUMBERS;
 use rect::Rect;
 
@@ -152,13 +152,13 @@ impl TintedGradient {
         let gradient = self.gradient;
         let tint = self.tint;
         match tint {
-            Tint::Plain => {
+            None => {
                 if blend::factor::hides(mode, 255) {
                     return paint::opacity::is_opaque(gradient, ramp);
                 }
                 false
             }
-            Tint::Transformed(t) => false,
+            Some(t) => false,
         }
     }
 }

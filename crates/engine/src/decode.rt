@@ -7,8 +7,10 @@ ghost use Rattle.scene.specs.Fields.{paint_of};
 ghost use Rattle.scene.specs.Accepted.{AcceptedFields};
 ghost use Rattle.engine.specs.Rows.{style_of, Tints, Shades, MadeRamp, MadeLinear, MadeRadial};
 
-use crate::{Shade, Style, Tint, TintedGradient};
+use crate::shading::tinted;
+use crate::{Shade, Style, TintedGradient};
 use paint::{AnyGradient, LinearGradient, LinearPoints, Paint, RadialGradient, RadialPoints};
+use transform::FixedTransform;
 
 // How the draw is filled, with a shade and n edges.
 pub fn style(d: &[u8], n: usize, shade: Shade) -> Style
@@ -34,7 +36,7 @@ pub fn shade(d: &[u8], ramp: &mut [u32]) -> Shade
     let tint = tint(d);
     let paint = scene::fields::paint(d);
     match paint {
-        Paint::Solid(c) => Shade::Solid(tint.pixel(paint::row::solid_pixel(c))),
+        Paint::Solid(c) => Shade::Solid(tinted(tint, paint::row::solid_pixel(c))),
         Paint::Linear(p) => Shade::Gradient(TintedGradient {
             gradient: AnyGradient::Linear(linear(d, p, ramp)),
             tint,
@@ -47,14 +49,14 @@ pub fn shade(d: &[u8], ramp: &mut [u32]) -> Shade
 }
 
 // The draw's colour transformation, where it is on.
-fn tint(d: &[u8]) -> Tint
+fn tint(d: &[u8]) -> Option<FixedTransform>
     requires { length d.now ≡ draw_bytes }
     ensures { Tints d.now result }
 {
     if scene::fields::transforms(d) {
-        return Tint::Transformed(transform::fixed_transform(scene::fields::transform(d)));
+        return Some(transform::fixed_transform(scene::fields::transform(d)));
     }
-    Tint::Plain
+    None
 }
 
 // The draw's linear gradient.

@@ -58,18 +58,11 @@ pub enum Shade {
     Gradient(TintedGradient),
 }
 
-// A gradient, whose ramp lies in a lent run of numbers, and what becomes of its pixels.
+// A gradient, whose ramp lies in a lent run of numbers, and the colour transformation of its premultiplied pixels, where there is one.
 #[derive(Clone, Copy)]
 pub struct TintedGradient {
     pub gradient: AnyGradient,
-    pub tint: Tint,
-}
-
-// Whether premultiplied pixels go through a colour transformation, and through which.
-#[derive(Clone, Copy)]
-pub enum Tint {
-    Plain,
-    Transformed(FixedTransform),
+    pub tint: Option<FixedTransform>,
 }
 
 // The pixels (x, y) to (x + length - 1, y), which lie on the largest surface.

@@ -4,8 +4,9 @@ ghost use Rattle.raster.specs.Surface.{run, pixel_in};
 ghost use Rattle.paint.specs.Circles.{HeldGradient};
 ghost use Rattle.engine.specs.Rows.{tinted_by, gradient_tinted, shade_at, Shaded};
 
-use crate::{Shade, Strip, Tint, TintedGradient};
+use crate::{Shade, Strip, TintedGradient};
 use color::Pixel;
+use transform::FixedTransform;
 
 impl Shade {
     // The paint of each pixel of a strip, with the ramp of a gradient.
@@ -31,29 +32,27 @@ impl TintedGradient {
         let gradient = self.gradient;
         let tint = self.tint;
         paint::row::gradient_row(gradient, ramp, strip.x, strip.y, strip.length, paints);
-        tint.row(paints, strip.length);
+        tint_row(tint, paints, strip.length);
     }
 }
 
-impl Tint {
-    // A pixel, by the colour transformation.
-    pub fn pixel(self, p: Pixel) -> Pixel
-        ensures { result ≡ tinted_by self p }
-    {
-        match self {
-            Tint::Plain => p,
-            Tint::Transformed(t) => transform::transform_pixel(t, p),
-        }
+// A pixel, by the colour transformation.
+pub fn tinted(tint: Option<FixedTransform>, p: Pixel) -> Pixel
+    ensures { result ≡ tinted_by tint p }
+{
+    match tint {
+        None => p,
+        Some(t) => transform::transform_pixel(t, p),
     }
+}
 
-    // n pixels.
-    fn row(self, row: &mut [u8], n: usize)
-        requires { length row.old ≡ n * 4 }
-        ensures { row.new ≡ run n (λ i. tinted_by self (pixel_in row.old i)) }
-    {
-        match self {
-            Tint::Plain => {}
-            Tint::Transformed(t) => transform::transform_row(t, row, n),
-        }
+// n pixels.
+fn tint_row(tint: Option<FixedTransform>, row: &mut [u8], n: usize)
+    requires { length row.old ≡ n * 4 }
+    ensures { row.new ≡ run n (λ i. tinted_by tint (pixel_in row.old i)) }
+{
+    match tint {
+        None => {}
+        Some(t) => transform::transform_row(t, row, n),
     }
 }

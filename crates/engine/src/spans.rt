@@ -10,6 +10,7 @@ ghost use Rattle.engine.specs.Rows.{gradient_tinted, levels, RowCoverage};
 ghost use Rattle.engine.specs.Spans.{Uncovered};
 ghost use Rattle.engine.specs.Props.{held_prop};
 
+use crate::shading::tinted;
 use crate::{Strip, TintedGradient};
 use paint::{AnyGradient, LinearGradient};
 use raster::Range;
@@ -58,7 +59,10 @@ impl GradientRow<'_> {
     {
         let strip = self.strip;
         let tint = self.paint.tint;
-        let p = tint.pixel(paint::row::linear_pixel(l, self.ramp, strip.x, strip.y));
+        let p = tinted(
+            tint,
+            paint::row::linear_pixel(l, self.ramp, strip.x, strip.y),
+        );
         blend::composite_runs(self.mode, self.runs, self.runs.len(), p, row, strip.length);
     }
 

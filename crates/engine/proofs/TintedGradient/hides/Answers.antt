@@ -7,13 +7,13 @@ use Rattle.engine.proofs.TintedGradient.hides.Goals as goal
 pub returns-then-hides : goal.returns-then-hides
 returns-then-hides c =
     λ t. let a = c.args in
-    plain_hides a.mode a.self a.ramp.now c.in-Plain.is (sym c.hides.ensures ∙ c.if-hides.true)
+    plain_hides a.mode a.self a.ramp.now c.in-None.is (sym c.hides.ensures ∙ c.if-hides.true)
     (c.is_opaque.ensures t)
 
 pub returns-else-hides : goal.returns-else-hides
 returns-else-hides c =
     λ t. absurd (subst T (sym t) tt)
 
-pub returns-in-Transformed : goal.returns-in-Transformed
-returns-in-Transformed c =
+pub returns-in-Some : goal.returns-in-Some
+returns-in-Some c =
     λ t. absurd (subst T (sym t) tt)

@@ -24,8 +24,8 @@ returns-in-Solid c =
     let tint = c.tint-tint in
     let a = c.args in
     let pixel = c.solid_pixel in
-    solid_shades a.d.now tint.result tint.ensures c.in-Solid.c pixel.result c.pixel.result a.ramp.now
-    (sym c.paint-paint.ensures.0 ∙ c.in-Solid.is) pixel.ensures c.pixel.ensures
+    solid_shades a.d.now tint.result tint.ensures c.in-Solid.c pixel.result c.tinted.result a.ramp.now
+    (sym c.paint-paint.ensures.0 ∙ c.in-Solid.is) pixel.ensures c.tinted.ensures
 
 pub returns-in-Linear : goal.returns-in-Linear
 returns-in-Linear c =

@@ -27,4 +27,4 @@ returns c =
     let call = c.composite_runs in
     rw c.requires.linear.0
     (level_row s.mode s.strip.x s.strip.y (levels s.runs.now) c.args.row.now call.new.row s.ramp.now c.args.l s.paint.tint
-    c.linear_pixel.result c.pixel-p.result c.requires.linear.1 c.linear_pixel.ensures c.pixel-p.ensures call.ensures)
+    c.linear_pixel.result c.tinted-p.result c.requires.linear.1 c.linear_pixel.ensures c.tinted-p.ensures call.ensures)
