@@ -6,6 +6,7 @@ use native.Mathlib.Omega.{arith}
 use native.Mathlib.Numerals.{add-one}
 use lib.IntN.{ℤ, pos}
 use lib.ListN.{length, replicate, drop, length-take, length-drop, replicate-append-replicate}
+use Rattle.std.specs.Prelude.{Ok}
 use Rattle.lists.specs.Lists.{tab}
 use Rattle.path.specs.declared.FixedMatrix.{FixedMatrix}
 use Rattle.path.specs.Limits.{Limited}
@@ -38,13 +39,13 @@ module _ (edition : ℕ) (d : List ℕ) (m : FixedMatrix) (ss cs : List ℕ) (n 
   limited : Limited m
   limited = subst Limited (sym matrix) (matrix_limited (matrix_of d) accepted.fields.matrix)
 
-  faultless : (fault_to m ss cs n).code ≡ 0
+  faultless : fault_to m ss cs n ≡ Ok tt
   faultless = rw (matrix, segments, coordinates, count) accepted.path
 
   few : n ≤ 128
   few = omega (arith, count, accepted.fields.segments)
 
-  pub flatten_asked : length d ≡ 2032 → ((n ≤ 128) × (n ≤ length ss)) × (Limited m × ((fault_to m ss cs n).code ≡ 0))
+  pub flatten_asked : length d ≡ 2032 → ((n ≤ 128) × (n ≤ length ss)) × (Limited m × (fault_to m ss cs n ≡ Ok tt))
   flatten_asked e =
       let long : length ss ≡ 128 = ap length segments ∙ length-take 128 (drop 772 d) ∙ rw (length-drop 772 d) (omega arith) in
       ((few, omega (arith, few, long)), (limited, faultless))

@@ -3,7 +3,6 @@ ghost use Rattle.std.specs.Prelude.{◌≡◌, ◌*◌, ◌≤◌, length};
 ghost use Rattle.raster.specs.Surface.{raster};
 ghost use Rattle.path.specs.Stored.{edges_of};
 ghost use Rattle.coverage.specs.Scanline.{Outlined};
-ghost use Rattle.paint.specs.Buffers.{ramp_numbers};
 ghost use Rattle.scene.specs.Layout.{draw_bytes};
 ghost use Rattle.scene.specs.Header.{count_of, edition_of};
 ghost use Rattle.scene.specs.Fields.{uses_mask};
@@ -12,7 +11,8 @@ ghost use Rattle.engine.specs.Picture.{step_of, draw_step, draw_all, first_draws
 ghost use Rattle.engine.specs.Rows.{Blank, MaskFor, MaskForScene};
 ghost use Rattle.plain.specs.Asked.{pixelwise};
 
-use crate::pixels::draw_pixels;
+use crate::pixels::LaidDraw;
+use engine::Brush;
 use engine::decode::{shade, style};
 use engine::edges::{clear_edges, lay_edges};
 use paint::build::RAMP_NUMBERS;
@@ -88,40 +88,36 @@ fn draw_one(
     ensures scratch_unchanged { scratch.new ≡ scratch.old }
     ensures surface_after { surface.new ≡ pixelwise width height (draw_step edition d.now (mask_at width mask.now)) surface.old }
 {
-    let mut ramp = [0u32; RAMP_NUMBERS];
     let n = lay_edges(scratch, d, edition);
-    draw_laid(surface, scratch, mask, n, d, width, height, &mut ramp);
+    draw_laid(surface, scratch, mask, n, d, width, height);
     clear_edges(scratch, n);
 }
 
-// A draw whose n edges lie in the scratch, with a run for its ramp. What this holds afterwards is free.
-fn draw_laid(
+// A draw whose n edges lie in the scratch.
+fn draw_laid<'a>(
     surface: &mut [u8],
-    scratch: &[i32],
-    mask: &[u8],
+    scratch: &'a [i32],
+    mask: &'a [u8],
     n: usize,
-    d: &[u8],
+    d: &'a [u8],
     width: usize,
     height: usize,
-    ramp: &mut [u32],
 )
     requires d_len { (length d.now ≡ draw_bytes) × AcceptedFields d.now }
     requires outlined { Outlined scratch.now n }
     requires surface_len { (length surface.old ≡ height * width * 4) × (width ≤ 1024) × (height ≤ 1024) }
     requires mask_for { MaskFor (uses_mask d.now) (height * width) mask.now }
-    requires ramp_numbers_in_bounds { ramp_numbers ≤ length ramp.old }
     ensures { surface.new
         ≡ pixelwise width height (step_of (edges_of scratch.now n) d.now (mask_at width mask.now)) surface.old }
 {
-    let s = style(d, n, shade(d, ramp));
-    draw_pixels(
-        surface,
-        scratch,
-        scene::fields::scissors(d),
-        ramp,
+    let mut ramp = [0u32; RAMP_NUMBERS];
+    let shade = shade(d, &mut ramp);
+    let brush = Brush {
+        style: style(d, n, shade),
+        ramp: &ramp,
+        scissors: scene::fields::scissors(d),
         mask,
-        s,
-        width,
-        height,
-    );
+    };
+    let draw = LaidDraw { brush, scratch };
+    draw.draw(surface, width, height);
 }

@@ -11,4 +11,3 @@ abbrev pub invariant-loop-i : goal.invariant-loop-i
 invariant-loop-i l =
     (l.i ≤ l.n) × (length l.surface ≡ length l.initial.surface) × (l.scratch ≡ l.initial.scratch) × (length l.d ≡ length l.initial.d)
     × (l.surface ≡ pixelwise l.width l.height (draw_all l.edition (first_draws l.scene l.i) (mask_at l.width l.mask)) l.initial.surface)
-

@@ -16,8 +16,6 @@ draw_laid-requires c =
       outlined = laid.ready;
       surface_len = p.surface_len;
       mask_for = p.mask_for;
-      ramp_numbers_in_bounds = omega
-          arith;
     }
 
 pub clear_edges-requires : goal.clear_edges-requires

@@ -7,5 +7,4 @@ use Rattle.plain.proofs.samples.Outline.wind.Given as goal
 
 -- `plain::samples::Outline::wind` meets its contract. Assumes nothing.
 abbrev pub invariant-loop-i : goal.invariant-loop-i
-invariant-loop-i l = (l.i ≤ l.n) × (l.sum ≡ winding (edges_of l.scratch l.i) l.x l.y)
-
+invariant-loop-i l = (l.i ≤ l.self.edges) × (l.sum ≡ winding (edges_of l.self.scratch.now l.i) l.x l.y)

@@ -1,4 +1,4 @@
--- `plain::pixels::paint_pixel` meets its contract: the first pixel of a row of one.
+-- `plain::pixels::LaidDraw::paint` meets its contract: the first pixel of a row of one.
 use mathlib.Core.List.{List}
 use mathlib.Core.Path.{◌≡◌, ap, ◌∙◌}
 use Prim.Native.Nat.{ℕ, ◌+◌}
@@ -8,12 +8,12 @@ use Rattle.color.specs.declared.Pixel.{Pixel}
 use Rattle.raster.specs.Surface.{pixel_in}
 use Rattle.raster.proofs.Pixels.{run_at}
 use Rattle.engine.specs.Rows.{shade_at}
-use Rattle.plain.proofs.pixels.paint_pixel.Goals as goal
+use Rattle.plain.proofs.pixels.LaidDraw.paint.Goals as goal
 
 pub returns : goal.returns
 returns c =
     let a = c.args in
-    let f : ℕ → Pixel = λ i. shade_at a.shade a.ramp.now (a.x + i) a.y in
+    let f : ℕ → Pixel = λ i. shade_at a.self.now.brush.style.shade a.self.now.brush.ramp.now (a.x + i) a.y in
     let e : a.x + 0 ≡ a.x = add-zero a.x in
     c.pixel.ensures ∙ ap (λ (s : List ℕ). pixel_in s 0) c.row.ensures ∙ run_at 1 f 0 (omega arith)
-    ∙ ap (λ (x : ℕ). shade_at a.shade a.ramp.now x a.y) e
+    ∙ ap (λ (x : ℕ). shade_at a.self.now.brush.style.shade a.self.now.brush.ramp.now x a.y) e
