@@ -1,24 +1,21 @@
 -- Boxes on the surface, and the loop over the draws.
-use mathlib.Core.Path.{◌≡◌, sym, ap, ap₂, ◌∙◌}
+use mathlib.Core.Path.{◌≡◌, sym, ap₂, ◌∙◌}
 use mathlib.Core.List.{List, foldl, foldl-append}
-use mathlib.Core.Bool.{Bool, true, false, not}
+use mathlib.Core.Bool.{true, false}
 use Prim.Native.Nat.{ℕ, ◌+◌, ◌≤◌, ◌<◌}
 use native.Mathlib.Numerals.{add-one}
 use native.Mathlib.Omega.{arith}
-use lib.Dec.{eqb}
-use borrow.Author.Tests.{eq-eqb, ne_eqb}
 use Rattle.lists.specs.Lists.{upto}
 use Rattle.path.specs.Boxes.{box_of}
 use Rattle.rect.specs.declared.Rect.{Rect}
 use Rattle.rect.specs.Rects.{smallest, join_of, On}
 use Rattle.rect.proofs.Laws.{either, join_on}
-use Rattle.color.specs.declared.Pixel.{Pixel}
-use Rattle.scene.specs.Blocks.{draw_of, same_draw}
-use Rattle.scene.specs.Header.{count_of, edition_of, background_of}
+use Rattle.scene.specs.Blocks.{draw_of}
+use Rattle.scene.specs.Header.{count_of, edition_of}
 use Rattle.engine.specs.Picture.{draw_edges}
 use Rattle.engine.proofs.Steps.{edges_on}
-use Rattle.damage.specs.Damage.{has, changed_at, draw_box, box_at, boxes_at, same_bytes, same_background}
-use Rattle.damage.proofs.Changes.{box_there, changed_bytes}
+use Rattle.damage.specs.Damage.{has, changed_at, draw_box, box_at, boxes_at}
+use Rattle.damage.proofs.Changes.{box_there}
 
 -- ---- a box lies on the surface
 pub box_on : (w h : ℕ) (s : List ℕ) (i : ℕ) → ((box_at w h s i).x1 ≤ w) × ((box_at w h s i).y1 ≤ h)
@@ -32,31 +29,6 @@ unfolding draw_box
 box_answer w h s d edition i r l f e o =
     let on = edges_on w h (draw_edges edition d) in
     (o ∙ ap₂ (λ (n : ℕ) (z : List ℕ). box_of w h (draw_edges n z)) f e ∙ sym (box_there w h s i l), (rw o on.0, rw o on.1))
-
--- what `is_changed` answers
-pub changed_answer : (old new : List ℕ) (i : ℕ) (b : Bool) → i < count_of old → i < count_of new → edition_of old ≡ edition_of new
-    → b ≡ same_draw (draw_of old i) (draw_of new i) → not b ≡ changed_at old new i
-changed_answer old new i b k l m o = ap not o ∙ sym (changed_bytes old new i k l m)
-
--- what `same_bytes` answers
-module _ (p q : Pixel) where
-  pub red_differs : (p.r ≡ q.r → ⊥) → false ≡ same_bytes p q
-  red_differs n = rw (ne_eqb p.r q.r n)
-
-  pub green_differs : p.r ≡ q.r → (p.g ≡ q.g → ⊥) → false ≡ same_bytes p q
-  green_differs e n = rw (eq-eqb p.r q.r e, ne_eqb p.g q.g n)
-
-  pub blue_differs : p.r ≡ q.r → p.g ≡ q.g → (p.b ≡ q.b → ⊥) → false ≡ same_bytes p q
-  blue_differs e f n = rw (eq-eqb p.r q.r e, eq-eqb p.g q.g f, ne_eqb p.b q.b n)
-
-  pub alpha_decides : p.r ≡ q.r → p.g ≡ q.g → p.b ≡ q.b → eqb p.a q.a ≡ same_bytes p q
-  alpha_decides e f g = rw (eq-eqb p.r q.r e, eq-eqb p.g q.g f, eq-eqb p.b q.b g)
-
--- what `same_background` answers
-pub background_answer : (old new : List ℕ) (p q : Pixel) (b : Bool) → p ≡ background_of old → q ≡ background_of new → b ≡ same_bytes p q
-    → b ≡ same_background old new
-unfolding same_background
-background_answer old new p q b e f o = o ∙ ap₂ same_bytes e f
 
 -- ---- the loop over the draws
 pub area_turn : (w h : ℕ) (old new : List ℕ) (i : ℕ) (a b : Rect) → a ≡ smallest (upto i (boxes_at w h old new)) → b ≡ foldl join_of a (boxes_at w h old new i)

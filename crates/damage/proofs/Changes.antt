@@ -8,7 +8,7 @@ use native.Mathlib.Nat.{eq-or-lt_of_le, le_of_suc-le-suc, not-suc-le-zero}
 use native.Mathlib.Omega.{arith}
 use lib.ListN.{length, get_or, take, drop, length-append, length-take, length-drop}
 use lib.Seq.{ext_get_or}
-use borrow.Author.Tests.{eqb-true, eq-eqb, ne_eqb, le-ltb, lt-ltb, not-false}
+use borrow.Author.Tests.{eqb-true, eq-eqb, le-ltb, lt-ltb, not-false}
 use Rattle.color.specs.declared.Pixel.{Pixel}
 use Rattle.rect.specs.Rects.{none, whole, smallest}
 use Rattle.rect.proofs.Laws.{both}
@@ -56,9 +56,6 @@ module _ (old new : List ℕ) (i : ℕ) where
     changed_both : changed_at old new i ≡ not (same_edition old new && same_draw (draw_of old i) (draw_of new i))
     unfolding changed_at
     changed_both = rw (lt-ltb i (count_of old) h, lt-ltb i (count_of new) k)
-
-    pub changed_edition : (edition_of old ≡ edition_of new → ⊥) → changed_at old new i ≡ true
-    changed_edition n = changed_both ∙ rw (ne_eqb (edition_of old) (edition_of new) n)
 
     pub changed_bytes : edition_of old ≡ edition_of new → changed_at old new i ≡ not (same_draw (draw_of old i) (draw_of new i))
     changed_bytes e = changed_both ∙ rw (eq-eqb (edition_of old) (edition_of new) e)

@@ -6,10 +6,9 @@ ghost use mathlib.Core.List.{foldl};
 ghost use Rattle.rect.specs.Rects.{On, join_of, smallest};
 ghost use Rattle.scene.specs.Header.{count_of};
 ghost use Rattle.scene.specs.Accepted.{AcceptedScene};
-ghost use Rattle.damage.specs.Damage.{changed_at, box_at, boxes_at, changed_boxes, same_bytes, same_background, damage_of};
+ghost use Rattle.damage.specs.Damage.{changed_at, box_at, boxes_at, changed_boxes, same_background, damage_of};
 ghost use Rattle.engine.specs.Rows.{Blank};
 
-use color::Pixel;
 use rect::Rect;
 use scene::layout::DRAW_BYTES;
 
@@ -23,12 +22,7 @@ fn box_at(s: &[u8], i: usize, scratch: &mut [i32], width: usize, height: usize) 
 {
     let n = scene::header::count(s);
     if n <= i {
-        return Rect {
-            x0: 0,
-            y0: 0,
-            x1: 0,
-            y1: 0,
-        };
+        return Rect::EMPTY;
     }
     let mut d = [0u8; DRAW_BYTES];
     scene::blocks::read_draw(s, i, &mut d);
@@ -36,6 +30,7 @@ fn box_at(s: &[u8], i: usize, scratch: &mut [i32], width: usize, height: usize) 
 }
 
 // Whether draw i is changed.
+#[tactic(auto, unfolding(crate::specs::Damage::changed_at))]
 pub fn is_changed(old: &[u8], new: &[u8], i: usize) -> bool
     requires { AcceptedScene old.now × AcceptedScene new.now }
     ensures { result ≡ changed_at old.now new.now i }
@@ -45,13 +40,9 @@ pub fn is_changed(old: &[u8], new: &[u8], i: usize) -> bool
     if m <= i {
         return i < n;
     }
-    if n <= i {
-        return true;
-    }
-    if scene::header::edition(old) != scene::header::edition(new) {
-        return true;
-    }
-    !scene::blocks::same_draw(old, new, i)
+    n <= i
+        || scene::header::edition(old) != scene::header::edition(new)
+        || !scene::blocks::same_draw(old, new, i)
 }
 
 // The rectangle a with both boxes of draw i, if it is changed.
@@ -73,7 +64,7 @@ fn grow(
     if is_changed(old, new, i) {
         let before = box_at(old, i, scratch, width, height);
         let after = box_at(new, i, scratch, width, height);
-        rect::join(rect::join(a, before), after)
+        a.join(before).join(after)
     } else {
         a
     }
@@ -84,9 +75,7 @@ pub fn most_draws(old: &[u8], new: &[u8]) -> usize
     requires { AcceptedScene old.now × AcceptedScene new.now }
     ensures { result ≡ max (count_of old.now) (count_of new.now) }
 {
-    let m = scene::header::count(old);
-    let n = scene::header::count(new);
-    if m < n { n } else { m }
+    scene::header::count(old).max(scene::header::count(new))
 }
 
 // The smallest rectangle that holds both boxes of every changed draw.
@@ -97,44 +86,20 @@ fn changed_boxes(old: &[u8], new: &[u8], scratch: &mut [i32], width: usize, heig
     ensures value { (result ≡ smallest (changed_boxes width height old.now new.now)) × On width height result }
     ensures scratch_unchanged { scratch.new ≡ scratch.old }
 {
-    let mut a = Rect {
-        x0: 0,
-        y0: 0,
-        x1: 0,
-        y1: 0,
-    };
+    let mut a = Rect::EMPTY;
     let n = most_draws(old, new);
-    let mut i = 0;
-    while i < n {
+    for i in 0..n {
         a = grow(a, old, new, i, scratch, width, height);
-        i += 1;
     }
     a
 }
 
+#[tactic(auto, unfolding(crate::specs::Damage::same_background))]
 pub fn same_background(old: &[u8], new: &[u8]) -> bool
     requires { AcceptedScene old.now × AcceptedScene new.now }
     ensures { result ≡ same_background old.now new.now }
 {
-    same_bytes(
-        scene::header::background(old),
-        scene::header::background(new),
-    )
-}
-
-fn same_bytes(p: Pixel, q: Pixel) -> bool
-    ensures { result ≡ same_bytes p q }
-{
-    if p.r != q.r {
-        return false;
-    }
-    if p.g != q.g {
-        return false;
-    }
-    if p.b != q.b {
-        return false;
-    }
-    p.a == q.a
+    scene::header::background(old) == scene::header::background(new)
 }
 
 // The redrawn area of the change from one accepted scene to another, on a surface of that size.

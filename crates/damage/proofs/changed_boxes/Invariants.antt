@@ -1,13 +1,9 @@
 use Rattle.damage.specs.Damage.{boxes_at}
 use Rattle.rect.specs.Rects.{On, smallest}
 use Rattle.lists.specs.Lists.{upto}
-use Prim.Native.Nat.{◌-◌, ◌≤◌}
 use mathlib.Core.Path.{◌≡◌}
 use Rattle.damage.proofs.changed_boxes.Given as goal
 
 abbrev pub invariant-loop-i : goal.invariant-loop-i
 invariant-loop-i l =
-    (l.i ≤ l.n) × (l.scratch ≡ l.initial.scratch) × (l.a ≡ smallest (upto l.i (boxes_at l.width l.height l.old l.new))) × On l.width l.height l.a
-
-abbrev pub decreases-loop-i : goal.decreases-loop-i
-decreases-loop-i l = l.n - l.i
+    (l.scratch ≡ l.initial.scratch) × (l.a ≡ smallest (upto l.i (boxes_at l.width l.height l.old l.new))) × On l.width l.height l.a
