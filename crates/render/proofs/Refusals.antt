@@ -9,19 +9,22 @@ use lib.ListN.{length, replicate, take, drop}
 use lib.Dec.{eqb, ltb}
 use borrow.Author.Tests.{eq-eqb, ne_eqb, eqb-false, eqb-true, ltb-false, le-ltb, lt-ltb, not-false}
 use Rattle.codes.specs.Codes.{illegal_argument, unsupported_image_format, out_of_memory}
-use Rattle.codes.proofs.Refusals.{refuses}
+use Rattle.codes.proofs.Refusals.{refuses, number_refuses}
+use Rattle.codes.specs.Number.{number_of}
 use Rattle.codes.proofs.First.{sooner_first, sooner_second, sooner_none}
 use Rattle.lists.proofs.Laws.{part_length}
 use Rattle.rect.specs.declared.Rect.{Rect}
 use Rattle.rect.specs.Rects.{On, whole}
 use Rattle.rect.proofs.Laws.{either}
 use Rattle.scene.specs.Header.{width_of, height_of, edition_of}
+use Rattle.std.specs.Prelude.{Result, Ok, Err}
+use Rattle.scene.specs.declared.Fault.{Fault}
 use Rattle.scene.specs.Rules.{scene_fault}
 use Rattle.scene.specs.Blocks.{draw_of}
 use Rattle.scene.proofs.Accepted.{accepted_scene, draws_passed, asks_lent}
 use Rattle.engine.specs.Rows.{MaskForScene}
 use Rattle.render.specs.declared.Refusal.{Refusal}
-use Rattle.render.specs.Answers.{Mask, mask_wrong, nothing, refuse, or_else, scene_refusal, lent_refusal, draw_refusal, size_refusal, redraw_refusal}
+use Rattle.render.specs.Answers.{Mask, mask_wrong, nothing, refuse, refusal_of, or_else, scene_refusal, lent_refusal, draw_refusal, size_refusal, redraw_refusal}
 
 -- ---- a chain of refusals
 -- f answers the first of two, k the second
@@ -39,18 +42,22 @@ pass true f g n e = absurd (eqb-false f.code 0 n e)
 pass false f g n e = (refl, e)
 
 -- ---- each rule, where it holds
-pub scene_fine : (masked : Bool) (s : List ℕ) (k : ℕ) → (scene_refusal masked s k).code ≡ 0 → (scene_fault masked s).code ≡ 0
+pub scene_fine : (masked : Bool) (s : List ℕ) (k : ℕ) → (scene_refusal masked s k).code ≡ 0 → scene_fault masked s ≡ Ok tt
 unfolding scene_refusal
-scene_fine masked s k e = either (eqb (scene_fault masked s).code 0) (λ z. eqb-true _ _ z) (λ z. rw z at e)
+scene_fine masked s k e = by (scene_fault masked s) e
+  where
+    by : (r : Result Unit Fault) → (refusal_of k r).code ≡ 0 → r ≡ Ok tt
+    by (Ok tt) h = refl
+    by (Err f) h = absurd (refuses (number_of f.code) (number_refuses f.code) h)
 
-pub scene_passes : (masked : Bool) (s : List ℕ) (k : ℕ) → (scene_fault masked s).code ≡ 0 → scene_refusal masked s k ≡ nothing
+pub scene_passes : (masked : Bool) (s : List ℕ) (k : ℕ) → scene_fault masked s ≡ Ok tt → scene_refusal masked s k ≡ nothing
 unfolding scene_refusal
-scene_passes masked s k e = rw (eq-eqb (scene_fault masked s).code 0 e)
+scene_passes masked s k e = rw e
 
-pub scene_refused : (masked : Bool) (s : List ℕ) (k : ℕ) → ((scene_fault masked s).code ≡ 0 → ⊥)
-    → scene_refusal masked s k ≡ refuse (scene_fault masked s).code (scene_fault masked s).draw k
+pub scene_refused : (masked : Bool) (s : List ℕ) (k : ℕ) (f : Fault) → scene_fault masked s ≡ Err f
+    → scene_refusal masked s k ≡ refuse (number_of f.code) f.draw k
 unfolding scene_refusal
-scene_refused masked s k n = rw (ne_eqb (scene_fault masked s).code 0 n)
+scene_refused masked s k f e = rw e
 
 -- a mask of the right length, or none
 abbrev pub MaskFits : Mask → ℕ → Type 0
@@ -118,7 +125,7 @@ size_height old new e n = rw (eq-eqb (width_of old) (width_of new) e, ne_eqb (he
 
 -- ---- what an accepted call has
 pub record Ready (s : List ℕ) (m : Mask) (surface scratch : ℕ) : Type 0 where
-  pub scene : (scene_fault m.lent s).code ≡ 0
+  pub scene : scene_fault m.lent s ≡ Ok tt
   pub size : surface ≡ 4 * (width_of s * height_of s)
   pub mask : MaskFits m (width_of s * height_of s)
   pub space : 12300 ≤ scratch
@@ -131,7 +138,7 @@ draw_ready s m surface scratch e =
     record { scene = scene_fine m.lent s 0 p.0; size = q.0; mask = q.1.0; space = q.1.1 }
 
 pub record ReadyBoth (old new : List ℕ) (m : Mask) (surface scratch : ℕ) : Type 0 where
-  pub before : (scene_fault m.lent old).code ≡ 0
+  pub before : scene_fault m.lent old ≡ Ok tt
   pub after : Ready new m surface scratch
   pub width : width_of old ≡ width_of new
   pub height : height_of old ≡ height_of new
@@ -153,7 +160,7 @@ redraw_ready old new m surface scratch e =
     }
 
 -- an answer that passes was of an accepted scene
-pub scene_passed : (masked : Bool) (s : List ℕ) (k : ℕ) (f : Refusal) → f ≡ scene_refusal masked s k → f.code ≡ 0 → (scene_fault masked s).code ≡ 0
+pub scene_passed : (masked : Bool) (s : List ℕ) (k : ℕ) (f : Refusal) → f ≡ scene_refusal masked s k → f.code ≡ 0 → scene_fault masked s ≡ Ok tt
 scene_passed masked s k f e z = scene_fine masked s k (sym (ap (λ (g : Refusal). g.code) e) ∙ z)
 
 -- ---- what the engine asks for, where w and h are the sizes that were read
@@ -192,7 +199,7 @@ pub whole_on : (w h : ℕ) → On w h (whole w h)
 whole_on w h = record { across = omega arith; wide = omega arith; up = omega arith; high = omega arith }
 
 -- a scene that passes has its first block
-pub accepted_block : (masked : Bool) (s : List ℕ) → (scene_fault masked s).code ≡ 0 → 512 ≤ length s
+pub accepted_block : (masked : Bool) (s : List ℕ) → scene_fault masked s ≡ Ok tt → 512 ≤ length s
 accepted_block masked s a = omega (arith, (accepted_scene s masked a).bytes)
 
 -- a run of zeros of that length

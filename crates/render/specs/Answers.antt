@@ -1,13 +1,15 @@
 -- What a call answers, and what surface and scratch hold afterwards ("Codes, and which comes first"; demands 1 to 3).
 -- The scratch numbers are the paper's working room.
-use Rattle.std.specs.Prelude.{ℕ, ◌*◌, ◌-◌, ◌≤◌, ◌<◌, max, ◌≡◌, List, [], Bool, true, false, cond, not, ◌&&◌, length, replicate, ltb, eqb, ℤ, pos}
+use Rattle.std.specs.Prelude.{ℕ, ◌*◌, ◌-◌, ◌≤◌, ◌<◌, max, ◌≡◌, List, [], Bool, true, false, cond, not, ◌&&◌, length, replicate, ltb, eqb, ℤ, pos, Result, Ok, Err}
 use Rattle.codes.specs.Codes.{accepted_code, illegal_argument, unsupported_image_format, out_of_memory}
 use Rattle.codes.specs.First.{sooner}
+use Rattle.codes.specs.Number.{number_of}
 use Rattle.rect.specs.declared.Rect.{Rect}
 use Rattle.rect.specs.Rects.{whole, Holds}
 use Rattle.raster.specs.Surface.{overlay}
 use Rattle.scene.specs.Layout.{no_draw}
 use Rattle.scene.specs.Header.{width_of, height_of, count_of}
+use Rattle.scene.specs.declared.Fault.{Fault}
 use Rattle.scene.specs.Rules.{scene_fault}
 use Rattle.engine.specs.Picture.{pixel_at, mask_at, picture}
 use Rattle.damage.specs.Damage.{changed_at, box_at, damage}
@@ -43,10 +45,14 @@ refuse code draw scene = record { code = code; draw = draw; scene = scene }
 abbrev pub or_else : Refusal → Refusal → Refusal
 or_else = sooner (λ f. f.code)
 
+-- what the rules of the scene with that number say
+abbrev pub refusal_of : ℕ → Result Unit Fault → Refusal
+refusal_of scene (Ok _) = nothing
+refusal_of scene (Err f) = refuse (number_of f.code) f.draw scene
+
 -- all scene checks of the scene with that number
 unfoldable pub scene_refusal : Bool → List ℕ → ℕ → Refusal
-scene_refusal masked s scene =
-    cond (eqb (scene_fault masked s).code accepted_code) nothing (refuse (scene_fault masked s).code (scene_fault masked s).draw scene)
+scene_refusal masked s scene = refusal_of scene (scene_fault masked s)
 
 -- a mask is lent that has not a byte for each of so many pixels
 abbrev pub mask_wrong : Mask → ℕ → Bool
@@ -118,7 +124,7 @@ redraw_scratch old new m surface_bytes scratch = scratch_after (redraw_refusal o
 -- ---- what the demands speak of
 -- an accepted scene, where a mask is lent or is not: it passes every check of a scene
 abbrev pub Accepted : Mask → List ℕ → Type 0
-Accepted m s = (scene_fault m.lent s).code ≡ 0
+Accepted m s = scene_fault m.lent s ≡ Ok tt
 
 pub record OneSize (old new : List ℕ) : Type 0 where
   pub width : width_of old ≡ width_of new

@@ -81,14 +81,13 @@ pub fn judge_redraw_from(
 pub fn judge_scene(masked: bool, s: &[u8], number: u32) -> Refusal
     ensures { result ≡ scene_refusal masked s.now number }
 {
-    let f = scene::verdict::verdict(s, masked);
-    if f.code == ACCEPTED {
-        return refusal(ACCEPTED, 0);
-    }
-    Refusal {
-        code: f.code,
-        draw: f.draw as u32,
-        scene: number,
+    match scene::verdict::verdict(s, masked) {
+        Ok(()) => refusal(ACCEPTED, 0),
+        Err(f) => Refusal {
+            code: f.code.number(),
+            draw: f.draw as u32,
+            scene: number,
+        },
     }
 }
 

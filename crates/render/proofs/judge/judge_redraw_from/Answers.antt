@@ -1,5 +1,6 @@
 use mathlib.Core.Bool.{Bool}
 use mathlib.Core.List.{List}
+use Rattle.std.specs.Prelude.{Ok}
 use Rattle.scene.specs.Rules.{scene_fault}
 use Prim.Native.Nat.{ℕ}
 use mathlib.Core.Path.{◌≡◌, refl, sym, ap₂, ◌∙◌}
@@ -9,7 +10,7 @@ use Rattle.render.proofs.Refusals.{first_refused, first_passed, scene_passes, sc
 use Rattle.render.proofs.judge.judge_redraw_from.Goals as goal
 
 -- the old scene's rules, which come first, are kept
-from_old : (masked : Bool) (old : List ℕ) (r rest : Refusal) → (scene_fault masked old).code ≡ 0 → r ≡ rest → r ≡ or_else (scene_refusal masked old 0) rest
+from_old : (masked : Bool) (old : List ℕ) (r rest : Refusal) → scene_fault masked old ≡ Ok tt → r ≡ rest → r ≡ or_else (scene_refusal masked old 0) rest
 from_old masked old r rest k = first_passed nothing _ r rest (sym (scene_passes masked old 0 k)) refl
 
 pub returns-then-new_broken-ne-ACCEPTED : goal.returns-then-new_broken-ne-ACCEPTED
