@@ -7,15 +7,16 @@ use native.Mathlib.Omega.{arith}
 use lib.ListN.{length, get_or, take, drop, length-append, length-drop}
 use lib.Seq.{get_or-take, length-take-le, take_at, drop_at, take_all, take-take}
 use lib.Dec.{eqb, leb}
-use borrow.Author.Tests.{eq-eqb}
 use Rattle.lists.specs.Lists.{upto}
 use Rattle.lists.proofs.Laws.{upto_same}
 use Rattle.scene.specs.Layout.{block_bytes, payload_bytes, draw_blocks, draw_bytes, draw_limit, new_edition}
 use Rattle.scene.specs.Layout.{width_at, height_at, count_at, edition_at, header_end}
 use Rattle.scene.specs.Blocks.{block_number, block_of, draw_of}
 use Rattle.scene.specs.Header.{width_of, height_of, count_of, edition_of}
-use Rattle.scene.specs.Faults.{must, or_else, first_of, unused, first_fault}
-use Rattle.scene.specs.Rules.{is_side, header_rules, draw_rules, draw_fault, scene_fault}
+use Rattle.std.specs.Prelude.{Result, Ok}
+use Rattle.codes.specs.First.{first_of, first_among}
+use Rattle.scene.specs.Faults.{must, unused}
+use Rattle.scene.specs.Rules.{is_side, header_rules, draw_rules, in_draw, told_by, draw_fault, scene_fault}
 use Rattle.scene.specs.declared.FieldFault.{FieldFault}
 use Rattle.scene.specs.declared.Fault.{Fault}
 use Rattle.scene.proofs.Accepted.{passed}
@@ -24,28 +25,28 @@ use Rattle.scene.proofs.Places.{passes_at, block_alone}
 use Rattle.rescue.specs.Fresh.{fresh_block, fresh_draw, with_blocks, assembled}
 use Rattle.rescue.specs.Salvaged.{draw_span, blocks_of}
 use Rattle.rescue.proofs.Chunks.{parts_join, joined_length, chunk}
-use Rattle.rescue.proofs.Codes.{right, fault_code}
+use Rattle.rescue.proofs.Codes.{right, by_rules}
 use Rattle.rescue.proofs.Sealed.{fresh_length, payload_back, fresh_passes}
 use Rattle.rescue.proofs.Spans.{from_first, draw_of_blocks, check_of_blocks}
 use Rattle.rescue.proofs.Parts.{Front}
 
 -- ---- no fault among n
-none_met : (f : ℕ → Fault) (n : ℕ) → ((i : ℕ) → i < n → (f i).code ≡ 0) → (first_fault n f).code ≡ 0
+none_met : (f : ℕ → Result Unit Fault) (n : ℕ) → ((i : ℕ) → i < n → f i ≡ Ok tt) → first_among n f ≡ Ok tt
 none_met f zero h = refl
-none_met f (suc n) h = rw (eq-eqb (first_fault n f).code 0 (none_met f n (λ i l. h i (omega arith)))) (h n (omega arith))
+none_met f (suc n) h = rw (none_met f n (λ i l. h i (omega arith))) (h n (omega arith))
 
-same_first : (f g : ℕ → FieldFault) (n : ℕ) → ((i : ℕ) → i < n → f i ≡ g i) → first_of n f ≡ first_of n g
+same_first : (f g : ℕ → Result Unit FieldFault) (n : ℕ) → ((i : ℕ) → i < n → f i ≡ g i) → first_among n f ≡ first_among n g
 same_first f g zero h = refl
 same_first f g (suc n) h = rw (same_first f g n (λ i l. h i (omega arith)), h n (omega arith))
 
 -- a scene whose front is right passes if each draw does
-pub passes : (lent : Bool) (s : List ℕ) → Front s → ((i : ℕ) → i < count_of s → (draw_fault lent s i).code ≡ 0) → (scene_fault lent s).code ≡ 0
+pub passes : (lent : Bool) (s : List ℕ) → Front s → ((i : ℕ) → i < count_of s → draw_fault lent s i ≡ Ok tt) → scene_fault lent s ≡ Ok tt
 passes lent s front draws =
-    ap (λ (f : Fault). f.code) (by_draws lent s front.whole front.first front.header front.bytes)
+    by_draws lent s front.whole front.first front.header front.bytes
     ∙ none_met (draw_fault lent s) (count_of s) draws
 
 -- and one that passes has a right front
-pub front_accepted : (lent : Bool) (s : List ℕ) → (scene_fault lent s).code ≡ 0 → Front s
+pub front_accepted : (lent : Bool) (s : List ℕ) → scene_fault lent s ≡ Ok tt → Front s
 front_accepted lent s h =
     let p = passed block_number lent s h in
     record { whole = p.whole; first = p.first; header = p.header; bytes = p.bytes }
@@ -53,12 +54,12 @@ front_accepted lent s h =
 -- ---- two scenes with the same block 0
 
 -- block 0's rules, by its fields and what comes of the bytes behind them
-abbrev by_fields : ℕ → ℕ → ℕ → ℕ → FieldFault → FieldFault
+abbrev by_fields : ℕ → ℕ → ℕ → ℕ → Result Unit FieldFault → Result Unit FieldFault
 by_fields w h n e rest =
-    or_else (must (is_side w) width_at)
-    (or_else (must (is_side h) height_at)
-    (or_else (must (leb n draw_limit) count_at)
-    (or_else (must (leb e new_edition) edition_at) rest)))
+    first_of (must (is_side w) width_at)
+    (first_of (must (is_side h) height_at)
+    (first_of (must (leb n draw_limit) count_at)
+    (first_of (must (leb e new_edition) edition_at) rest)))
 
 module _ (s t : List ℕ) (same : take block_bytes t ≡ take block_bytes s) where
   pub byte_same : (p : ℕ) → p < block_bytes → get_or t p 0 ≡ get_or s p 0
@@ -90,7 +91,7 @@ module _ (s t : List ℕ) (same : take block_bytes t ≡ take block_bytes s) whe
   front_same e front = record {
     whole = rw e front.whole;
     first = block_alone block_number t 0 ∙ ap (passes_at 0) same ∙ sym (block_alone block_number s 0) ∙ front.first;
-    header = ap (λ (f : FieldFault). f.code) rules_same ∙ front.header;
+    header = rules_same ∙ front.header;
     bytes = e ∙ front.bytes ∙ ap (λ (n : ℕ). block_bytes * block_of n) (sym count_same);
   }
 
@@ -126,8 +127,8 @@ module _ (s : List ℕ) (front : Front s) (blocks : ℕ → List ℕ) (wide : (i
   draw_there i l = let b = front.bytes in rw same_length (omega (arith, b))
 
   -- it passes if each draw does
-  pub blocks_pass : (lent : Bool) → ((i : ℕ) → i < count_of s → (draw_fault lent (with_blocks s blocks) i).code ≡ 0)
-      → (scene_fault lent (with_blocks s blocks)).code ≡ 0
+  pub blocks_pass : (lent : Bool) → ((i : ℕ) → i < count_of s → draw_fault lent (with_blocks s blocks) i ≡ Ok tt)
+      → scene_fault lent (with_blocks s blocks) ≡ Ok tt
   blocks_pass lent draws =
       passes lent (with_blocks s blocks) front_kept (λ i l. draws i (rw (count_same s (with_blocks s blocks) first_block) at l))
 
@@ -169,10 +170,8 @@ module _ (i : ℕ) (d : List ℕ) (whole : length d ≡ draw_bytes) where
         ∙ take_all draw_bytes d (rw whole (omega arith))
 
     -- and its verdict is that of its bytes
-    pub verdict_of_bytes : (lent : Bool) → (draw_fault lent t i).code ≡ (draw_rules lent (edition_of t) d).code
-    verdict_of_bytes lent =
-        fault_code t i lent
-        ∙ rw (checks_right 0 (omega arith), checks_right 1 (omega arith), checks_right 2 (omega arith), checks_right 3 (omega arith), bytes_back)
+    pub verdict_of_bytes : (lent : Bool) → draw_fault lent t i ≡ told_by (in_draw i) (draw_rules lent (edition_of t) d)
+    verdict_of_bytes lent = by_rules t i lent checks_right ∙ rw bytes_back
 
 -- ---- a scene put together with fresh checks
 module _ (s : List ℕ) (front : Front s) (draws : ℕ → List ℕ) (wide : (i : ℕ) → i < count_of s → length (draws i) ≡ draw_bytes) where
@@ -207,12 +206,11 @@ module _ (s : List ℕ) (front : Front s) (draws : ℕ → List ℕ) (wide : (i 
       bytes_back i (draws i) (wide i l) (with_blocks s spans) (draw_there s front spans spans_wide i l) (blocks_there s front spans spans_wide i l)
 
   -- it passes if the bytes of each draw keep the draw's rules, in the edition of s
-  pub assembled_passes : (lent : Bool) → ((i : ℕ) → i < count_of s → (draw_rules lent (edition_of s) (draws i)).code ≡ 0)
-      → (scene_fault lent (assembled s draws)).code ≡ 0
+  pub assembled_passes : (lent : Bool) → ((i : ℕ) → i < count_of s → draw_rules lent (edition_of s) (draws i) ≡ Ok tt)
+      → scene_fault lent (assembled s draws) ≡ Ok tt
   unfolding assembled
   assembled_passes lent kept =
       blocks_pass s front spans spans_wide lent
       (λ i l.
       verdict_of_bytes i (draws i) (wide i l) (with_blocks s spans) (draw_there s front spans spans_wide i l) (blocks_there s front spans spans_wide i l) lent
-      ∙ ap (λ (e : ℕ). (draw_rules lent e (draws i)).code) (edition_same s (with_blocks s spans) (first_block s front spans spans_wide))
-      ∙ kept i l)
+      ∙ rw (edition_same s (with_blocks s spans) (first_block s front spans spans_wide), kept i l))

@@ -5,14 +5,13 @@ use Prim.Native.Nat.{ℕ, ◌+◌}
 use lib.ListN.{length, set, replicate}
 use lib.Dec.{eqb}
 use lib.Ieee.{of_bits, is_nan}
-use borrow.Author.Tests.{eq-eqb}
 use Rattle.rect.proofs.Laws.{either}
 use Rattle.scene.specs.Layout.{coordinates_at, flags_limit}
 use Rattle.scene.specs.Fields.{first_stop_at}
-use Rattle.scene.specs.Faults.{or_else, unused}
+use Rattle.std.specs.Prelude.{Ok}
+use Rattle.scene.specs.Faults.{unused}
 use Rattle.scene.specs.Rules.{draw_rules, head_rules, flags_allowed, count_rules, stop_limit_of, float_rules, list_rules, circle_rules, stop_rules}
 use Rattle.scene.specs.Rules.{transform_rules, flat_rule, path_rules, rest_rules}
-use Rattle.scene.specs.declared.FieldFault.{FieldFault}
 use Rattle.rescue.specs.Fresh.{empty_draw}
 
 -- four bytes that are not zero
@@ -25,49 +24,41 @@ unfolding empty_draw
 empty_length = refl
 
 -- it keeps the rules of a draw, in either edition
-clear : (f g : FieldFault) → f.code ≡ 0 → g.code ≡ 0 → (or_else f g).code ≡ 0
-clear f g a b = rw (eq-eqb f.code 0 a) b
-
-head_kept : (edition : ℕ) → (head_rules true edition empty_draw).code ≡ 0
+head_kept : (edition : ℕ) → head_rules true edition empty_draw ≡ Ok tt
 unfolding head_rules flags_allowed flags_limit count_rules stop_limit_of empty_draw
 head_kept edition = either (eqb edition 1) (λ q. rw q) (λ q. rw q)
 
-floats_kept : (float_rules empty_draw).code ≡ 0
+floats_kept : float_rules empty_draw ≡ Ok tt
 unfolding float_rules empty_draw of_bits is_nan
 floats_kept = refl
 
-lists_kept : (list_rules empty_draw).code ≡ 0
+lists_kept : list_rules empty_draw ≡ Ok tt
 unfolding list_rules circle_rules stop_rules first_stop_at empty_draw
 lists_kept = refl
 
-transform_kept : (edition : ℕ) → (transform_rules edition empty_draw).code ≡ 0
+transform_kept : (edition : ℕ) → transform_rules edition empty_draw ≡ Ok tt
 unfolding transform_rules empty_draw of_bits is_nan
 transform_kept edition = either (eqb edition 1) (λ q. rw q) (λ q. rw q)
 
-flat_kept : (flat_rule empty_draw).code ≡ 0
+flat_kept : flat_rule empty_draw ≡ Ok tt
 unfolding flat_rule empty_draw
 flat_kept = refl
 
-path_kept : (edition : ℕ) → (path_rules edition empty_draw).code ≡ 0
+path_kept : (edition : ℕ) → path_rules edition empty_draw ≡ Ok tt
 unfolding path_rules empty_draw
 path_kept edition = refl
 
 -- no segment, no coordinate
-coordinates_zero : (t : Bool) → (unused empty_draw (cond t 932 900 + 0) 2032).code ≡ 0
+coordinates_zero : (t : Bool) → unused empty_draw (cond t 932 900 + 0) 2032 ≡ Ok tt
 unfolding empty_draw
 coordinates_zero true = refl
 coordinates_zero false = refl
 
-rest_kept : (edition : ℕ) → (rest_rules edition empty_draw).code ≡ 0
+rest_kept : (edition : ℕ) → rest_rules edition empty_draw ≡ Ok tt
 unfolding rest_rules coordinates_at empty_draw
-rest_kept edition = clear (unused empty_draw 772 900) (unused empty_draw (cond (eqb edition 1) 932 900 + 0) 2032) refl (coordinates_zero (eqb edition 1))
+rest_kept edition = rw (coordinates_zero (eqb edition 1))
 
-pub empty_passes : (edition : ℕ) → (draw_rules true edition empty_draw).code ≡ 0
+pub empty_passes : (edition : ℕ) → draw_rules true edition empty_draw ≡ Ok tt
 unfolding draw_rules
 empty_passes edition =
-    clear _ _ (head_kept edition)
-    (clear _ _ floats_kept
-    (clear _ _ lists_kept
-    (clear _ _ (transform_kept edition)
-    (clear _ _ flat_kept
-    (clear _ _ (path_kept edition) (rest_kept edition))))))
+    rw (head_kept edition, floats_kept, lists_kept, transform_kept edition, flat_kept, path_kept edition, rest_kept edition)

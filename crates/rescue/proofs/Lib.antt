@@ -1,6 +1,7 @@
 -- Laws of salvaging:
 --     Chunks     lists of equal parts, joined and taken apart
---     Codes      the code of a scene's front, of a draw and of a call
+--     Verdicts   judgements: rules in their order, what accepts, and a refusal's number
+--     Codes      the code of a scene's front; a draw whose blocks have their checks
 --     Listed     the list of replaced draws
 --     Empty      the empty draw
 --     Parts      the parts of a salvaged scene, what passes, and what a call leaves
@@ -9,6 +10,7 @@
 --     Assembled  a scene put together anew, with fresh checks
 --     Promises   what salvaging promises
 pub mod Chunks
+mod Verdicts
 pub mod Codes
 mod Listed
 mod Empty

@@ -12,19 +12,20 @@ use lib.Dec.{eqb}
 use borrow.Author.Tests.{eqb-true, eqb-false, eq-eqb}
 use Rattle.lists.proofs.Laws.{upto_same}
 use Rattle.rect.proofs.Laws.{either}
+use Rattle.std.specs.Prelude.{Ok}
 use Rattle.codes.specs.Codes.{accepted_code}
 use Rattle.color.specs.declared.Pixel.{Pixel}
 use Rattle.scene.specs.Layout.{block_bytes}
 use Rattle.scene.specs.Blocks.{block_number, block_of, draw_of}
 use Rattle.scene.specs.Header.{count_of, edition_of}
-use Rattle.scene.specs.Rules.{scene_fault}
+use Rattle.scene.specs.Rules.{draw_fault, scene_fault}
 use Rattle.scene.proofs.Accepted.{passed}
 use Rattle.engine.specs.Picture.{draw_step}
 use Rattle.rescue.specs.Fresh.{empty_draw, with_blocks}
-use Rattle.rescue.specs.Salvaged.{draw_code, draw_span, blocks_of, salvaged_draw, salvaged_scene, listed_to, replaced_to, front_code, answer_of}
+use Rattle.rescue.specs.Salvaged.{draw_code, draw_span, blocks_of, salvaged_draw, salvaged_scene, listed_to, replaced_to, front_verdict, front_code, answer_of}
 use Rattle.rescue.proofs.Chunks.{parts_join}
-use Rattle.rescue.proofs.Codes.{allowed}
-use Rattle.rescue.proofs.Parts.{Front, front_passed, front_code_lem, salvaged_answer, kept_blocks, empty_blocks}
+use Rattle.rescue.proofs.Verdicts.{accepts}
+use Rattle.rescue.proofs.Parts.{Front, front_passed, front_sound, room, salvaged_answer, kept_blocks, empty_blocks, kept, was_kept}
 use Rattle.rescue.proofs.Empty.{empty_length, empty_passes}
 use Rattle.rescue.proofs.Spans.{from_first, draw_same, verdict_same}
 use Rattle.rescue.proofs.Assembled.{front_accepted, edition_same, first_block, same_length, blocks_there, blocks_pass}
@@ -55,18 +56,16 @@ module _ (s : List ℕ) (right : (i : ℕ) → i < count_of s → draw_code s i 
   none_replaced (suc n) l = rw (eq-eqb (draw_code s n) 0 (right n l), add-zero) (none_replaced n (omega arith))
 
 -- a scene that passes the scene rules, with a mask lent, is salvaged to itself
-module _ (s : List ℕ) (h : (scene_fault true s).code ≡ 0) where
+module _ (s : List ℕ) (h : scene_fault true s ≡ Ok tt) where
   accepted_right : (i : ℕ) → i < count_of s → draw_code s i ≡ 0
-  unfolding draw_code
-  accepted_right = (passed block_number true s h).draws
+  accepted_right i l = kept s i ((passed block_number true s h).draws i l)
 
   pub accepted_same : salvaged_scene s ≡ s
   accepted_same = nothing_wrong_same s accepted_right (front_accepted true s h)
 
   pub accepted_answer_lem : (bytes : ℕ) → length s ≤ bytes → answer_of s bytes ≡ record { code = accepted_code; replaced = 0 }
   accepted_answer_lem bytes l =
-      sym (salvaged_answer s bytes accepted_code (allowed s bytes (front_code_lem s (front_accepted true s h)) l) 0 refl
-      (sym (none_replaced s accepted_right (count_of s) (omega arith))))
+      sym (salvaged_answer s bytes 0 (room s bytes (front_sound s (front_accepted true s h)) l) (sym (none_replaced s accepted_right (count_of s) (omega arith))))
 
   pub accepted_list : listed_to s (count_of s) ≡ []
   accepted_list = nothing_listed s accepted_right (count_of s) (omega arith)
@@ -74,7 +73,7 @@ module _ (s : List ℕ) (h : (scene_fault true s).code ≡ 0) where
 -- ---- a salvaged scene
 module _ (s : List ℕ) (sound : front_code s ≡ accepted_code) where
   front : Front s
-  front = front_passed s sound
+  front = front_passed s (accepts (λ c. c) (front_verdict s) sound)
 
   wide : (i : ℕ) → i < count_of s → length (salvaged_draw s i) ≡ draw_span
   wide i l =
@@ -118,21 +117,20 @@ module _ (s : List ℕ) (sound : front_code s ≡ accepted_code) where
   kept_draw_reads i l h = draw_same (salvaged_scene s) s i (draw_stands i l) (draw_stood i l) (kept_draw_same i l h)
 
   -- each draw passes: a kept one as before, and the empty one
-  pub draws_pass : (i : ℕ) → i < count_of s → draw_code (salvaged_scene s) i ≡ 0
-  unfolding draw_code
+  pub draws_pass : (i : ℕ) → i < count_of s → draw_fault true (salvaged_scene s) i ≡ Ok tt
   draws_pass i l =
       either (eqb (draw_code s i) 0)
       (λ t.
       let h = eqb-true (draw_code s i) 0 t in
-      verdict_same (salvaged_scene s) s i (draw_stands i l) (draw_stood i l) (kept_draw_same i l h) true edition_kept ∙ h)
+      verdict_same (salvaged_scene s) s i (draw_stands i l) (draw_stood i l) (kept_draw_same i l h) true edition_kept ∙ was_kept s i h)
       (λ t.
       verdict_of_bytes i empty_draw empty_length (salvaged_scene s) (draw_stands i l)
       (blocks_salvaged i l ∙ sym (empty_blocks s i (eqb-false (draw_code s i) 0 t))) true
-      ∙ empty_passes (edition_of (salvaged_scene s)))
+      ∙ rw (empty_passes (edition_of (salvaged_scene s))))
 
   -- the result passes the scene rules, with a mask lent
-  pub salvaged_passes : (scene_fault true (salvaged_scene s)).code ≡ 0
-  unfolding salvaged_scene draw_code
+  pub salvaged_passes : scene_fault true (salvaged_scene s) ≡ Ok tt
+  unfolding salvaged_scene
   salvaged_passes = blocks_pass s front (salvaged_draw s) wide true draws_pass
 
   -- salvaging it again replaces nothing and gives the same bytes

@@ -1,22 +1,21 @@
 -- The four blocks of a draw: what is read of them, and that the draw's verdict is theirs.
-use mathlib.Core.Path.{◌≡◌, sym, ap, ap₂, ◌∙◌}
+use mathlib.Core.Path.{◌≡◌, sym, ap, ◌∙◌}
 use mathlib.Core.List.{List}
-use mathlib.Core.Bool.{Bool, cond, ◌&&◌}
+use mathlib.Core.Bool.{Bool}
 use Prim.Native.Nat.{ℕ, ◌+◌, ◌*◌, ◌≤◌, ◌<◌}
 use native.Mathlib.Omega.{arith}
 use lib.ListN.{length, take, drop, length-drop}
 use lib.Seq.{drop-drop}
 use Rattle.lists.specs.Lists.{upto}
 use Rattle.lists.proofs.Laws.{upto_same}
-use Rattle.codes.specs.Codes.{bad_checksum}
 use Rattle.scene.specs.Layout.{block_bytes, payload_bytes, draw_blocks}
 use Rattle.scene.specs.Blocks.{block_number, block_of, draw_of}
 use Rattle.scene.specs.Header.{edition_of}
-use Rattle.scene.specs.Rules.{draw_rules, draw_fault}
+use Rattle.scene.specs.Rules.{check_faults_from, draw_fault_from, draw_fault}
 use Rattle.scene.proofs.Places.{passes_at, block_alone}
 use Rattle.rescue.specs.Salvaged.{draw_span, blocks_of}
 use Rattle.rescue.proofs.Chunks.{within}
-use Rattle.rescue.proofs.Codes.{right, fault_code}
+use Rattle.rescue.proofs.Codes.{right}
 
 -- counted from the first draw's on
 pub from_first : (s : List ℕ) (i : ℕ) → blocks_of s i ≡ take draw_span (drop (draw_span * i) (drop block_bytes s))
@@ -55,15 +54,12 @@ module _ (s t : List ℕ) (i : ℕ) (there : block_bytes * block_of (i + 1) ≤ 
       ∙ ap (λ (x : List ℕ). upto draw_blocks (λ j. take payload_bytes (drop (block_bytes * j) x))) same
       ∙ sym (draw_of_blocks t i there')
 
-  pub verdict_same : (lent : Bool) → edition_of s ≡ edition_of t → (draw_fault lent s i).code ≡ (draw_fault lent t i).code
+  pub verdict_same : (lent : Bool) → edition_of s ≡ edition_of t → draw_fault lent s i ≡ draw_fault lent t i
+  unfolding draw_fault_from check_faults_from
   verdict_same lent e =
       let checks : (j : ℕ) → j < draw_blocks → right s i j ≡ right t i j
       = λ j l.
       check_of_blocks s i there j l
       ∙ ap (λ (x : List ℕ). passes_at (block_of i + j) (take block_bytes (drop (block_bytes * j) x))) same
       ∙ sym (check_of_blocks t i there' j l) in
-      fault_code s i lent
-      ∙ ap₂ (λ (t : Bool) (c : ℕ). cond t c bad_checksum)
-      (ap₂ ◌&&◌ (checks 0 (omega arith)) (ap₂ ◌&&◌ (checks 1 (omega arith)) (ap₂ ◌&&◌ (checks 2 (omega arith)) (checks 3 (omega arith)))))
-      (ap₂ (λ (e : ℕ) (d : List ℕ). (draw_rules lent e d).code) e draw_same)
-      ∙ sym (fault_code t i lent)
+      rw (checks 0 (omega arith), checks 1 (omega arith), checks 2 (omega arith), checks 3 (omega arith), e, draw_same)

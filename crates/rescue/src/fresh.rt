@@ -4,7 +4,7 @@ ghost use Rattle.scene.specs.Layout.{block_bytes, payload_bytes, draw_bytes, dra
 ghost use Rattle.rescue.specs.Fresh.{fresh_block, fresh_draw, empty_draw};
 ghost use Rattle.rescue.specs.Salvaged.{draw_span};
 
-use scene::blocks::{checksum, copy};
+use scene::blocks::checksum;
 use scene::layout::{BLOCK_BYTES, DRAW_BLOCKS, DRAW_BYTES, PAYLOAD_BYTES};
 
 // The check of the 508 bytes that stand in block b, written after them.
@@ -13,12 +13,8 @@ fn seal(block: &mut [u8], b: u32)
     ensures { block.new ≡ fresh_block b (take payload_bytes block.old) }
 {
     let k = checksum(b, block, 0);
-    let plain = k.plain;
-    let weighted = k.weighted;
-    block[508] = (plain % 256) as u8;
-    block[509] = (plain / 256) as u8;
-    block[510] = (weighted % 256) as u8;
-    block[511] = (weighted / 256) as u8;
+    block[508..510].copy_from_slice(&k.plain.to_le_bytes());
+    block[510..512].copy_from_slice(&k.weighted.to_le_bytes());
 }
 
 // Block b, from the payload that stands at a place of d.
@@ -26,7 +22,7 @@ fn put_block(d: &[u8], at: usize, b: u32, block: &mut [u8])
     requires { (b < 65536) × (at + payload_bytes ≤ length d.now) × (length block.old ≡ block_bytes) }
     ensures { block.new ≡ fresh_block b (take payload_bytes (drop at d.now)) }
 {
-    copy(d, at, &mut block[0..PAYLOAD_BYTES]);
+    block[0..PAYLOAD_BYTES].copy_from_slice(&d[at..at + PAYLOAD_BYTES]);
     seal(block, b);
 }
 
@@ -36,8 +32,7 @@ fn put_draw(d: &[u8], i: usize, out: &mut [u8])
     ensures { out.new ≡ fresh_draw i d.now }
 {
     let first = 1 + DRAW_BLOCKS * i;
-    let mut j = 0;
-    while j < DRAW_BLOCKS {
+    for j in 0..DRAW_BLOCKS {
         let at = BLOCK_BYTES * j;
         put_block(
             d,
@@ -45,7 +40,6 @@ fn put_draw(d: &[u8], i: usize, out: &mut [u8])
             (first + j) as u32,
             &mut out[at..at + BLOCK_BYTES],
         );
-        j += 1;
     }
 }
 

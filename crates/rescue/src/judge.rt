@@ -1,71 +1,48 @@
-// Block 0 and the length, and each draw by itself.
-ghost use Rattle.std.specs.Prelude.{◌≡◌, ◌+◌, ◌*◌, ◌≤◌, ◌<◌, length};
-ghost use Rattle.scene.specs.Layout.{block_bytes, draw_limit};
-ghost use Rattle.scene.specs.Blocks.{block_of};
-ghost use Rattle.rescue.specs.Salvaged.{draw_code, front_code, salvage_code};
+// Block 0 and the length, and the room for the scene.
+ghost use Rattle.std.specs.Prelude.{◌≡◌, ◌&&◌, ◌%◌, eqb, leb, length};
+ghost use Rattle.scene.specs.Layout.{block_bytes};
+ghost use Rattle.scene.specs.Faults.{demand};
+ghost use Rattle.rescue.specs.Salvaged.{front_verdict, salvage_verdict};
 
-use codes::{ACCEPTED, BAD_CHECKSUM, BAD_LENGTH, OUT_OF_MEMORY};
-use scene::blocks::{block_right, read_draw};
-use scene::header::{count, edition, header_rules};
-use scene::layout::{BLOCK_BYTES, DRAW_BLOCKS, DRAW_BYTES};
-use scene::rules::draw_rules;
+use codes::Code;
+use scene::FieldFault;
+use scene::blocks::block_right;
+use scene::header::{count, header_rules};
+use scene::layout::{BLOCK_BYTES, DRAW_BLOCKS};
 
 // The scene rules up to the draws.
-fn front_code(s: &[u8]) -> u32
-    ensures { result ≡ front_code s.now }
+#[tactic(auto, using(crate::proofs::Verdicts::in_order), unfolding(crate::specs::Salvaged::front_verdict))]
+fn front_verdict(s: &[u8]) -> Result<(), Code>
+    ensures { result ≡ front_verdict s.now }
 {
-    if s.len() % BLOCK_BYTES != 0 {
-        return BAD_LENGTH;
-    }
-    if s.len() < BLOCK_BYTES {
-        return BAD_LENGTH;
-    }
-    if !block_right(s, 0) {
-        return BAD_CHECKSUM;
-    }
-    let header = header_rules(s);
-    if header.code != ACCEPTED {
-        return header.code;
-    }
-    if s.len() != BLOCK_BYTES * (1 + DRAW_BLOCKS * count(s)) {
-        return BAD_LENGTH;
-    }
-    ACCEPTED
+    demand(whole_blocks(s.len()), Code::BadLength)?;
+    demand(block_right(s, 0), Code::BadChecksum)?;
+    header_rules(s).map_err(|f: FieldFault| f.code)?;
+    demand(
+        s.len() == BLOCK_BYTES * (1 + DRAW_BLOCKS * count(s)),
+        Code::BadLength,
+    )
 }
 
 // The same, then a place of too few bytes for the scene.
-pub fn salvage_code(s: &[u8], bytes: usize) -> u32
-    ensures { result ≡ salvage_code s.now bytes }
+#[tactic(auto, using(crate::proofs::Verdicts::in_order), unfolding(crate::specs::Salvaged::salvage_verdict))]
+pub fn salvage_verdict(s: &[u8], bytes: usize) -> Result<(), Code>
+    ensures { result ≡ salvage_verdict s.now bytes }
 {
-    let code = front_code(s);
-    if code != ACCEPTED {
-        return code;
-    }
-    if bytes < s.len() {
-        return OUT_OF_MEMORY;
-    }
-    ACCEPTED
+    front_verdict(s)?;
+    demand(s.len() <= bytes, Code::OutOfMemory)
 }
 
-// The code of draw i, judged by itself, with a mask counted as lent.
-pub fn draw_code(s: &[u8], i: usize) -> u32
-    requires { (block_bytes * block_of (i + 1) ≤ length s.now) × (i < draw_limit) }
-    ensures { result ≡ draw_code s.now i }
+// Whether a file of that length is cut into blocks, and has block 0.
+fn whole_blocks(length: usize) -> bool
+    ensures { result ≡ eqb (length % block_bytes) 0 && leb block_bytes length }
 {
-    let first = 1 + DRAW_BLOCKS * i;
-    if !block_right(s, first) {
-        return BAD_CHECKSUM;
-    }
-    if !block_right(s, first + 1) {
-        return BAD_CHECKSUM;
-    }
-    if !block_right(s, first + 2) {
-        return BAD_CHECKSUM;
-    }
-    if !block_right(s, first + 3) {
-        return BAD_CHECKSUM;
-    }
-    let mut d = [0u8; DRAW_BYTES];
-    read_draw(s, i, &mut d);
-    draw_rules(&d, true, edition(s)).code
+    length % BLOCK_BYTES == 0 && BLOCK_BYTES <= length
+}
+
+// A rule, and the code where it is broken.
+fn demand(ok: bool, code: Code) -> Result<(), Code>
+    ensures { result ≡ demand ok code }
+{
+    if ok { Ok(()) } else { Err(code) }
 }

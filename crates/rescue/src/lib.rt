@@ -5,7 +5,7 @@ pub mod fresh;
 pub mod judge;
 pub mod write;
 
-// The code, 0 for none, and how many draws were replaced.
+// The code, 0 for none, and how many draws were replaced: C takes it, so the code is a number here.
 #[repr(C)]
 #[derive(Clone, Copy)]
 pub struct Salvaged {

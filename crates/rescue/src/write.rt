@@ -8,11 +8,11 @@ ghost use Rattle.rescue.specs.Salvaged.{draw_span, salvaged_draw, salvaged_scene
 
 use crate::Salvaged;
 use crate::fresh::put_empty;
-use crate::judge::{draw_code, salvage_code};
+use crate::judge::salvage_verdict;
 use codes::ACCEPTED;
-use scene::blocks::copy;
 use scene::header::count;
 use scene::layout::{BLOCK_BYTES, DRAW_BLOCKS};
+use scene::verdict::draw_fault;
 
 // The bytes of a draw's four blocks.
 const DRAW_SPAN: usize = 2048;
@@ -25,15 +25,20 @@ pub fn salvage(s: &[u8], place: &mut [u8], list: &mut [u32]) -> Salvaged
     ensures listed { list.new
         ≡ written result.code (fitting (length list.old) (listed_to s.now (count_of s.now))) list.old }
 {
-    let code = salvage_code(s, place.len());
-    if code != ACCEPTED {
-        return Salvaged { code, replaced: 0 };
+    if let Err(code) = salvage_verdict(s, place.len()) {
+        return Salvaged {
+            code: code.number(),
+            replaced: 0,
+        };
     }
     let n = count(s);
     let end = s.len();
     write_scene(s, n, &mut place[0..end]);
     let replaced = write_list(s, n, list);
-    Salvaged { code, replaced }
+    Salvaged {
+        code: ACCEPTED,
+        replaced,
+    }
 }
 
 // The salvaged scene, to a place of its length.
@@ -41,7 +46,7 @@ fn write_scene(s: &[u8], n: usize, out: &mut [u8])
     requires { (n ≡ count_of s.now) × (n ≤ draw_limit) × (length s.now ≡ block_bytes * block_of n) × (length out.old ≡ length s.now) }
     ensures { out.new ≡ salvaged_scene s.now }
 {
-    copy(s, 0, &mut out[0..BLOCK_BYTES]);
+    out[0..BLOCK_BYTES].copy_from_slice(&s[0..BLOCK_BYTES]);
     let end = out.len();
     write_draws(s, n, &mut out[BLOCK_BYTES..end]);
 }
@@ -51,21 +56,20 @@ fn write_draws(s: &[u8], n: usize, out: &mut [u8])
     requires { (n ≤ draw_limit) × (length s.now ≡ block_bytes * block_of n) × (length out.old ≡ draw_span * n) }
     ensures { out.new ≡ upto n (salvaged_draw s.now) }
 {
-    let mut i = 0;
-    while i < n {
+    for i in 0..n {
         let at = DRAW_SPAN * i;
         write_draw(s, i, &mut out[at..at + DRAW_SPAN]);
-        i += 1;
     }
 }
 
-// The blocks of draw i, as they are or the empty draw's.
+// The blocks of draw i, as they are or the empty draw's, judged by itself, with a mask counted as lent.
 fn write_draw(s: &[u8], i: usize, out: &mut [u8])
     requires { (i < draw_limit) × (block_bytes * block_of (i + 1) ≤ length s.now) × (length out.old ≡ draw_span) }
     ensures { out.new ≡ salvaged_draw s.now i }
 {
-    if draw_code(s, i) == ACCEPTED {
-        copy(s, BLOCK_BYTES * (1 + DRAW_BLOCKS * i), out);
+    if draw_fault(s, i, true).is_ok() {
+        let at = BLOCK_BYTES * (1 + DRAW_BLOCKS * i);
+        out.copy_from_slice(&s[at..at + DRAW_SPAN]);
     } else {
         put_empty(i, out);
     }
@@ -78,14 +82,11 @@ fn write_list(s: &[u8], n: usize, list: &mut [u32]) -> u32
         × (list.new ≡ over (fitting (length list.old) (listed_to s.now n)) list.old) }
 {
     let mut k = 0;
-    let mut i = 0;
-    while i < n {
-        let code = draw_code(s, i);
-        if code != ACCEPTED {
-            put_entry(list, k, i as u32, code);
+    for i in 0..n {
+        if let Err(f) = draw_fault(s, i, true) {
+            put_entry(list, k, i as u32, f.code.number());
             k += 1;
         }
-        i += 1;
     }
     k as u32
 }

@@ -1,5 +1,5 @@
 use mathlib.Core.Path.{◌≡◌, ap, ◌∙◌}
-use Prim.Native.Nat.{ℕ}
+use Prim.Native.Nat.{ℕ, ◌+◌, ◌-◌}
 use native.Mathlib.Omega.{arith}
 use lib.ListN.{length, take, drop}
 use lib.Seq.{length-take-le, take_at}
@@ -9,10 +9,11 @@ use Rattle.rescue.proofs.fresh.put_block.Goals as goal
 
 pub returns : goal.returns
 returns c =
-    let block = c.args.block.now in
-    let q = c.copy.new.out in
-    let part : length (take payload_bytes block) ≡ payload_bytes = length-take-le payload_bytes block (omega arith) in
+    let a = c.args in
+    let copy = c.copy_from_slice in
+    let q = copy.new.self in
+    let w : length q ≡ payload_bytes = copy.ensures.len ∙ length-take-le payload_bytes a.block.now (omega arith) in
+    let size : a.at + payload_bytes - a.at ≡ payload_bytes = omega arith in
     c.seal.ensures
-    ∙ ap (fresh_block c.args.b)
-    (take_at q (drop payload_bytes block) payload_bytes (c.copy.auto.out ∙ part)
-    ∙ c.copy.ensures ∙ ap (λ (k : ℕ). take k (drop c.args.at c.args.d.now)) part)
+    ∙ ap (fresh_block a.b)
+    (take_at q (drop payload_bytes a.block.now) payload_bytes w ∙ copy.ensures.after ∙ ap (λ (k : ℕ). take k (drop a.at a.d.now)) size)
