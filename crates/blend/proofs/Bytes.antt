@@ -85,8 +85,6 @@ module _ (n : ℕ) (s f d : List ℕ) (e : f ≡ run n (λ i. keep_pixel (pixel_
       ∙ over_stored_bytes 16
 
 -- ---- a pixel's number tells whether its alpha is 255
-pub word_opaque : (p : Pixel) → p.r < 256 → p.g < 256 → p.b < 256 → p.a < 256 → 4278190080 ≤ word_of p → p.a ≡ 255
-word_opaque p r g b a h = omega arith
 
 -- ---- and a number whose four bytes are f
 pub four_bytes : (f : ℕ) → f < 256

@@ -5,17 +5,6 @@ use native.Mathlib.Nat.{mul-le-mul_right}
 use native.Mathlib.Omega.{arith}
 use Rattle.blend.specs.PorterDuff.{blended, stored_unmasked}
 
--- a sum that is cut at 65,279 has the quotient 255
-pub cut_quotient : (p q m : ℕ) → p ≤ 65025 → m ≡ min q (65279 - (p + 127)) → (p + 127 + m) / 255 ≡ min 255 ((p + q + 127) / 255)
-cut_quotient p q m h e = omega arith
-
--- what is divided by 16
-pub stored_small : (k b d : ℕ) → k ≤ 16 → b < 256 → d < 256 → b * k + d * (16 - k) ≤ 4080
-stored_small k b d h1 h2 h3 =
-    let hb : b ≤ 255 = omega arith in
-    let hd : d ≤ 255 = omega arith in
-    omega (arith, mul-le-mul_right k hb, mul-le-mul_right (16 - k) hd)
-
 -- the byte stored where nothing is covered, and where B is all
 pub uncovered_byte : (b d : ℕ) → stored_unmasked 0 b d ≡ d
 uncovered_byte b d = omega arith
@@ -30,6 +19,3 @@ replaced_byte s d h = omega arith
 -- else it comes out of the quotient, and the rest is divided by sums and shifts
 quotient_of_lem : (s p m : ℕ) → p ≤ 65025 → m ≡ min (s + (p + 128 + (p + 128) / 256) / 256) 255 → m ≡ min 255 (s + (p + 127) / 255)
 quotient_of_lem s p m h e = omega arith
-
-pub over_by_shifts : (s p m : ℕ) → p ≤ 65025 → m ≡ min (s + (p + 128 + (p + 128) / 256) / 256) 255 → m ≡ min 255 ((s * 255 + p + 127) / 255)
-over_by_shifts s p m h e = omega (arith, quotient_of_lem s p m h e)

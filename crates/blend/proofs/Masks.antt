@@ -19,20 +19,8 @@ use Rattle.blend.specs.Spans.{four_of, masked_pixel}
 use Rattle.blend.proofs.Channel.{covered_byte}
 
 -- ---- the quotient by 4,080 is one by 16, then by 255
-pub by_4080 : (x : ℕ) → x / 16 / 255 ≡ x / 4080
-by_4080 x = omega arith
 
 -- ---- sizes: the weight k m, of 4,080, and what is divided
-pub weight_small : (k m : ℕ) → k ≤ 16 → m < 256 → k * m ≤ 4080
-weight_small k m h i =
-    let x : m ≤ 255 = omega arith in
-    mul-le-mul h x
-
-pub weighed_small : (w b d : ℕ) → w ≤ 4080 → b < 256 → d < 256 → b * w + d * (4080 - w) ≤ 1040400
-weighed_small w b d h i j =
-    let x : b ≤ 255 = omega arith in
-    let y : d ≤ 255 = omega arith in
-    omega (arith, mul-le-mul_right w x, mul-le-mul_right (4080 - w) y)
 
 -- ---- with m = 255 it is the old formula
 quotients : (p q n : ℕ) → n ≡ 255 * p + 255 * q → (n + 2040) / 4080 ≡ (p + q + 8) / 16

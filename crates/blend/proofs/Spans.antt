@@ -43,10 +43,6 @@ laid_part n c w p s e h q =
     (run_is c (λ i. p) (take (c * 4) (run n (λ i. p))) (length-take (c * 4) (run n (λ i. p)) ∙ omega (arith, run_length n (λ i. p)))
     (λ i l. pixel_take (run n (λ i. p)) c i l ∙ run_at n (λ i. p) i (omega arith)))
 
--- of pixels that are all p, the first is p
-pub laid_first : (s : List ℕ) (p : Pixel) → s ≡ run 16 (λ i. p) → pixel_in s 0 ≡ p
-laid_first s p e = ap (λ (t : List ℕ). pixel_in t 0) e ∙ run_at 16 (λ i. p) 0 (omega arith)
-
 -- ---- runs: a run's k is its pixels'
 pub run_covered : (runs : List ℕ) (n w : ℕ) → Runs runs n w → Coverage (expand runs n) → (j : ℕ) → j < n → level_of runs j ≤ 16
 run_covered runs n w r c j h =

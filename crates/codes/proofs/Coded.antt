@@ -15,7 +15,3 @@ choice P code false f g a b = record { holds = b }
 module _ {P : ℕ → Type 0} {A : Type 0} {code : A → ℕ} where
   pub then : {f g : A} → Coded P code f → Coded P code g → Coded P code (sooner code f g)
   then a b = choice P code (eqb (code _) 0) _ _ b.holds a.holds
-
-  pub first : (none : A) (n : ℕ) (f : ℕ → A) → P (code none) → ((i : ℕ) → Coded P code (f i)) → Coded P code (soonest code none n f)
-  first none zero f a b = record { holds = a }
-  first none (suc n) f a b = then (first none n f a b) (b n)

@@ -20,10 +20,6 @@ module _ {E : Type 0} where
       let p = both_accept (first_among n f) (f n) h in
       ⊎_elim (λ e. rw e p.1) (all_accept f n p.0 i) (eq-or-lt_of_le (le_of_suc-le-suc l))
 
-  -- a loop: a turn that accepts, and one that refuses
-  pub accept_turn : (f : ℕ → Result Unit E) (n : ℕ) → first_among n f ≡ Ok tt → f n ≡ Ok tt → first_among (n + 1) f ≡ Ok tt
-  accept_turn f n h e = rw (add-one, h, e)
-
   pub refuse_turn : (f : ℕ → Result Unit E) (n m : ℕ) (e : E) → n < m → first_among n f ≡ Ok tt → f n ≡ Err e → first_among m f ≡ Err e
   refuse_turn f n zero e l h k = absurd (not-suc-le-zero l)
   refuse_turn f n (suc m) e l h k =

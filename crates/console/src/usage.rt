@@ -34,7 +34,8 @@ impl Manual {
         output::told(
             rt,
             print!(rt;
-                "{usage}\n{help}\nA file named - is standard input, and only one can be. What cannot be read is told on standard error; the exit status is always 0.\n"
+                "{usage}\n{help}\nA file named - is standard input, and only one can be. What cannot be read is told on standard error; \
+                the exit status is always 0.\n"
             ),
         );
     }

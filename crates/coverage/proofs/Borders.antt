@@ -22,28 +22,6 @@ use Rattle.coverage.proofs.Laid.{tab_same}
 use Rattle.coverage.proofs.Window.{tab_join}
 use Rattle.coverage.proofs.Rectangles.{kept_is}
 
--- a column that was cast, compared with an end of a span
-pub lt_column : (x : ℕ) (z : ℤ) {t : Bool} → SFits w64 z → x < 2 ^ 31 → lt_z (to_z w64 x) (to_z w64 (of_z w64 z)) ≡ t → lt_z (pos x) z ≡ t
-lt_column x z p q e = rw (to_z_pos w64 {n = x} (omega arith), to_z-of_z p) at e
-
-pub column_lt : (z : ℤ) (x : ℕ) {t : Bool} → SFits w64 z → x < 2 ^ 31 → lt_z (to_z w64 (of_z w64 z)) (to_z w64 x) ≡ t → lt_z z (pos x) ≡ t
-column_lt z x p q e = rw (to_z_pos w64 {n = x} (omega arith), to_z-of_z p) at e
-
--- of two columns right of x the nearer, where z is v as it was read back
-pub is_nearer : (z v : ℤ) (x end : ℕ) → v ≡ z → lt_z (pos x) z ≡ true → lt_z z (pos end) ≡ true
-    → (x < nat_abs v) × (nat_abs v ≤ end) × (le_z (pos (nat_abs v)) z ≡ true)
-is_nearer (pos n) v x end e a b =
-    rw e (ltb-true x n a, omega (arith, ltb-true n end b), le-leb n n (omega arith))
-is_nearer (negsuc n) v x end e a b = absurd (subst T (sym a) tt)
-
-pub column_fits : (z v : ℤ) (x end : ℕ) → v ≡ z → lt_z (pos x) z ≡ true → lt_z z (pos end) ≡ true → end < 2 ^ 31 → T (non_neg v) × Fits w64 (nat_abs v)
-column_fits (pos n) v x end e a b l = rw e (tt, omega (arith, ltb-true n end b))
-column_fits (negsuc n) v x end e a b l = absurd (subst T (sym a) tt)
-
-pub not_nearer : (z : ℤ) (end : ℕ) → lt_z z (pos end) ≡ false → le_z (pos end) z ≡ true
-not_nearer (pos n) end b = le-leb end n (ltb-false n end b)
-not_nearer (negsuc n) end b = absurd (subst T b tt)
-
 -- columns before r, which is not right of z, and from x on, which is not left of z
 not_begun : (z : ℤ) (r j : ℕ) → le_z (pos r) z ≡ true → j < r → le_z z (pos j) ≡ false
 not_begun (pos n) r j h l = lt-leb n j (omega (arith, leb-true r n h))
@@ -63,23 +41,6 @@ ended (negsuc n) x j h l = refl
 
 -- from x to before r: all columns left of the span, all in it, all right of it
 module _ (s : Span) (x r : ℕ) (right : x < r) where
-  pub all_left : le_z (pos r) s.start ≡ true → (j : ℕ) → x ≤ j → j < r → in_span s j ≡ in_span s x
-  all_left h j g l = left j l ∙ sym (left x right)
-    where
-      left : (j : ℕ) → j < r → in_span s j ≡ false
-      left j l = rw (not_begun s.start r j h l)
-
-  pub all_inside : lt_z (pos x) s.start ≡ false → le_z (pos r) s.end ≡ true → (j : ℕ) → x ≤ j → j < r → in_span s j ≡ in_span s x
-  all_inside a b j g l = inside j g l ∙ sym (inside x (omega arith) right)
-    where
-      inside : (j : ℕ) → x ≤ j → j < r → in_span s j ≡ true
-      inside j g l = rw (begun s.start x j a g, not_ended s.end r j b l)
-
-  pub all_right : lt_z (pos x) s.end ≡ false → (j : ℕ) → x ≤ j → j < r → in_span s j ≡ in_span s x
-  all_right h j g l = past j g ∙ sym (past x (omega arith))
-    where
-      past : (j : ℕ) → x ≤ j → in_span s j ≡ false
-      past j g = ap (λ (t : Bool). le_z s.start (pos j) && t) (ended s.end x j h g) ∙ and-false (le_z s.start (pos j))
 
 -- a part of a row, made 0 or kept
 module _ (s : List ℕ) (keep : Bool) where

@@ -173,12 +173,6 @@ none_grouped marks n o wide h long = record {
 pub blank_none : (marks : List ℕ) (e : ℕ) → e ≤ length marks → Blank marks e e
 blank_none marks e h = record { low = omega arith; high = h; none = λ i l g. absurd (omega (arith, l, g)) }
 
-pub blank_one : (marks : List ℕ) (e : ℕ) → e < length marks → get_or marks e 0 ≡ 0 → Blank marks e (e + 1)
-blank_one marks e h q = record { low = omega arith; high = omega arith; none = λ i l g. ap (λ (j : ℕ). get_or marks j 0) (only i l g) ∙ q }
-  where
-    only : (i : ℕ) → e ≤ i → i < e + 1 → i ≡ e
-    only i l g = omega arith
-
 -- from e on, which lies after the marks of its group
 pub blank_past : (marks groups : List ℕ) (e : ℕ) → e < length marks → Grouped marks groups → min (get_or groups (e / 64) 0) (length marks) ≤ e
     → Blank marks e (min ((e / 64 + 1) * 64) (length marks))

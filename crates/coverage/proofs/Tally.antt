@@ -29,8 +29,6 @@ pub odd_no : (w : ℤ) → SFits w32 w → of_z w32 (rem_z w (pos 2)) ≡ 0 → 
 odd_no w f e = sym (abs_rem w) ∙ zero_yes w32 (rem_z w (pos 2)) (omega (arith, mag_rem w (pos 2), f.sfits)) e
 
 -- ---- four columns
-pub four_counts : {p q r s e f g h : ℕ} → p ≡ e → q ≡ f → r ≡ g → s ≡ h → p + q + r + s ≡ e + f + g + h
-four_counts a b c d = rw (a, b, c, d)
 
 -- counted column by column or row by row
 pub turned_counts : (non_zero : Bool) (t u v w : Windings)

@@ -57,9 +57,6 @@ module _ (old new : List ℕ) (i : ℕ) where
     unfolding changed_at
     changed_both = rw (lt-ltb i (count_of old) h, lt-ltb i (count_of new) k)
 
-    pub changed_bytes : edition_of old ≡ edition_of new → changed_at old new i ≡ not (same_draw (draw_of old i) (draw_of new i))
-    changed_bytes e = changed_both ∙ rw (eq-eqb (edition_of old) (edition_of new) e)
-
     pub unchanged : changed_at old new i ≡ false → (edition_of old ≡ edition_of new) × (same_draw (draw_of old i) (draw_of new i) ≡ true)
     unchanged c =
         let p = both (same_edition old new) (same_draw (draw_of old i) (draw_of new i)) (not-false _ (sym changed_both ∙ c)) in

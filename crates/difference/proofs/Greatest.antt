@@ -43,9 +43,6 @@ greatest_more m (suc n) f = rw (one_more m n, greatest_more m n f) (omega arith)
 not_apart : (m n : ℕ) → apart m n ≤ 0 → m ≡ n
 not_apart m n e = omega arith
 
-pub no_gap_equal : (a b : List ℕ) → length a ≡ length b → greatest (length a) (gap_at a b) ≡ 0 → a ≡ b
-no_gap_equal a b l e = ext_get_or 0 a b l (λ j m. not_apart _ _ (rw e at (greatest_bounds (length a) (gap_at a b) j m)))
-
 pub equal_no_gap : (n : ℕ) (a b : List ℕ) → a ≡ b → greatest n (gap_at a b) ≡ 0
 equal_no_gap zero a b e = refl
 equal_no_gap (suc n) a b e = rw (equal_no_gap n a b e, e) (none (get_or b n 0))

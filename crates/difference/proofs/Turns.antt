@@ -86,15 +86,6 @@ noted_below w y f t = record { narrow = t.narrow; low = omega (arith, t.low); fe
 pub noted_largest : (w y : ℕ) (f r : Found) (g : ℕ) → r ≡ with_largest g f → Noted w y f → Noted w y r
 noted_largest w y f r g e t = rw e (record { narrow = t.narrow; low = t.low; few = t.few; on = t.on; small = t.small })
 
-pub noted_small : (w y : ℕ) (f : Found) → Noted w y f → Small f
-noted_small w y f t =
-    let o = t.on in
-    record {
-      few = omega (arith, t.few, mul-le-mul_left 1024 t.narrow);
-      on = record { across = o.across; wide = omega (arith, o.wide, t.narrow); up = o.up; high = o.high };
-      small = t.small;
-    }
-
 -- ---- the rows from y on, n of them
 abbrev pub found_from : ℕ → List ℕ → List ℕ → ℕ → ℕ → Found
 found_from w a b y n = found_of w (picked (differs a b) (y * w) (n * w)) (greatest (n * (w * 4)) (λ j. gap_at a b (y * (w * 4) + j)))

@@ -62,7 +62,8 @@ use Rattle.std.specs.Prelude.{Option, None, Some}
 use Rattle.engine.specs.declared.Shade.{Shade}
 use Rattle.engine.specs.declared.Shade.TheVariants.{Solid, Gradient}
 use Rattle.engine.specs.declared.Style.{Style}
-use Rattle.engine.specs.Rows.{Few, scissored_by, coverage_with, step_with, tinted_by, shade_at, style_of, in_mode, SameBlend, Tints, MadeLinear, MadeRadial, Shades}
+use Rattle.engine.specs.Rows.{Few, scissored_by, coverage_with, step_with, tinted_by, shade_at, style_of, in_mode, SameBlend, Tints, MadeLinear}
+use Rattle.engine.specs.Rows.{MadeRadial, Shades}
 use Rattle.engine.specs.Background.{HidingPaint}
 use Rattle.engine.proofs.Unclamped.{drawn_under}
 

@@ -20,11 +20,6 @@ use Rattle.engine.specs.Rows.{RowCoverage}
 use Rattle.engine.specs.Spans.{Uncovered}
 use Rattle.engine.proofs.RowLaws.{first_of, first_part}
 
--- one run more that is not covered
-pub uncovered_more : (runs : List ℕ) (j e : ℕ) → Uncovered runs j e → level_of runs e ≡ 0 → Uncovered runs j (e + 1)
-uncovered_more runs j e t q =
-    (omega (arith, t.0), λ i a b. below_more (λ i. j ≤ i → level_of runs i ≡ 0) e (λ i b a. t.1 i a b) (λ a. q) i b a)
-
 -- where a part of a row of w pixels begins and ends
 pub part_within : (runs : List ℕ) (w from to : ℕ) → RowCoverage w runs → from ≤ to → to ≤ length runs
     → (start_of runs from ≤ start_of runs to) × (start_of runs to ≤ w)

@@ -79,9 +79,6 @@ said r z e = record { bound = r.bound; read = r.read; int = z; same = r.same ∙
 abbrev pub tight : (n : ℕ) (r : Num) → Within n r.int → Num
 tight n r h = record { bound = n; read = r.read; int = r.int; same = r.same; size = h }
 
-pub need_as : {w : Width} (r : Num) → SFits w r.int → SFits w r.read
-need_as {w} r f = subst (λ (x : ℤ). SFits w x) (sym r.same) f
-
 abbrev pub quot : Num → Num → Num
 quot r s = record {
   bound = r.bound;

@@ -16,10 +16,6 @@ use Rattle.fixed.proofs.Within.{fits}
 pub le_back : (w : Width) (a b : ℤ) {t : Bool} → SFits w a → SFits w b → le_z (to_z w (of_z w a)) (to_z w (of_z w b)) ≡ t → le_z a b ≡ t
 le_back w a b p q e = rw (to_z-of_z p, to_z-of_z q) at e
 
--- one of the two an unsigned number that was cast
-pub le_nat : (w : Width) (a : ℤ) (n : ℕ) {t : Bool} → SFits w a → n < 2 ^ hbits w → le_z (to_z w (of_z w a)) (to_z w n) ≡ t → le_z a (pos n) ≡ t
-le_nat w a n p q e = rw (to_z-of_z p, to_z_pos w q) at e
-
 -- of a call's signed result: `back w32 c.f.result c.f.ok`
 pub back : (w : Width) (z : ℤ) → mag z < 2 ^ hbits w → to_z w (of_z w z) ≡ z
 back w z h = to_z-of_z {w = w} (record { sfits = h })

@@ -17,28 +17,6 @@ Called old new s o r a s' o' t' =
     (a ≡ call_answer old new (length s) r)
     × ((s' ≡ call_surface old new s r) × ((o' ≡ call_other old o r) × (t' ≡ call_scratch old new (length s) r)))
 
--- a drawing: the scratch t is filled, then the new scene is drawn
-pub drawing_leaves : (new s o : List ℕ) (t : List ℤ) (a : Answer) (s' : List ℕ) (f t' : List ℤ)
-    → f ≡ numbers (length t) → length f ≡ length t
-    → (a ≡ draw_answer new no_mask (length s) (length f)) × ((s' ≡ draw_surface new no_mask s (length f)) × (t' ≡ draw_scratch new no_mask (length s) f))
-    → Called None new s o (length t) a s' o t'
-drawing_leaves new s o t a s' f t' e l d = (
-  d.0 ∙ ap (draw_answer new no_mask (length s)) l,
-  (d.1.0 ∙ ap (draw_surface new no_mask s) l, (refl, d.1.1 ∙ ap (draw_scratch new no_mask (length s)) e)),
-)
-
--- a redraw: the old scene is drawn on both surfaces, the scratch is filled, then comes the redraw
-pub redraw_leaves : (old new s o : List ℕ) (t : List ℤ) (a : Answer) (s₁ o₁ s' : List ℕ) (t₁ f t' : List ℤ)
-    → s₁ ≡ draw_surface old no_mask s (length t) → length s₁ ≡ length s → length t₁ ≡ length t → o₁ ≡ draw_surface old no_mask o (length t₁)
-    → f ≡ numbers (length t) → length f ≡ length t
-    → (a ≡ redraw_answer old new no_mask (length s₁) (length f))
-    × ((s' ≡ redraw_surface old new no_mask s₁ (length f)) × (t' ≡ redraw_scratch old new no_mask (length s₁) f))
-    → Called (Some old) new s o (length t) a s' o₁ t'
-redraw_leaves old new s o t a s₁ o₁ s' t₁ f t' d n m e g l h = (
-  h.0 ∙ ap₂ (redraw_answer old new no_mask) n l,
-  (h.1.0 ∙ ap₂ (redraw_surface old new no_mask) d l, (e ∙ ap (draw_surface old no_mask o) m, h.1.1 ∙ ap₂ (redraw_scratch old new no_mask) n g)),
-)
-
 -- the report of an accepted call: the scene on the other surface
 pub report_leaves : (new o o₁ o' : List ℕ) (t f t' : List ℤ) → o₁ ≡ bytes 85 (length o) → length o₁ ≡ length o
     → f ≡ numbers (length t) → length f ≡ length t → (o' ≡ draw_surface new no_mask o₁ (length f)) × (t' ≡ draw_scratch new no_mask (length o₁) f)

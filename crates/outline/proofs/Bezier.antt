@@ -80,10 +80,6 @@ pub weights_told : {degree n : ℕ} {w : Weights} (k : ℕ) → k ≤ 16 → Cur
 weights_told {degree} {n} {w} k h c e f =
     subst (λ (m : ℕ). (w ≡ weights_of m k) × Full m w) (sym e) (f, subst (λ (v : Weights). Full n v) (sym f) (weights_full c k h))
 
--- they fit
-pub square : (a b : ℕ) → a ≤ 16 → b ≤ 16 → a * b ≤ 256
-square a b h k = mul-le-mul {n₁ = a} {m₁ = b} {n₂ = 16} {m₂ = 16} h k
-
 -- ---- the size of a cut point
 -- (z + m) / d rounded down, with m below d, is at most b in size if z is at most d b
 rounded : (d m b : ℕ) (z : ℤ) → m < d → Within (d * b) z → Within b (floor_div (z +ℤ pos m) d)

@@ -66,9 +66,6 @@ module _ (c r : Edge) (p : Point) (e : r ≡ grown_by c (edge p p)) where
 pub near_placed : (m : FixedMatrix) (p q : Point) → is_small m ≡ true → p ≡ q → Near q → Placed m p
 near_placed m p q small e n = rw e (record { near = n; there = is_true (on_surface_grid (transform m q)) (point_on m small q n) })
 
-pub crossed_near : (d e : Edge) → d ≡ crossed e → NearEnds e → NearEnds d
-crossed_near d e q h = rw q (record { x0 = h.x0; y0 = h.y1; x1 = h.x1; y1 = h.y0 })
-
 -- ---- one axis of a point of a box is outermost at a corner
 rises : (k : ℕ) (a b : ℤ) → a ≤ℤ b → (pos k *ℤ a) ≤ℤ (pos k *ℤ b)
 rises k a b h = le (num k ⊗ var a) (num k ⊗ var b) (omega (arith, mul-le-mul_left k (from_le (var a) (var b) h)))

@@ -78,24 +78,7 @@ corners_next l i h =
       y1 = outer_next true true l i h j;
     })
 
--- the column or row of a 32-bit coordinate, in a local
-pub pixel_size : (z : ℤ) → SFits w32 z → Within 8388608 (floor_div z 256)
-pixel_size z f =
-    let h = from_floor (var z) 256 (lit< tt) in
-    let k = from_within (var z) (of_fits f) in
-    P.within 8388608 (var (floor_div z 256)) (omega arith) (omega arith)
-
-abbrev pub pixel : (z : ℤ) → SFits w32 z → Num
-pixel z f = keep w32 (tight 8388608 (shr (param w32 z f) 256) (pixel_size z f)) tt
-
 -- a number cut to 0..n
-pub above_zero : (z : ℤ) → le_z z (pos 0) ≡ false → T (non_neg z)
-above_zero (pos n) e = tt
-above_zero (negsuc n) e = absurd (true≢false e)
-
-pub within_none : (n : ℕ) (z : ℤ) → le_z z (pos 0) ≡ true → 0 ≡ within n z
-within_none n z e = rw e
-
 pub within_some : (n : ℕ) (z : ℤ) (m : ℕ) → le_z z (pos 0) ≡ false → min n (nat_abs z) ≡ m → m ≡ within n z
 within_some n z m e h = rw e (sym h)
 

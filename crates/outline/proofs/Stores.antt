@@ -33,13 +33,6 @@ edge_put l n e h =
     rw (f.0, f.1, f.2, f.3)
 
 -- ---- the edge between two points, unless they are equal
-pub none_put : (l : List ℤ) (n : ℕ) (a b : Point) → (equal a.x b.x && equal a.y b.y) ≡ true
-    → (l ≡ put_edges l n (edge_between a b)) × (n ≡ n + length (edge_between a b))
-none_put l n a b e = rw e (refl, sym (add-zero n))
-
-pub one_put : (l : List ℤ) (n : ℕ) (a b : Point) → (equal a.x b.x && equal a.y b.y) ≡ false
-    → (put_edge l n (edge a b) ≡ put_edges l n (edge_between a b)) × (n + 1 ≡ n + length (edge_between a b))
-one_put l n a b e = rw e (refl, refl)
 
 -- ---- a list of edges
 pub puts_length : (es : List Edge) (l : List ℤ) (i : ℕ) → length (put_edges l i es) ≡ length l

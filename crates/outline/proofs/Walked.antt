@@ -24,10 +24,6 @@ module _ (m : FixedMatrix) (pen : Pen) where
   pub closing_edge : (p q : Point) → p ≡ transform m pen.current → q ≡ transform m pen.start → edge_between p q ≡ drawn_edges m pen (line_to pen.start)
   closing_edge p q e f = ap₂ edge_between e f ∙ sym (curve_line (transform m pen.current) (transform_curve m (line_to pen.start)) refl)
 
-  pub drawn_closing : (byte : ℕ) (c : Curve) → leb (number byte) number_move ≡ true
-      → drawn_edges m pen (line_to pen.start) ≡ drawn_edges m pen (drawn_by pen byte c)
-  drawn_closing byte c h = rw h
-
   pub drawn_curve : (byte : ℕ) (c : Curve) (p : Point) (d : Curve) → leb (number byte) number_move ≡ false → p ≡ transform m pen.current
       → d ≡ transform_curve m c
       → curve_edges p d ≡ drawn_edges m pen (drawn_by pen byte c)

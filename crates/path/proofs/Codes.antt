@@ -105,7 +105,8 @@ module _ (m : FixedMatrix) (cs : List ℕ) (walk : Walk) (byte : ℕ) where
       by : (a b c d e : Bool) → leb 18 (number byte) ≡ a → leb (number byte) 24 ≡ b → leb 26 (number byte) ≡ c
           → ltb (length cs) (2 * (walk.used + coordinates_taken byte)) ≡ d
           → (curve_in_range (curve_at cs walk byte) && curve_on_grid m (curve_at cs walk byte)) ≡ e
-          → ◌≡◌ {A = Result Unit Code} (cond (a && b) (Err UnsupportedPathFormat) (cond c (Err IllegalArgument) (cond d (Err IllegalArgument) (cond e (Ok tt) (Err IllegalArgument))))) (Ok tt)
+          → ◌≡◌ {A = Result Unit Code} (cond (a && b) (Err UnsupportedPathFormat)
+          (cond c (Err IllegalArgument) (cond d (Err IllegalArgument) (cond e (Ok tt) (Err IllegalArgument))))) (Ok tt)
           → Accepted
       by true true c d e p q r s t z = absurd (cc)
       by true false true d e p q r s t z = absurd (cc)

@@ -37,14 +37,6 @@ packed_takes byte h = eqb-true (17821667872 / 2 ^ (byte / 2 * 4) % 16) (coordina
 some : ℕ → Bool
 some byte = ltb byte 10 || leb 2 (coordinates_taken byte)
 
-pub curve_takes : (byte : ℕ) → byte < 18 → 10 ≤ byte → 2 ≤ coordinates_taken byte
-unfolding some
-curve_takes byte h k = leb→le 2 (coordinates_taken byte) (second (ltb byte 10) refl (upto some 18 tt byte h))
-  where
-    second : (t : Bool) → ltb byte 10 ≡ t → T (t || leb 2 (coordinates_taken byte)) → T (leb 2 (coordinates_taken byte))
-    second true e s = absurd (omega (arith, ltb-true byte 10 e))
-    second false e s = s
-
 -- by the command
 abbrev pub taken_by : ℕ → ℕ
 taken_by command = get_or taking command 0

@@ -21,9 +21,6 @@ total_mono f i (suc n) h = ⊎_elim (λ e. rw e (omega arith)) (λ k. omega (ari
 pub start_more : (lengths : List ℕ) (i : ℕ) → start_of lengths (i + 1) ≡ start_of lengths i + get_or lengths i 0
 start_more lengths i = rw add-one
 
-pub sum_turn : (lengths : List ℕ) (i s n : ℕ) → s ≡ start_of lengths i → n ≡ get_or lengths i 0 → s + n ≡ start_of lengths (i + 1)
-sum_turn lengths i s n a b = omega (arith, start_more lengths i, a, b)
-
 -- a scene ends in the run
 pub scene_ends : (run lengths : List ℕ) (i at end : ℕ) → i < length lengths → start_of lengths (length lengths) ≡ length run → at ≡ start_of lengths i
     → end ≡ at + get_or lengths i 0 → end ≤ length run

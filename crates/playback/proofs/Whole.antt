@@ -51,22 +51,6 @@ module _ (bytes : ℕ) (lengths : List ℕ) (places : ℕ) where
 
 -- ---- what it leaves
 module _ (run lengths : List ℕ) (m : Mask) (p : List ℕ) (l : List ℤ) (out : List ℕ) where
-  abbrev pub Leaves : Replayed → List ℕ → List ℤ → List ℕ → Type 0
-  Leaves r p' l' out' =
-      (r ≡ replay_answer run lengths m p l (length out))
-      × ((p' ≡ replay_surface run lengths m p l (length out))
-      × ((l' ≡ replay_scratch run lengths m p l (length out)) × (out' ≡ replay_answers run lengths m p l out)))
-
-  -- refused as a whole, it writes nothing
-  pub replay_refused : (k : ℕ) → k ≡ replay_code (length run) lengths (length out) → (k ≡ 0 → ⊥) → Leaves (record { code = k; first = k }) p l out
-  replay_refused k e n = rw (← e, ne_eqb k 0 n) (refl, (refl, (refl, refl)))
-
-  pub replay_done : (k f : ℕ) (p' : List ℕ) (l' : List ℤ) (out' : List ℕ) → k ≡ replay_code (length run) lengths (length out) → k ≡ 0
-      → f ≡ first_code (codes_of (end_of run lengths m p l).answers) → p' ≡ (end_of run lengths m p l).surface → l' ≡ (end_of run lengths m p l).scratch
-      → out' ≡ over (numbers_all (end_of run lengths m p l).answers) out → Leaves (record { code = 0; first = f }) p' l' out'
-  replay_done k f p' l' out' e z ef ep el eo =
-      let none : replay_code (length run) lengths (length out) ≡ 0 = sym e ∙ z in
-      rw none (ap (λ (n : ℕ). record { code = 0; first = n }) ef, (ep, (el, eo)))
 
 -- ---- what a context that notes the answer's `first` has noted: the call's own code, or its scenes' in order
 module _ (run lengths : List ℕ) (m : Mask) (p : List ℕ) (l : List ℤ) (places : ℕ) (c : Context) where

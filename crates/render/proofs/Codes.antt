@@ -57,7 +57,8 @@ use Rattle.scene.specs.Rules.{in_path, in_header, in_draw, check_faults_from, ch
 use Rattle.damage.specs.Damage.{damage}
 use Rattle.render.specs.declared.Refusal.{Refusal}
 use Rattle.render.specs.declared.Answer.{Answer}
-use Rattle.render.specs.Answers.{Mask, mask_wrong, scratch_numbers, nothing, refuse, refusal_of, scene_refusal, lent_refusal, draw_refusal, size_refusal, redraw_refusal}
+use Rattle.render.specs.Answers.{Mask, mask_wrong, scratch_numbers, nothing, refuse, refusal_of, scene_refusal, lent_refusal, draw_refusal, size_refusal}
+use Rattle.render.specs.Answers.{redraw_refusal}
 use Rattle.render.specs.Answers.{choose, accepted_answer, refused_answer, draw_answer, redraw_answer}
 
 module _ (P : Code → Type 0) (illegal : P IllegalArgument) (arc : P UnsupportedPathFormat) where
@@ -75,7 +76,8 @@ module _ (P : Code → Type 0) (illegal : P IllegalArgument) (arc : P Unsupporte
       test false a b = b
 
   path_coded : (m : FixedMatrix) (ss cs : List ℕ) (n : ℕ) → Faulty (λ f. P f.code) (fault_to m ss cs n)
-  path_coded m ss cs n = faulty.among n _ (λ i _. at_coded (segment_code m cs (walk_to ss cs i) (get_or ss i 0)) i (segment_coded m cs (walk_to ss cs i) (get_or ss i 0)))
+  path_coded m ss cs n = faulty.among n _
+      (λ i _. at_coded (segment_code m cs (walk_to ss cs i) (get_or ss i 0)) i (segment_coded m cs (walk_to ss cs i) (get_or ss i 0)))
     where
       at_coded : (r : Result Unit Code) (i : ℕ) → Faulty P r → Faulty (λ f. P f.code) (fault_at r i)
       at_coded (Ok u) i a = none

@@ -10,7 +10,8 @@ use Rattle.scene.specs.Layout.{block_bytes, payload_bytes, no_draw}
 use Rattle.scene.specs.Blocks.{block_right, block_of, draw_of}
 use Rattle.scene.specs.Faults.{demand, fault}
 use Rattle.scene.specs.Header.{count_of, edition_of}
-use Rattle.scene.specs.Rules.{header_rules, draw_rules, in_header, in_draw, check_faults_from, draw_fault_from, draw_fault, scene_fault_from, scene_fault, told_by}
+use Rattle.scene.specs.Rules.{header_rules, draw_rules, in_header, in_draw, check_faults_from, draw_fault_from, draw_fault, scene_fault_from, scene_fault}
+use Rattle.scene.specs.Rules.{told_by}
 use Rattle.scene.proofs.Accepted.{header_count}
 use Rattle.std.specs.Prelude.{Result, Ok, Err}
 use Rattle.render.proofs.Faulty.{Faulty, demanded, then, then_if, among, told, told_accepts}

@@ -24,7 +24,8 @@ use Rattle.scene.specs.Blocks.{draw_of}
 use Rattle.scene.proofs.Accepted.{accepted_scene, draws_passed, asks_lent}
 use Rattle.engine.specs.Rows.{MaskForScene}
 use Rattle.render.specs.declared.Refusal.{Refusal}
-use Rattle.render.specs.Answers.{Mask, mask_wrong, nothing, refuse, refusal_of, or_else, scene_refusal, lent_refusal, draw_refusal, size_refusal, redraw_refusal}
+use Rattle.render.specs.Answers.{Mask, mask_wrong, nothing, refuse, refusal_of, or_else, scene_refusal, lent_refusal, draw_refusal, size_refusal}
+use Rattle.render.specs.Answers.{redraw_refusal}
 
 -- ---- a chain of refusals
 -- f answers the first of two, k the second

@@ -1,6 +1,7 @@
 -- What a call answers, and what surface and scratch hold afterwards ("Codes, and which comes first"; demands 1 to 3).
 -- The scratch numbers are the paper's working room.
-use Rattle.std.specs.Prelude.{ℕ, ◌*◌, ◌-◌, ◌≤◌, ◌<◌, max, ◌≡◌, List, [], Bool, true, false, cond, not, ◌&&◌, length, replicate, ltb, eqb, ℤ, pos, Result, Ok, Err}
+use Rattle.std.specs.Prelude.{ℕ, ◌*◌, ◌-◌, ◌≤◌, ◌<◌, max, ◌≡◌, List, [], Bool, true, false, cond, not, ◌&&◌, length, replicate, ltb, eqb, ℤ, pos, Result}
+use Rattle.std.specs.Prelude.{Ok, Err}
 use Rattle.codes.specs.Codes.{accepted_code, illegal_argument, unsupported_image_format, out_of_memory}
 use Rattle.codes.specs.First.{sooner}
 use Rattle.codes.specs.Number.{number_of}

@@ -65,7 +65,8 @@ module _ (s : List ℕ) (h : scene_fault true s ≡ Ok tt) where
 
   pub accepted_answer_lem : (bytes : ℕ) → length s ≤ bytes → answer_of s bytes ≡ record { code = accepted_code; replaced = 0 }
   accepted_answer_lem bytes l =
-      sym (salvaged_answer s bytes 0 (room s bytes (front_sound s (front_accepted true s h)) l) (sym (none_replaced s accepted_right (count_of s) (omega arith))))
+      sym (salvaged_answer s bytes 0 (room s bytes (front_sound s (front_accepted true s h)) l)
+      (sym (none_replaced s accepted_right (count_of s) (omega arith))))
 
   pub accepted_list : listed_to s (count_of s) ≡ []
   accepted_list = nothing_listed s accepted_right (count_of s) (omega arith)

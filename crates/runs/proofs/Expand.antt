@@ -108,16 +108,6 @@ module _ (runs : List ℕ) (n w : ℕ) (r : Runs runs n w) where
   pub first_length : (j : ℕ) → j ≤ n → length (expand runs j) ≡ start_of runs j
   first_length j h = expand_length runs n r.rises j h
 
-  -- the first m of the runs, which are the beginning of the row
-  pub first_runs : (m : ℕ) → m ≤ n → Runs runs m (start_of runs m)
-  first_runs m h = record {
-    rises = λ j l. r.rises j (omega arith);
-    last = refl;
-  }
-
-  pub first_at : (m i : ℕ) → m ≤ n → i < start_of runs m → get_or (expand runs n) i 0 ≡ get_or (expand runs m) i 0
-  first_at m i h = expand_first runs n r.rises n (omega arith) m i h
-
   pub first_within : (m : ℕ) → m ≤ n → start_of runs m ≤ w
   first_within m h = omega (arith, starts_rise runs n r.rises m n h (omega arith), r.last)
 

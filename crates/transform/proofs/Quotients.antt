@@ -57,10 +57,3 @@ by_reciprocal c (suc a) h k =
     rw (ne_eqb (suc a) 0 (λ e. omega (arith, e)))
     (quotient_is 16777216 (suc a) r (c * 255 + suc a / 2) (suc a * r - 16777216) (omega arith) (omega arith) (omega (arith, mul-le-mul x y))
     ∙ halved c (suc a) (omega arith))
-
--- the product takes 40 bits, and the quotient 16
-pub product_small : (c a : ℕ) → c < 256 → a < 256 → (c * 255 + a / 2) * reciprocal_of a ≤ 1093085725440
-product_small c a h k =
-    let x : c * 255 + a / 2 ≤ 65152 = omega arith in
-    let y : reciprocal_of a ≤ 16777470 = omega (arith, div-le_self (16777215 + a) a) in
-    omega (arith, mul-le-mul x y)

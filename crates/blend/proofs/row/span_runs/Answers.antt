@@ -27,7 +27,8 @@ pub composite_span-requires : goal.composite_span-requires
 composite_span-requires c =
     let a = c.args in
     let l = c.loop-j in
-    run_asks a.runs.now a.n a.w c.requires.runs.0 l.j l.a c.loop-j-test.true l.row a.row.now (turn (goal.at.composite_span-requires c).In-loop-j) c.requires.coverage
+    run_asks a.runs.now a.n a.w c.requires.runs.0 l.j l.a c.loop-j-test.true l.row a.row.now
+    (turn (goal.at.composite_span-requires c).In-loop-j) c.requires.coverage
     l.invariant.1.long
 
 pub loop-j-preserved : goal.loop-j-preserved

@@ -45,7 +45,8 @@ add_listed-requires c =
       y_bound = (
         c.requires.y_bound.0,
         omega (arith, u.auto.self, c.requires.y_bound.1),
-        none_grouped u.new.self (length a.marks.now) (u.ensures.after (λ y e. e) ∙ filled (length a.marks.now) 0) u.auto.self (omega (arith, c.requires.y_bound.1)) refl,
+        none_grouped u.new.self (length a.marks.now) (u.ensures.after (λ y e. e) ∙ filled (length a.marks.now) 0) u.auto.self
+            (omega (arith, c.requires.y_bound.1)) refl,
       );
       edges = record { few = p.few; room = r; small = p.small };
       scratch_value = clear_laid a.scratch.now n (length u.new.self * 16) r p.clear;

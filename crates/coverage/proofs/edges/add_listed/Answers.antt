@@ -41,7 +41,8 @@ add_edge-requires c =
     let low = c.requires.needed.below l.j here in
     record {
       i_lt_n = (low, c.requires.y_bound.0, omega (arith, l.invariant.1, c.requires.y_bound.1), l.invariant.4);
-      edges = (turn_asks a.n (length a.cover.now) a.c a.y a.scratch.now c.requires.edges.room i low l.scratch (l.invariant.2 ∙ ap (λ (i : ℕ). with_sums a.n (length a.cover.now) a.c a.y i a.scratch.now) (reach_at a.list.now a.n l.j here))
+      edges = (turn_asks a.n (length a.cover.now) a.c a.y a.scratch.now c.requires.edges.room i low l.scratch
+          (l.invariant.2 ∙ ap (λ (i : ℕ). with_sums a.n (length a.cover.now) a.c a.y i a.scratch.now) (reach_at a.list.now a.n l.j here))
           (length l.cover)
           l.invariant.1 l.cover c.requires.edges l.invariant.0
           (subst (λ (m : ℕ). Marked l.cover (sums_at a.c (length a.cover.now * 4) a.y (edges_of a.scratch.now m)))
@@ -74,10 +75,12 @@ loop-j-preserved c =
     let gap : (m : ℕ) → i + 1 ≤ m → m < r → missed (edge_at a.scratch.now m).y0 (edge_at a.scratch.now m).y1 a.y ≡ true =
     λ m u v. k.gap l.j m here (omega (arith, u)) v in
     let sums = turn_sums a.n w a.c a.y a.scratch.now room i low l.scratch
-    (l.invariant.2 ∙ ap (λ (i : ℕ). with_sums a.n (length a.cover.now) a.c a.y i a.scratch.now) (reach_at a.list.now a.n l.j here)) (length l.cover) l.invariant.1 g.new.scratch
+    (l.invariant.2 ∙ ap (λ (i : ℕ). with_sums a.n (length a.cover.now) a.c a.y i a.scratch.now) (reach_at a.list.now a.n l.j here))
+    (length l.cover) l.invariant.1 g.new.scratch
     g.ensures.scratch_after in
     let marks = turn_marks a.n w a.c a.y a.scratch.now room i low l.scratch
-    (l.invariant.2 ∙ ap (λ (i : ℕ). with_sums a.n (length a.cover.now) a.c a.y i a.scratch.now) (reach_at a.list.now a.n l.j here)) (length l.cover) l.invariant.1
+    (l.invariant.2 ∙ ap (λ (i : ℕ). with_sums a.n (length a.cover.now) a.c a.y i a.scratch.now) (reach_at a.list.now a.n l.j here))
+    (length l.cover) l.invariant.1
     g.new.cover g.ensures.marked_2 in (
       omega (arith, g.auto.scratch, l.invariant.0),
       omega (arith, g.auto.cover, l.invariant.1),

@@ -13,7 +13,8 @@ pub merge-requires : goal.merge-requires
 merge-requires c =
     let a = c.args in
     let e = c.store_segment-all in
-    let few : length (drawn_edges a.m a.pen (drawn_by a.pen a.byte a.c)) ≤ 16 = curve_count (transform a.m a.pen.current) (transform_curve a.m (drawn_by a.pen a.byte a.c)) in
+    let few : length (drawn_edges a.m a.pen (drawn_by a.pen a.byte a.c)) ≤ 16 = curve_count (transform a.m a.pen.current)
+    (transform_curve a.m (drawn_by a.pen a.byte a.c)) in
     (omega (arith, few, e.ensures.value, e.auto.edges, c.requires), omega (arith, e.auto.edges, c.requires))
 
 pub returns : goal.returns
@@ -21,7 +22,8 @@ returns c =
     let a = c.args in
     let e = c.store_segment-all in
     let r = c.merge.ensures in
-    let few : length (drawn_edges a.m a.pen (drawn_by a.pen a.byte a.c)) ≤ 16 = curve_count (transform a.m a.pen.current) (transform_curve a.m (drawn_by a.pen a.byte a.c)) in
+    let few : length (drawn_edges a.m a.pen (drawn_by a.pen a.byte a.c)) ≤ 16 = curve_count (transform a.m a.pen.current)
+    (transform_curve a.m (drawn_by a.pen a.byte a.c)) in
     record {
       alike = alike_trans r.alike
           (stored_alike a.ends.now _ a.n (drawn_edges a.m a.pen (drawn_by a.pen a.byte a.c)) e.result e.ensures.edges_after e.ensures.value

@@ -22,7 +22,8 @@ returns-in-Err c =
     let walk = walk_to a.segments.now a.coordinates.now l.i in
     let byte = get_or a.segments.now l.i 0 in
     let e = sym c.in-Err.is ∙ c.step.ensures ∙ ap (λ (w : Walk). step_of a.m a.coordinates.now w byte) l.invariant.0 in
-    checked_refused a.m a.segments.now a.coordinates.now l.i c.in-Err.code a.n c.loop-i-test.true l.invariant.1 (from_refused a.m a.coordinates.now walk byte c.in-Err.code e)
+    checked_refused a.m a.segments.now a.coordinates.now l.i c.in-Err.code a.n c.loop-i-test.true l.invariant.1
+    (from_refused a.m a.coordinates.now walk byte c.in-Err.code e)
 
 pub loop-i-preserved : goal.loop-i-preserved
 unfolding traced_by

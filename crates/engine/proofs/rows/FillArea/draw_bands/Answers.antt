@@ -61,7 +61,8 @@ draw_rows-requires c =
       );
       part = (
         subst (λ (z : Target). Part z l.surface) rows
-            (band_part t _ a.surface.now c.requires.part.0 l.invariant.0 end.result (omega (arith, end.ensures, c.loop-y-test.true)) (omega (arith, end.ensures))),
+            (band_part t _ a.surface.now c.requires.part.0 l.invariant.0 end.result (omega (arith, end.ensures, c.loop-y-test.true))
+            (omega (arith, end.ensures))),
         subst (λ (z : Target). RowRoom (z.area.x1 - z.area.x0) l.buffer l.runs) rows
             (l.invariant.3 ∙ c.requires.part.1.0, l.invariant.4 ∙ c.requires.part.1.1),
       );

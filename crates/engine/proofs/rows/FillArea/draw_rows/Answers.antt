@@ -56,7 +56,8 @@ pub slice_bounds-own-count : goal.slice_bounds-own-count
 slice_bounds-own-count c =
     let r = c.row_bytes-r in
     let m = c.mask_bytes-m in
-    let o = mask_row c.args.self.now.target c.requires.part.0.placed c.args.self.now.brush.mask.now c.loop-y.y r.result.from r.result.to m.result.from m.result.to
+    let o = mask_row c.args.self.now.target c.requires.part.0.placed c.args.self.now.brush.mask.now c.loop-y.y r.result.from r.result.to
+    m.result.from m.result.to
     c.loop-y-test.true r.ensures.from_value r.ensures.to_value c.args.self.now.brush.style.masked m.ensures.0 m.ensures.1 c.args.self.now.masked in
     omega (arith, o.across)
 
@@ -64,7 +65,8 @@ pub slice_bounds-own-start : goal.slice_bounds-own-start
 slice_bounds-own-start c =
     let r = c.row_bytes-r in
     let m = c.mask_bytes-m in
-    let o = mask_row c.args.self.now.target c.requires.part.0.placed c.args.self.now.brush.mask.now c.loop-y.y r.result.from r.result.to m.result.from m.result.to
+    let o = mask_row c.args.self.now.target c.requires.part.0.placed c.args.self.now.brush.mask.now c.loop-y.y r.result.from r.result.to
+    m.result.from m.result.to
     c.loop-y-test.true r.ensures.from_value r.ensures.to_value c.args.self.now.brush.style.masked m.ensures.0 m.ensures.1 c.args.self.now.masked in
     o.across
 
@@ -72,7 +74,8 @@ pub slice_bounds-own-end : goal.slice_bounds-own-end
 slice_bounds-own-end c =
     let r = c.row_bytes-r in
     let m = c.mask_bytes-m in
-    let o = mask_row c.args.self.now.target c.requires.part.0.placed c.args.self.now.brush.mask.now c.loop-y.y r.result.from r.result.to m.result.from m.result.to
+    let o = mask_row c.args.self.now.target c.requires.part.0.placed c.args.self.now.brush.mask.now c.loop-y.y r.result.from r.result.to
+    m.result.from m.result.to
     c.loop-y-test.true r.ensures.from_value r.ensures.to_value c.args.self.now.brush.style.masked m.ensures.0 m.ensures.1 c.args.self.now.masked in
     o.within
 
@@ -80,7 +83,8 @@ pub invariant_of-row : goal.invariant_of-row
 invariant_of-row c =
     let r = c.row_bytes-r in
     let m = c.mask_bytes-m in
-    let o = mask_row c.args.self.now.target c.requires.part.0.placed c.args.self.now.brush.mask.now c.loop-y.y r.result.from r.result.to m.result.from m.result.to
+    let o = mask_row c.args.self.now.target c.requires.part.0.placed c.args.self.now.brush.mask.now c.loop-y.y r.result.from r.result.to
+    m.result.from m.result.to
     c.loop-y-test.true r.ensures.from_value r.ensures.to_value c.args.self.now.brush.style.masked m.ensures.0 m.ensures.1 c.args.self.now.masked in
     record { masked = o.long }
 
@@ -109,7 +113,8 @@ loop-y-preserved c =
     r.ensures.from_value r.ensures.to_value in
     let through = mask_row a.self.now.target c.requires.part.0.placed a.self.now.brush.mask.now l.y r.result.from r.result.to m.result.from m.result.to
     c.loop-y-test.true r.ensures.from_value r.ensures.to_value a.self.now.brush.style.masked m.ensures.0 m.ensures.1 c.args.self.now.masked in
-    let drawn = mask_turn a.self.now.target a.self.now.brush.style (edges_of a.scratch.now a.self.now.brush.style.edges) a.self.now.brush.scissors.now a.self.now.brush.ramp.now
+    let drawn = mask_turn a.self.now.target a.self.now.brush.style
+    (edges_of a.scratch.now a.self.now.brush.style.edges) a.self.now.brush.scissors.now a.self.now.brush.ramp.now
     a.self.now.brush.mask.now call.new.row _ l.y _ _ through (rw l.invariant.1 at call.ensures.row_after) in (
       o.turn call.new.row drawn,
       call.ensures.scratch_unchanged ∙ l.invariant.1,

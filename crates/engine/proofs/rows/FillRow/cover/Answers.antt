@@ -18,7 +18,8 @@ returns-in-None c =
     record {
       scratch_unchanged = call.ensures.scratch_unchanged;
       runs = subst (Runs call.new.runs call.result) long call.ensures.runs;
-      result_after = cover_plain a.self.now.brush.style (edges_of a.scratch.now a.self.now.brush.style.edges) a.self.now.brush.scissors.now s.x s.y s.length _ c.in-None.is
+      result_after = cover_plain a.self.now.brush.style
+          (edges_of a.scratch.now a.self.now.brush.style.edges) a.self.now.brush.scissors.now s.x s.y s.length _ c.in-None.is
           (rw long at call.ensures.result_after);
     }
 
@@ -33,7 +34,8 @@ scissor_runs-requires c =
       marks_len = (call.auto.marks ∙ long, call.auto.runs ∙ c.requires.marks_len.1);
       runs = (
         subst (Runs call.new.runs call.result) long call.ensures.runs,
-        coverage_fits (edges_of a.scratch.now a.self.now.brush.style.edges) a.self.now.brush.style.nonzero a.self.now.strip.x a.self.now.strip.y (length a.marks.now) _
+        coverage_fits (edges_of a.scratch.now a.self.now.brush.style.edges) a.self.now.brush.style.nonzero a.self.now.strip.x a.self.now.strip.y
+            (length a.marks.now) _
             call.ensures.result_after,
       );
     }
@@ -47,6 +49,7 @@ returns-in-Some c =
     record {
       scratch_unchanged = call.ensures.scratch_unchanged;
       runs = cut.ensures.runs_2;
-      result_after = cover_scissored a.self.now.brush.style (edges_of a.scratch.now a.self.now.brush.style.edges) a.self.now.brush.scissors.now s.x s.y s.length c.in-Some.count _ _
+      result_after = cover_scissored a.self.now.brush.style
+          (edges_of a.scratch.now a.self.now.brush.style.edges) a.self.now.brush.scissors.now s.x s.y s.length c.in-Some.count _ _
           c.in-Some.is (rw c.requires.marks_len.0 at call.ensures.result_after) cut.ensures.result_after;
     }

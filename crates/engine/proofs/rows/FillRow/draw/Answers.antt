@@ -34,7 +34,8 @@ invariant_of-covered c =
     record {
       masked = a.self.now.masked;
       covered = taken_covered r.new.runs r.result few s.length r.ensures.runs
-          (cover_fits a.self.now.brush.style (edges_of a.scratch.now a.self.now.brush.style.edges) a.self.now.brush.scissors.now s.x s.y s.length _ r.ensures.result_after);
+          (cover_fits a.self.now.brush.style
+          (edges_of a.scratch.now a.self.now.brush.style.edges) a.self.now.brush.scissors.now s.x s.y s.length _ r.ensures.result_after);
     }
 
 pub blend-requires : goal.blend-requires
@@ -63,7 +64,8 @@ returns c =
     let few : r.result ≤ length r.new.runs = omega (arith, runs_few r.new.runs r.result s.length r.ensures.runs, r.auto.runs, c.requires.row_len.1.1) in
     record {
       scratch_unchanged = r.ensures.scratch_unchanged;
-      row_after = row_steps a.self.now.brush.style (edges_of a.scratch.now a.self.now.brush.style.edges) a.self.now.brush.scissors.now s.x s.y s.length _ a.row.now
+      row_after = row_steps a.self.now.brush.style
+          (edges_of a.scratch.now a.self.now.brush.style.edges) a.self.now.brush.scissors.now s.x s.y s.length _ a.row.now
           a.self.now.brush.ramp.now a.self.now.brush.mask.now c.blend.new.row r.ensures.result_after
           (taken_row r.new.runs r.result few a.self.now.brush.style.mode _ _ a.row.now c.blend.new.row c.blend.ensures);
     }

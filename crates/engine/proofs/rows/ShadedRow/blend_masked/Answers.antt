@@ -27,5 +27,6 @@ returns c =
     let s = a.self.now in
     let call = c.composite_masked_runs in
     let width : start_of s.runs.now (length s.runs.now) - 0 ≡ s.strip.length = omega (arith, s.covered.0.last) in
-    painted_row s.brush.style.mode s.strip.x s.strip.y (λ i. get_or s.brush.mask.now i 0) (levels s.runs.now) a.row.now s.brush.ramp.now call.new.row s.brush.style.shade
+    painted_row s.brush.style.mode s.strip.x s.strip.y (λ i. get_or s.brush.mask.now i 0)
+    (levels s.runs.now) a.row.now s.brush.ramp.now call.new.row s.brush.style.shade
     s.strip.length _ c.row.new.paints (runs_length s.runs.now (length s.runs.now) s.strip.length s.covered.0) width c.row.ensures call.ensures

@@ -20,12 +20,14 @@ pub returns-in-Solid : goal.returns-in-Solid
 returns-in-Solid c =
     let s = c.args.self.now in
     let call = c.composite_runs in
-    solid_row s.brush.style.mode s.strip.x s.strip.y (λ i. 255) (levels s.runs.now) c.args.row.now s.brush.ramp.now call.new.row s.brush.style.shade c.in-Solid.p c.in-Solid.is
+    solid_row s.brush.style.mode s.strip.x s.strip.y (λ i. 255)
+    (levels s.runs.now) c.args.row.now s.brush.ramp.now call.new.row s.brush.style.shade c.in-Solid.p c.in-Solid.is
     call.ensures
 
 pub returns-in-Gradient : goal.returns-in-Gradient
 returns-in-Gradient c =
     let s = c.args.self.now in
     let call = c.blend in
-    gradient_blended s.brush.style.mode s.strip.x s.strip.y (λ i. 255) (levels s.runs.now) c.args.row.now s.brush.ramp.now call.new.row s.brush.style.shade c.in-Gradient.g
+    gradient_blended s.brush.style.mode s.strip.x s.strip.y (λ i. 255)
+    (levels s.runs.now) c.args.row.now s.brush.ramp.now call.new.row s.brush.style.shade c.in-Gradient.g
     c.in-Gradient.is call.ensures

@@ -11,7 +11,8 @@ use Rattle.engine.proofs.spans.GradientRow.blend_parts.Given as goal
 abbrev pub invariant-loop-j : goal.invariant-loop-j
 invariant-loop-j l =
     (l.j ≤ length l.self.runs.now) × (length l.buffer ≡ length l.initial.buffer)
-    × Stored (stepped l.self.mode (levels l.self.runs.now) (λ i. gradient_tinted l.self.paint l.self.ramp.now (l.self.strip.x + i) l.self.strip.y) l.initial.row)
+    × Stored (stepped l.self.mode (levels l.self.runs.now)
+    (λ i. gradient_tinted l.self.paint l.self.ramp.now (l.self.strip.x + i) l.self.strip.y) l.initial.row)
     l.initial.row (start_of l.self.runs.now l.j) l.row
 
 abbrev pub decreases-loop-j : goal.decreases-loop-j

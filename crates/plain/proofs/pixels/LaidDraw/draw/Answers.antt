@@ -60,10 +60,12 @@ loop-i-preserved c =
     let l = c.loop-i in
     let a = c.args in
     let w = a.width in
-    let f : ℕ → Pixel → Pixel = λ j. step_at a.self.now.brush.style (edges_of a.self.now.scratch.now a.self.now.brush.style.edges) a.self.now.brush.scissors.now a.self.now.brush.ramp.now
+    let f : ℕ → Pixel → Pixel = λ j. step_at a.self.now.brush.style
+    (edges_of a.self.now.scratch.now a.self.now.brush.style.edges) a.self.now.brush.scissors.now a.self.now.brush.ramp.now
     (mask_with a.self.now.brush.style (mask_at w a.self.now.brush.mask.now (j % w) (j / w))) (j % w) (j / w) in
     let made : step.result ≡ f l.i (pixel_in l.surface l.i) = step.ensures
-    ∙ ap₂ (λ (m : ℕ) (q : Pixel). step_at a.self.now.brush.style (edges_of a.self.now.scratch.now a.self.now.brush.style.edges) a.self.now.brush.scissors.now a.self.now.brush.ramp.now m (l.i % w) (l.i / w) q)
+    ∙ ap₂ (λ (m : ℕ) (q : Pixel). step_at a.self.now.brush.style
+    (edges_of a.self.now.scratch.now a.self.now.brush.style.edges) a.self.now.brush.scissors.now a.self.now.brush.ramp.now m (l.i % w) (l.i / w) q)
     (byte.ensures ∙ own_byte a.self.now.brush.style.masked a.self.now.brush.mask.now w l.i) pixel.ensures in
     stored_step f l.invariant put.new.s step.result put.ensures made (omega (arith, c.requires.surface_len.0, c.loop-i-test.true))
 

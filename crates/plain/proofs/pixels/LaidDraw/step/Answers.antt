@@ -30,4 +30,5 @@ returns c =
     let a = c.args in
     c.composite_pixel.ensures
     ∙ ap₂ (λ (k : ℕ) (q : Pixel). composite a.self.now.brush.style.mode k a.m q a.p)
-    (c.scissor_pixel-k.ensures ∙ ap (scissored_by a.self.now.brush.style.scissors a.self.now.brush.scissors.now a.x a.y) c.count_pixel-covered.ensures.0) c.paint-paint.ensures
+    (c.scissor_pixel-k.ensures ∙ ap
+    (scissored_by a.self.now.brush.style.scissors a.self.now.brush.scissors.now a.x a.y) c.count_pixel-covered.ensures.0) c.paint-paint.ensures
