@@ -5,6 +5,7 @@ use mathlib.Core.List.{List, []}
 use mathlib.Core.Bool.{false, true≢false}
 use Prim.Native.Nat.{ℕ, ◌≤◌}
 use lib.ListN.{length}
+use Rattle.std.specs.Prelude.{Ok}
 use lib.Ieee.{lt, mul, add, of_bits, to_unsigned, is_nan}
 use Rattle.color.specs.Channels.{channel_byte}
 use Rattle.blend.specs.PorterDuff.{source_factor, destination_factor, composite_byte, composite}
@@ -29,7 +30,7 @@ use Rattle.cases.specs.Scenes.{square_draw, red_draw, blue_draw, curve_draw, red
 use Rattle.cases.proofs.Judged.{block_there, lists_judged, rest_judged, draw_judged, scene_judged}
 
 -- ---- accepted: zero bytes of the draw from a place on, and how many; then every block
-red_rules : (draw_rules false 0 red_draw).code ≡ 0
+red_rules : draw_rules false 0 red_draw ≡ Ok tt
 unfolding square_draw of_bits is_nan points_of pen_after segment_code stop_limit_of count_rules flags_limit flags_allowed head_rules float_rules transform_rules
     flat_rule
     coordinates_at path_rules
@@ -48,7 +49,7 @@ red_accepted =
     (block_there red 4 refl)
     refl red_rules
 
-blue_rules : (draw_rules false 0 blue_draw).code ≡ 0
+blue_rules : draw_rules false 0 blue_draw ≡ Ok tt
 unfolding square_draw of_bits is_nan points_of pen_after segment_code stop_limit_of count_rules flags_limit flags_allowed head_rules float_rules transform_rules
     flat_rule
     coordinates_at path_rules
@@ -67,7 +68,7 @@ blue_accepted =
     (block_there blue 4 refl)
     refl blue_rules
 
-curve_rules : (draw_rules false 0 curve_draw).code ≡ 0
+curve_rules : draw_rules false 0 curve_draw ≡ Ok tt
 unfolding curve_draw of_bits is_nan points_of pen_after segment_code stop_limit_of count_rules flags_limit flags_allowed head_rules float_rules transform_rules
     flat_rule
     coordinates_at path_rules

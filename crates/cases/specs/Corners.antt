@@ -1,47 +1,55 @@
 -- Corners that no bench case reaches: where in the file a fault is, the step alone on stray bytes and under a mask, what an edition moves, a last stop
 -- just below the end. What the definitions give, beside what is asked; nearly all faults and offsets are those of edge vectors with these names
 -- (tests/vectors/edges.txt).
-use Rattle.std.specs.Prelude.{ℕ, ◌+◌, List, [], ◌∷◌, ◌++◌, map, true, false, set, length, replicate, pos}
+use Rattle.std.specs.Prelude.{ℕ, ◌+◌, List, [], ◌∷◌, ◌++◌, map, true, false, set, length, replicate, pos, Result, Ok, Err}
+use Rattle.codes.specs.Codes.{accepted_code}
+use Rattle.codes.specs.Number.{number_of, number_told}
 use Rattle.color.specs.declared.Pixel.{Pixel}
 use Rattle.blend.specs.PorterDuff.{composite_answer, mode_dst_over, mode_src_in, mode_src_over}
 use Rattle.paint.specs.Ramps.{ramp_of, ramp_at}
 use Rattle.scene.specs.declared.Fault.{Fault}
-use Rattle.scene.specs.Layout.{coordinates_at}
-use Rattle.scene.specs.Rules.{in_header, in_draw, header_rules, head_rules, transform_rules, draw_rules, flat_rule, path_rules, rest_rules, check_faults}
+use Rattle.scene.specs.declared.FieldFault.{FieldFault}
+use Rattle.scene.specs.Layout.{no_draw, coordinates_at}
+use Rattle.scene.specs.Rules.{told_by, in_header, in_draw, header_rules, head_rules, transform_rules, draw_rules, flat_rule, path_rules, rest_rules, check_faults}
 use Rattle.cases.specs.Bench.{Row}
 use Rattle.cases.specs.Scenes.{red, red_draw}
 
 abbrev row : List ℕ → List ℕ → Row
 row given asked = record { given = map pos given; paper = map pos asked }
 
--- ---- faults: code, draw number, offset
-abbrev numbers : Fault → List ℕ
-numbers f = f.code ∷ f.draw ∷ f.offset ∷ []
+-- ---- a judgement as C has it: code, draw number, offset; where nothing is refused 0, 64 and 0
+abbrev numbers : Result Unit Fault → List ℕ
+numbers (Ok _) = accepted_code ∷ no_draw ∷ 0 ∷ []
+numbers (Err f) = number_of f.code ∷ f.draw ∷ f.offset ∷ []
+
+-- the code alone, of a judgement among fields
+abbrev code : Result Unit FieldFault → ℕ
+code = number_told (λ f. f.code)
 
 -- the draw of the red square, as draw 1, with another byte, or two, at a place
 abbrev draw : ℕ → ℕ → List ℕ
-draw place byte = numbers (in_draw 1 (draw_rules false 0 (set red_draw place byte)))
+draw place byte = numbers (told_by (in_draw 1) (draw_rules false 0 (set red_draw place byte)))
 
 abbrev draw2 : ℕ → ℕ → ℕ → List ℕ
-draw2 place low high = numbers (in_draw 1 (draw_rules false 0 (set (set red_draw place low) (place + 1) high)))
+draw2 place low high = numbers (told_by (in_draw 1) (draw_rules false 0 (set (set red_draw place low) (place + 1) high)))
 
 -- its matrix alone, with two bytes of zero; then its path alone; its unused segments and coordinates alone
 abbrev flat : ℕ → List ℕ
-flat place = numbers (in_draw 1 (flat_rule (set (set red_draw place 0) (place + 1) 0)))
+flat place = numbers (told_by (in_draw 1) (flat_rule (set (set red_draw place 0) (place + 1) 0)))
 
 -- its colour transformation alone, as a draw of edition 1, with two bytes at a place
 abbrev transform : ℕ → ℕ → ℕ → List ℕ
-transform place low high = numbers (in_draw 1 (transform_rules 1 (set (set red_draw place low) (place + 1) high)))
+transform place low high = numbers (told_by (in_draw 1) (transform_rules 1 (set (set red_draw place low) (place + 1) high)))
 
 abbrev path : ℕ → ℕ → List ℕ
-path place byte = numbers (in_draw 1 (path_rules 0 (set red_draw place byte)))
+path place byte = numbers (told_by (in_draw 1) (path_rules 0 (set red_draw place byte)))
 
 abbrev rest : ℕ → ℕ → List ℕ
-rest place byte = numbers (in_draw 1 (rest_rules 0 (set red_draw place byte)))
+rest place byte = numbers (told_by (in_draw 1) (rest_rules 0 (set red_draw place byte)))
 
 -- block 0 of the red square with another byte; the checks of draw 0 in a file that begins with these bytes and is zero behind them
 abbrev header : ℕ → ℕ → List ℕ
-header place byte = numbers (in_header (header_rules (set red place byte)))
+header place byte = numbers (told_by in_header (header_rules (set red place byte)))
 
 abbrev checks : List ℕ → List ℕ
 checks bytes = numbers (check_faults bytes 0)
@@ -97,11 +105,11 @@ corners =
     ∷ row (draw 10 33) (illegal 1 2570)
     ∷ row (draw 11 1) (illegal 1 2571)
     -- where one is lent, bit 3 passes the head's rules, and bit 4 does not
-    ∷ row ((head_rules true 0 (set red_draw 0 8)).code ∷ (head_rules true 0 (set red_draw 0 16)).code ∷ []) (0 ∷ 0x1001 ∷ [])
+    ∷ row (code (head_rules true 0 (set red_draw 0 8)) ∷ code (head_rules true 0 (set red_draw 0 16)) ∷ []) (0 ∷ 0x1001 ∷ [])
     -- in edition 1 the coordinates begin later, bit 4 passes too, and bit 5 does not; a NaN among its eight values is met at its place, an infinite
     -- value is allowed
     ∷ row (coordinates_at 0 ∷ coordinates_at 1 ∷ []) (900 ∷ 932 ∷ [])
-    ∷ row ((head_rules false 1 (set red_draw 0 16)).code ∷ (head_rules false 1 (set red_draw 0 32)).code ∷ []) (0 ∷ 0x1001 ∷ [])
+    ∷ row (code (head_rules false 1 (set red_draw 0 16)) ∷ code (head_rules false 1 (set red_draw 0 32)) ∷ []) (0 ∷ 0x1001 ∷ [])
     ∷ row (transform 902 192 127) (illegal 1 3464)
     ∷ row (transform 930 192 127) (illegal 1 3492)
     ∷ row (transform 930 128 127) (0 ∷ 64 ∷ 0 ∷ [])
