@@ -3,7 +3,8 @@ ghost use Rattle.std.specs.Prelude.{◌≡◌};
 ghost use Rattle.blend.specs.PorterDuff.{is_mode, source_factor, destination_factor};
 ghost use Rattle.blend.specs.Spans.{hides};
 
-// OpenVG's numbers.
+// OpenVG's numbers, and no enum: `composite_on` and the row functions answer for any number of 16 bits (the factors of one that is no mode), and an enum
+// would ask more of whoever calls them.
 pub const SRC: u16 = 0x2000;
 
 pub const SRC_OVER: u16 = 0x2001;

@@ -13,7 +13,7 @@ pub use crate::row::{composite_masked_runs, composite_painted_runs, composite_ru
 pub use crate::step::composite;
 use color::Pixel;
 
-// What the step on one pixel answers: 0 and the new pixel, or a refusal and the old one.
+// What the step on one pixel answers: 0 and the new pixel, or a refusal and the old one. C takes this record, so its code is a number.
 #[repr(C)]
 #[derive(Clone, Copy)]
 pub struct Composited {

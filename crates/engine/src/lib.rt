@@ -29,7 +29,7 @@ use paint::AnyGradient;
 use transform::FixedTransform;
 
 // How a draw is filled: the number of its edges, its fill rule, by how many scissors it is cut where scissoring is on, whether it is drawn through the
-// mask, its blend mode, its paint.
+// mask, its blend mode, its paint. The fill rule and the mask are the draw's own, with no value beside them; the mode is a number as in `blend`.
 #[derive(Clone, Copy)]
 pub struct Style {
     pub edges: usize,

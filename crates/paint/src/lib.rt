@@ -72,7 +72,8 @@ pub struct Stop {
     pub color: Pixel,
 }
 
-// A linear gradient as drawing needs it: its points, its spread mode, whether its stops are premultiplied, and how many stops its ramp has.
+// A linear gradient as drawing needs it: its points, its spread mode, whether its stops are premultiplied, and how many stops its ramp has. The spread is
+// the file's number: `mapped` answers for any, and an enum would ask more of the callers. The stops lie in a lent run of numbers of fixed length (no heap).
 #[derive(Clone, Copy)]
 pub struct LinearGradient {
     pub points: FixedPoints,

@@ -12,7 +12,7 @@ use crate::judge::judge;
 use crate::scenes::play;
 use codes::ACCEPTED;
 
-// What a replay answers: its code, and the code that it notes, its own or else the first other than 0 of its scenes'.
+// What a replay answers: its code, and the code that it notes, its own or else the first other than 0 of its scenes': numbers, since C takes them.
 #[derive(Clone, Copy)]
 pub struct Replayed {
     pub code: u32,

@@ -13,7 +13,7 @@ use codes::ACCEPTED;
 use rect::Rect;
 use scene::layout::NO_DRAW;
 
-// Why a call is refused: its code, 0 for none, the draw number and the scene number.
+// Why a call is refused: its code, 0 for none, the draw number and the scene number, as the answer that C takes has them.
 #[derive(Clone, Copy)]
 pub struct Refusal {
     pub code: u32,

@@ -108,7 +108,7 @@ pub const POINT_LIMIT_LOG: u32 = 12;
 // That of a circle's floats, 1,024.
 pub const RADIAL_LIMIT_LOG: u32 = 10;
 
-// Paint types and spread modes.
+// Paint types and spread modes. They are numbers, since a file can hold any and the rules are the test (`is_paint`, `is_spread`).
 pub const PAINT_COLOR: u32 = 0x1B00;
 
 pub const PAINT_LINEAR: u32 = 0x1B01;
