@@ -10,7 +10,8 @@ use Rattle.paint.specs.Ramps.{ramp_of, ramp_at}
 use Rattle.scene.specs.declared.Fault.{Fault}
 use Rattle.scene.specs.declared.FieldFault.{FieldFault}
 use Rattle.scene.specs.Layout.{no_draw, coordinates_at}
-use Rattle.scene.specs.Rules.{told_by, in_header, in_draw, header_rules, head_rules, transform_rules, draw_rules, flat_rule, path_rules, rest_rules, check_faults}
+use Rattle.scene.specs.Rules.{told_by, in_header, in_draw, header_rules, head_rules, transform_rules, draw_rules, flat_rule, path_rules, rest_rules}
+use Rattle.scene.specs.Rules.{check_faults}
 use Rattle.cases.specs.Bench.{Row}
 use Rattle.cases.specs.Scenes.{red, red_draw}
 
