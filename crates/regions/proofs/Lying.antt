@@ -1,6 +1,6 @@
 -- A proposal's numbers: their sizes, and both axes of a rectangle.
-use mathlib.Core.Path.{◌≡◌, sym, ap, ◌∙◌}
-use mathlib.Core.Bool.{Bool, true, false, ◌&&◌, false≢true}
+use mathlib.Core.Path.{◌≡◌}
+use mathlib.Core.Bool.{true, ◌&&◌, false≢true}
 use mathlib.Core.List.{List}
 use Prim.Native.Nat.{ℕ, ◌+◌, ◌/◌, ◌≤◌, ◌<◌}
 use native.Mathlib.Omega.{arith}
@@ -12,16 +12,6 @@ use Rattle.rect.specs.Rects.{On}
 use Rattle.rect.proofs.Laws.{both}
 use Rattle.regions.specs.Proposals.{x_at, y_at, width_at, height_at, lies, lies_in, proposed_at}
 use Rattle.regions.specs.Runs.{AllOn}
-
--- ---- both axes
-module _ (w h : ℕ) (l : List ℤ) (k : ℕ) where
-  pub lies_second : (r : Bool) → lies (x_at l k) (width_at l k) w ≡ true → r ≡ lies (y_at l k) (height_at l k) h → r ≡ lies_in w h l k
-  unfolding lies_in
-  lies_second r e f = f ∙ ap (λ (t : Bool). t && lies (y_at l k) (height_at l k) h) (sym e)
-
-  pub lies_not : lies (x_at l k) (width_at l k) w ≡ false → false ≡ lies_in w h l k
-  unfolding lies_in
-  lies_not e = ap (λ (t : Bool). t && lies (y_at l k) (height_at l k) h) (sym e)
 
 -- ---- what lies in a surface is on it
 ends_of : (start size : ℤ) (limit : ℕ) → le_z (pos 0) start ≡ true → lt_z (pos 0) size ≡ true → le_z (start +ℤ size) (pos limit) ≡ true

@@ -12,29 +12,20 @@ use rect::Rect;
 use scene::layout::DRAW_BYTES;
 
 // Every rule of a proposal, on a surface of that size.
+#[tactic(auto, unfolding(crate::specs::Proposals::acceptable))]
 pub fn accept(rectangles: &[i32], old: &[u8], new: &[u8], width: usize, height: usize) -> bool
     requires accepted_scene { AcceptedScene old.now × AcceptedScene new.now }
     requires width_bound { (width ≤ 1024) × (height ≤ 1024) }
     ensures { result ≡ acceptable width height (to_cover width height old.now new.now) rectangles.now }
 {
     let len = rectangles.len();
-    if len % 4 != 0 {
-        return false;
-    }
-    if len < 4 {
-        return false;
-    }
-    if 16 < len {
-        return false;
-    }
     let n = len / 4;
-    if !all_lie(rectangles, n, width, height) {
-        return false;
-    }
-    if !all_apart(rectangles, n) {
-        return false;
-    }
-    changes_covered(rectangles, old, new, width, height)
+    len % 4 == 0
+        && 4 <= len
+        && len <= 16
+        && all_lie(rectangles, n, width, height)
+        && all_apart(rectangles, n)
+        && changes_covered(rectangles, old, new, width, height)
 }
 
 // Whether they cover what the change asks for: the boxes of the changed draws, or the surface.
@@ -62,12 +53,10 @@ fn draws_covered(rectangles: &[i32], old: &[u8], new: &[u8], width: usize, heigh
     ensures { result ≡ each (covers (proposed rectangles.now)) (changed_boxes width height old.now new.now) }
 {
     let n = damage::most_draws(old, new);
-    let mut i = 0;
-    while i < n {
+    for i in 0..n {
         if !draw_covered(rectangles, old, new, i, width, height) {
             return false;
         }
-        i += 1;
     }
     true
 }
@@ -89,10 +78,8 @@ fn draw_covered(
         return true;
     }
     let n = rectangles.len() / 4;
-    if !box_covered(rectangles, n, box_of(old, i, width, height)) {
-        return false;
-    }
-    box_covered(rectangles, n, box_of(new, i, width, height))
+    box_covered(rectangles, n, box_of(old, i, width, height))
+        && box_covered(rectangles, n, box_of(new, i, width, height))
 }
 
 // The box of draw i, if the scene has it.
@@ -103,12 +90,7 @@ pub fn box_of(s: &[u8], i: usize, width: usize, height: usize) -> Rect
 {
     let n = scene::header::count(s);
     if n <= i {
-        return Rect {
-            x0: 0,
-            y0: 0,
-            x1: 0,
-            y1: 0,
-        };
+        return Rect::EMPTY;
     }
     let mut d = [0u8; DRAW_BYTES];
     scene::blocks::read_draw(s, i, &mut d);

@@ -9,19 +9,11 @@ ghost use Rattle.regions.specs.Runs.{in_one, column_covered};
 use crate::proposal::rect_at;
 use rect::Rect;
 
+#[tactic(auto, unfolding(rect::specs::Rects::inside))]
 fn holds(a: Rect, x: usize, y: usize) -> bool
     ensures { result ≡ inside a x y }
 {
-    if x < a.x0 {
-        return false;
-    }
-    if a.x1 <= x {
-        return false;
-    }
-    if y < a.y0 {
-        return false;
-    }
-    y < a.y1
+    a.x0 <= x && x < a.x1 && a.y0 <= y && y < a.y1
 }
 
 // Whether the pixel (x, y) is in one of the first n.
@@ -29,12 +21,10 @@ fn in_one(s: &[i32], n: usize, x: usize, y: usize) -> bool
     requires { n * 4 ≤ length s.now }
     ensures { result ≡ in_one n (proposed_at s.now) x y }
 {
-    let mut k = 0;
-    while k < n {
+    for k in 0..n {
         if holds(rect_at(s, k), x, y) {
             return true;
         }
-        k += 1;
     }
     false
 }
@@ -44,13 +34,7 @@ fn row_passes(s: &[i32], n: usize, x: usize, y: usize, y0: usize, y1: usize) -> 
     requires { n * 4 ≤ length s.now }
     ensures { result ≡ cond (leb y0 y && ltb y y1) (in_one n (proposed_at s.now) x y) true }
 {
-    if y < y0 {
-        return true;
-    }
-    if y1 <= y {
-        return true;
-    }
-    in_one(s, n, x, y)
+    y < y0 || y1 <= y || in_one(s, n, x, y)
 }
 
 // Whether they cover column x of the rows y0 up to y1. What is covered can end only where one of them ends, so y0 and the rows where
@@ -62,13 +46,11 @@ fn column(s: &[i32], n: usize, y0: usize, y1: usize, x: usize) -> bool
     if !row_passes(s, n, x, y0, y0, y1) {
         return false;
     }
-    let mut k = 0;
-    while k < n {
+    for k in 0..n {
         let e = rect_at(s, k);
         if !row_passes(s, n, x, e.y1, y0, y1) {
             return false;
         }
-        k += 1;
     }
     true
 }
@@ -78,13 +60,7 @@ fn column_passes(s: &[i32], n: usize, b: Rect, x: usize) -> bool
     requires { n * 4 ≤ length s.now }
     ensures { result ≡ cond (leb b.x0 x && ltb x b.x1) (column_covered s.now n b.y0 b.y1 x) true }
 {
-    if x < b.x0 {
-        return true;
-    }
-    if b.x1 <= x {
-        return true;
-    }
-    column(s, n, b.y0, b.y1, x)
+    x < b.x0 || b.x1 <= x || column(s, n, b.y0, b.y1, x)
 }
 
 // Whether each pixel of b is in one of the first n.
@@ -95,13 +71,11 @@ pub fn box_covered(s: &[i32], n: usize, b: Rect) -> bool
     if !column_passes(s, n, b, b.x0) {
         return false;
     }
-    let mut k = 0;
-    while k < n {
+    for k in 0..n {
         let e = rect_at(s, k);
         if !column_passes(s, n, b, e.x1) {
             return false;
         }
-        k += 1;
     }
     true
 }
@@ -110,7 +84,7 @@ pub fn box_covered(s: &[i32], n: usize, b: Rect) -> bool
 fn are_apart(a: Rect, b: Rect) -> bool
     ensures { result ≡ apart a b }
 {
-    rect::is_empty(rect::meet(a, b))
+    a.meet(b).is_empty()
 }
 
 // Whether no rectangle before the ith shares a pixel with it.
@@ -119,12 +93,10 @@ fn apart_before(s: &[i32], i: usize) -> bool
     ensures { result ≡ every i (λ j. apart (proposed_at s.now i) (proposed_at s.now j)) }
 {
     let a = rect_at(s, i);
-    let mut j = 0;
-    while j < i {
+    for j in 0..i {
         if !are_apart(a, rect_at(s, j)) {
             return false;
         }
-        j += 1;
     }
     true
 }
@@ -134,12 +106,10 @@ pub fn all_apart(s: &[i32], n: usize) -> bool
     requires { n * 4 ≤ length s.now }
     ensures { result ≡ all_apart n (proposed_at s.now) }
 {
-    let mut i = 0;
-    while i < n {
+    for i in 0..n {
         if !apart_before(s, i) {
             return false;
         }
-        i += 1;
     }
     true
 }

@@ -31,11 +31,9 @@ pub fn paint_regions(
 {
     let n = rectangles.len() / 4;
     let count = scene::header::count(scene);
-    let mut k = 0;
-    while k < n {
+    for k in 0..n {
         let a = rect_at(rectangles, k);
         engine::draws::paint_area(surface, scratch, scene, mask, width, height, count, a);
-        k += 1;
     }
 }
 
@@ -45,16 +43,9 @@ pub fn round(rectangles: &[i32]) -> Rect
     ensures { (result ≡ round_of rectangles.now) × On 1024 1024 result }
 {
     let n = rectangles.len() / 4;
-    let mut a = Rect {
-        x0: 0,
-        y0: 0,
-        x1: 0,
-        y1: 0,
-    };
-    let mut k = 0;
-    while k < n {
-        a = rect::join(a, rect_at(rectangles, k));
-        k += 1;
+    let mut a = Rect::EMPTY;
+    for k in 0..n {
+        a = a.join(rect_at(rectangles, k));
     }
     a
 }

@@ -9,10 +9,7 @@ use rect::Rect;
 pub fn size(z: i32) -> usize
     ensures { (result ≡ nat_abs z) × (result ≤ 2 ^ 31) }
 {
-    if z < 0 {
-        return (-1 - z) as usize + 1;
-    }
-    z as usize
+    z.unsigned_abs() as usize
 }
 
 // Rectangle k.
@@ -38,25 +35,17 @@ fn run_lies(start: i32, size: i32, limit: usize) -> bool
     requires { limit ≤ 1024 }
     ensures { result ≡ lies start size limit }
 {
-    if 0 <= start {
-        if 0 < size {
-            return (start as i64) + (size as i64) <= (limit as i64);
-        }
-        return false;
-    }
-    false
+    0 <= start && 0 < size && (start as i64) + (size as i64) <= (limit as i64)
 }
 
 // Whether rectangle k lies in a surface of w by h pixels.
+#[tactic(auto, unfolding(crate::specs::Proposals::lies_in))]
 fn lies_in(s: &[i32], k: usize, w: usize, h: usize) -> bool
     requires { (k * 4 + 3 < length s.now) × (w ≤ 1024) × (h ≤ 1024) }
     ensures { result ≡ lies_in w h s.now k }
 {
     let at = k * 4;
-    if run_lies(s[at], s[at + 2], w) {
-        return run_lies(s[at + 1], s[at + 3], h);
-    }
-    false
+    run_lies(s[at], s[at + 2], w) && run_lies(s[at + 1], s[at + 3], h)
 }
 
 // Whether each of the first n does.
@@ -64,12 +53,10 @@ pub fn all_lie(s: &[i32], n: usize, w: usize, h: usize) -> bool
     requires { (n * 4 ≤ length s.now) × (w ≤ 1024) × (h ≤ 1024) }
     ensures { result ≡ every n (lies_in w h s.now) }
 {
-    let mut k = 0;
-    while k < n {
+    for k in 0..n {
         if !lies_in(s, k, w, h) {
             return false;
         }
-        k += 1;
     }
     true
 }

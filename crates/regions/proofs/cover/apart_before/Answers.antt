@@ -5,7 +5,6 @@ use Rattle.rect.specs.declared.Rect.{Rect}
 use Rattle.regions.specs.Pixels.{every, apart}
 use Rattle.regions.specs.Proposals.{proposed_at}
 use Rattle.regions.proofs.Every.{every_turn, every_no, of_not, of_not_no}
-use borrow.Author.Rules.{rules}
 use Rattle.regions.proofs.cover.apart_before.Goals as goal
 
 pub returns-then-not-are_apart : goal.returns-then-not-are_apart
@@ -20,11 +19,9 @@ pub loop-j-preserved : goal.loop-j-preserved
 loop-j-preserved c =
     let l = c.loop-j in
     let a = c.args in
-    let r = c.rect_at-a in (
-      search rules,
-      every_turn (λ k. apart r.result (proposed_at a.s.now k)) l.j l.invariant.1
-          (ap (apart r.result) (sym c.rect_at.ensures) ∙ sym c.are_apart.ensures ∙ of_not_no _ c.if-not-are_apart.false-raw),
-    )
+    let r = c.rect_at-a in
+    every_turn (λ k. apart r.result (proposed_at a.s.now k)) l.j l.invariant
+    (ap (apart r.result) (sym c.rect_at.ensures) ∙ sym c.are_apart.ensures ∙ of_not_no _ c.if-not-are_apart.false-raw)
 
 pub returns : goal.returns
 returns c =
@@ -32,5 +29,5 @@ returns c =
     let a = c.args in
     let r = c.rect_at-a in
     let e : l.j ≡ a.i = omega arith in
-    let h : every a.i (λ k. apart r.result (proposed_at a.s.now k)) ≡ true = rw e at l.invariant.1 in
+    let h : every a.i (λ k. apart r.result (proposed_at a.s.now k)) ≡ true = rw e at l.invariant in
     sym (ap (λ (q : Rect). every a.i (λ k. apart q (proposed_at a.s.now k))) (sym r.ensures) ∙ h)

@@ -5,7 +5,6 @@ use Rattle.rect.specs.Rects.{inside}
 use Rattle.regions.specs.Proposals.{proposed_at}
 use Rattle.regions.specs.Runs.{in_one}
 use Rattle.regions.proofs.Every.{some_yes, some_turn}
-use borrow.Author.Rules.{rules}
 use Rattle.regions.proofs.cover.in_one.Goals as goal
 
 pub returns-then-holds : goal.returns-then-holds
@@ -19,11 +18,9 @@ returns-then-holds c =
 pub loop-k-preserved : goal.loop-k-preserved
 loop-k-preserved c =
     let l = c.loop-k in
-    let a = c.args in (
-      search rules,
-      some_turn (λ i. inside (proposed_at a.s.now i) a.x a.y) l.k l.invariant.1
-          (ap (λ (r : Rect). inside r a.x a.y) (sym c.rect_at.ensures) ∙ sym c.holds.ensures ∙ c.if-holds.false),
-    )
+    let a = c.args in
+    some_turn (λ i. inside (proposed_at a.s.now i) a.x a.y) l.k l.invariant
+    (ap (λ (r : Rect). inside r a.x a.y) (sym c.rect_at.ensures) ∙ sym c.holds.ensures ∙ c.if-holds.false)
 
 pub returns : goal.returns
 unfolding in_one
@@ -31,4 +28,4 @@ returns c =
     let l = c.loop-k in
     let a = c.args in
     let e : l.k ≡ a.n = omega arith in
-    sym (rw e at l.invariant.1)
+    sym (rw e at l.invariant)

@@ -1,5 +1,4 @@
 use mathlib.Core.Path.{◌≡◌}
-use Prim.Native.Nat.{◌-◌, ◌≤◌}
 use lib.ListN.{length}
 use Rattle.lists.specs.Lists.{tab}
 use Rattle.engine.specs.Picture.{pixel_at, mask_at}
@@ -9,8 +8,5 @@ use Rattle.regions.proofs.painting.paint_regions.Given as goal
 
 abbrev pub invariant-loop-k : goal.invariant-loop-k
 invariant-loop-k l =
-    (l.k ≤ l.n) × (length l.surface ≡ length l.initial.surface) × (l.scratch ≡ l.initial.scratch)
+    (length l.surface ≡ length l.initial.surface) × (l.scratch ≡ l.initial.scratch)
     × (l.surface ≡ overlays l.width l.height (tab l.k (proposed_at l.rectangles)) (pixel_at l.scene (mask_at l.width l.mask)) l.initial.surface)
-
-abbrev pub decreases-loop-k : goal.decreases-loop-k
-decreases-loop-k l = l.n - l.k

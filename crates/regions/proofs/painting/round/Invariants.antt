@@ -1,12 +1,8 @@
 use mathlib.Core.Path.{◌≡◌}
-use Prim.Native.Nat.{◌-◌, ◌≤◌}
 use Rattle.lists.specs.Lists.{tab}
 use Rattle.rect.specs.Rects.{On, smallest}
 use Rattle.regions.specs.Proposals.{proposed_at}
 use Rattle.regions.proofs.painting.round.Given as goal
 
 abbrev pub invariant-loop-k : goal.invariant-loop-k
-invariant-loop-k l = (l.k ≤ l.n) × (l.a ≡ smallest (tab l.k (proposed_at l.rectangles))) × On 1024 1024 l.a
-
-abbrev pub decreases-loop-k : goal.decreases-loop-k
-decreases-loop-k l = l.n - l.k
+invariant-loop-k l = (l.a ≡ smallest (tab l.k (proposed_at l.rectangles))) × On 1024 1024 l.a
