@@ -2,7 +2,6 @@ pub mod Parts
 pub mod Tiling
 pub mod Lines
 pub mod Searches
-pub mod Puts
 pub mod Splits
 pub mod Numbers
 pub mod Collected

@@ -5,7 +5,6 @@ use mathlib.Core.Bool.{Bool, true, false, not, ◌&&◌, true≢false}
 use mathlib.Core.Logic.{⊎_elim}
 use Prim.Native.Nat.{ℕ, zero, suc, ◌+◌, ◌-◌, ◌≤◌, ◌<◌}
 use native.Mathlib.Nat.{eq-or-lt_of_le, le_of_suc-le-suc, not-suc-le-zero}
-use native.Mathlib.Numerals.{add-one}
 use native.Mathlib.Omega.{arith}
 use lib.Dec.{leb, ltb}
 use borrow.Author.Tests.{ltb-true, leb-true, le-leb, lt-ltb, not-true}
@@ -56,9 +55,6 @@ module _ (upright : Bool) (boxes : ℕ → Rect) (c : ℕ) where
   free_yes : (m : ℕ) → ((k : ℕ) → k < m → touches upright (boxes k) c ≡ false) → free upright m boxes c ≡ true
   free_yes zero h = refl
   free_yes (suc m) h = rw (free_yes m (λ k l. h k (omega arith)), h m (omega arith))
-
-  pub free_turn : (m : ℕ) → free upright m boxes c ≡ true → touches upright (boxes m) c ≡ false → free upright (m + 1) boxes c ≡ true
-  free_turn m h e = rw (add-one, h, e)
 
   pub free_no : (m k : ℕ) → k < m → touches upright (boxes k) c ≡ true → free upright m boxes c ≡ false
   free_no m k l e = not_true_is (free upright m boxes c) (λ h. true≢false (sym e ∙ free_at m h k l))

@@ -1,24 +1,22 @@
 -- The two parts of a rectangle that is cut at a line: they lie in it and share no pixel, and what the boxes have of it is in one of them.
-use mathlib.Core.Path.{◌≡◌, refl, ◌∙◌}
+use mathlib.Core.Path.{refl}
 use mathlib.Core.Bool.{Bool, true, false}
 use mathlib.Core.List.Memᴰ
-use mathlib.Core.List.{[], ◌∷◌, foldl-append, Memᴰ}
-use Prim.Native.Nat.{ℕ, ◌+◌, ◌≤◌, ◌<◌}
-use native.Mathlib.Numerals.{add-one}
+use mathlib.Core.List.{[], ◌∷◌, Memᴰ}
+use Prim.Native.Nat.{ℕ, ◌*◌, ◌≤◌, ◌<◌}
+use native.Mathlib.Nat.{mul-le-mul}
 use native.Mathlib.Omega.{arith}
 use lib.Dec.{ltb}
 use borrow.Author.Tests.{ltb-true, ltb-false}
 use Rattle.lists.specs.Lists.{tab}
 use Rattle.rect.specs.declared.Rect.{Rect}
-use Rattle.rect.specs.Rects.{Inside, Holds, meet_of, join_of, smallest}
+use Rattle.rect.specs.Rects.{Inside, Holds, meet_of, smallest}
 use Rattle.rect.proofs.Laws.{either, meet_in, meet_left, meet_right, smallest_holds, smallest_least}
 use Rattle.damage.proofs.Members.{upto_has, upto_cases}
 use Rattle.regions.specs.Planned.{along}
 use Rattle.planner.specs.Cuts.{before, beyond, shrunk}
 
 -- ---- the smallest rectangle round m of them
-pub smallest_turn : (f : ℕ → Rect) (k : ℕ) (a b : Rect) → a ≡ smallest (tab k f) → b ≡ join_of a (f k) → b ≡ smallest (tab (k + 1) f)
-smallest_turn f k a b e g = g ∙ rw (add-one, foldl-append, e)
 
 pub round_each : (m : ℕ) (f : ℕ → Rect) (k : ℕ) → k < m → Holds (smallest (tab m f)) (f k)
 round_each m f k l = smallest_holds (tab m f) (f k) (upto_has m (λ i. f i ∷ []) (f k) k l (Memᴰ.head refl))
@@ -99,3 +97,7 @@ module _ (m : ℕ) (boxes : ℕ → Rect) (a : Rect) (upright : Bool) (c : ℕ) 
       → (Inside (shrunk m boxes (beyond upright a c)) x y → C) → C
   one_part k x y l i j f g =
       one_half a c upright x y j (λ q. f (shrunk_has m boxes (before upright a c) k x y l i q)) (λ q. g (shrunk_has m boxes (beyond upright a c) k x y l i q))
+
+-- ---- two sides of at most 1,024
+pub square : (m n : ℕ) → m ≤ 1024 → n ≤ 1024 → m * n ≤ 1048576
+square m n h k = mul-le-mul h k

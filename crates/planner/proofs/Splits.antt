@@ -1,23 +1,23 @@
 -- The rectangles of a run after a cut, and what they keep to from the first to the last.
-use mathlib.Core.Path.{◌≡◌, sym, ap, ◌∙◌}
+use mathlib.Core.Path.{◌≡◌, refl, sym, ◌∙◌}
 use mathlib.Core.List.{List}
 use mathlib.Core.Bool.{Bool, true, false}
-use Prim.Native.Nat.{ℕ, ◌+◌, ◌*◌, ◌<◌}
+use Prim.Native.Nat.{ℕ, ◌+◌, ◌<◌}
 use native.Mathlib.Omega.{arith}
-use lib.ListN.{length}
+use lib.ListN.{length, set, length-set}
+use lib.Seq.{get_or-set_same, get_or-set_other}
+use Rattle.std.specs.Prelude.{None, Some}
 use Rattle.lists.specs.Lists.{tab}
 use Rattle.rect.specs.declared.Rect.{Rect}
-use Rattle.rect.specs.Rects.{empty_of, smallest}
+use Rattle.rect.specs.Rects.{none, empty_of, smallest}
 use Rattle.rect.proofs.Laws.{either, neither, not_empty, Wide}
 use Rattle.planner.specs.Runs.{rect_at}
 use Rattle.planner.specs.declared.cuts.Cut.{Cut}
-use Rattle.planner.specs.Runs.{put}
 use Rattle.planner.specs.Cuts.{before, beyond, shrunk, opens, one_empty, split_run, split_count}
 use Rattle.planner.specs.Tilings.{Tiling, Spared, Divided, Refined, Opening}
 use Rattle.planner.proofs.Parts.{round_each}
 use Rattle.planner.proofs.Tiling.{last_or, cut_tiling, cut_spares}
 use Rattle.planner.proofs.Lines.{first_there, second_there, first_spared, second_spared}
-use Rattle.planner.proofs.Puts.{put_length, put_same, put_other}
 
 -- ---- one cut more
 module _ (m : ℕ) (boxes : ℕ → Rect) where
@@ -32,59 +32,27 @@ module _ (m : ℕ) (boxes : ℕ → Rect) where
         spared = λ upright c s. q.spared upright c (p.spared upright c s);
       }
 
-module _ (m : ℕ) (boxes : ℕ → Rect) (rs : List ℕ) (n i : ℕ) (upright : Bool) (c : ℕ) where
+module _ (m : ℕ) (boxes : ℕ → Rect) (rs : List Rect) (n i : ℕ) (upright : Bool) (c : ℕ) where
   abbrev first : Rect
   first = shrunk m boxes (before upright (rect_at rs i) c)
 
   abbrev second : Rect
   second = shrunk m boxes (beyond upright (rect_at rs i) c)
 
-  -- what `split` answers and leaves, by what it found
-  abbrev Left : ℕ → List ℕ → Type 0
-  Left k ts = (k ≡ split_count m boxes rs n i upright c) × (ts ≡ split_run m boxes rs n i upright c)
+  module _ (is : i < n) (fits : n < length rs) where
+    first_put : rect_at (set (set rs i first) n second) i ≡ first
+    first_put = get_or-set_other (set rs i first) n i second none (λ q. omega (arith, q, is)) ∙ get_or-set_same rs i first none (omega arith)
 
-  module _ (a l r : Rect) (is : a ≡ rect_at rs i) (ls : l ≡ shrunk m boxes (before upright a c)) (rs-is : r ≡ shrunk m boxes (beyond upright a c)) where
-    l_first : l ≡ first
-    l_first = ls ∙ ap (λ (b : Rect). shrunk m boxes (before upright b c)) is
+    second_put : rect_at (set (set rs i first) n second) n ≡ second
+    second_put = get_or-set_same (set rs i first) n second none (simp length-set fits)
 
-    r_second : r ≡ second
-    r_second = rs-is ∙ ap (λ (b : Rect). shrunk m boxes (beyond upright b c)) is
-
-    pub first_missing : empty_of l ≡ true → Left n rs
-    unfolding split_run split_count
-    first_missing g =
-        let h : empty_of first ≡ true = ap empty_of (sym l_first) ∙ g in
-        (rw h, rw h)
-
-    pub second_missing : empty_of l ≡ false → empty_of r ≡ true → Left n rs
-    unfolding split_run split_count
-    second_missing f g =
-        let h : empty_of first ≡ false = ap empty_of (sym l_first) ∙ f in
-        let q : empty_of second ≡ true = ap empty_of (sym r_second) ∙ g in
-        (rw (h, q), rw (h, q))
-
-    pub none_missing : (ss ts : List ℕ) → empty_of l ≡ false → empty_of r ≡ false → ss ≡ put rs i l → ts ≡ put ss n r → Left (n + 1) ts
-    unfolding split_run split_count
-    none_missing ss ts f g u v =
-        let h : empty_of first ≡ false = ap empty_of (sym l_first) ∙ f in
-        let q : empty_of second ≡ false = ap empty_of (sym r_second) ∙ g in
-        let w : ts ≡ put (put rs i first) n second = v ∙ rw (u, l_first, r_second) in
-        (rw (h, q), rw (h, q) w)
-
-  module _ (is : i < n) (fits : n * 4 + 3 < length rs) where
-    first_put : rect_at (put (put rs i first) n second) i ≡ first
-    first_put = put_other (put rs i first) n i second (λ q. omega (arith, q, is)) ∙ put_same rs i first (omega arith)
-
-    second_put : rect_at (put (put rs i first) n second) n ≡ second
-    second_put = put_same (put rs i first) n second (rw (put_length rs i first) fits)
-
-    others_kept : (k : ℕ) → k < n → (k ≡ i → ⊥) → rect_at (put (put rs i first) n second) k ≡ rect_at rs k
-    others_kept k l e = put_other (put rs i first) n k second (λ q. omega (arith, q, l)) ∙ put_other rs i k first e
+    others_kept : (k : ℕ) → k < n → (k ≡ i → ⊥) → rect_at (set (set rs i first) n second) k ≡ rect_at rs k
+    others_kept k l e = get_or-set_other (set rs i first) n k second none (λ q. omega (arith, q, l)) ∙ get_or-set_other rs i k first none e
 
     split_parts : empty_of first ≡ false → empty_of second ≡ false → n < 4
-        → Refined m boxes n (rect_at rs) (n + 1) (rect_at (put (put rs i first) n second))
+        → Refined m boxes n (rect_at rs) (n + 1) (rect_at (set (set rs i first) n second))
     split_parts e f few =
-        let ts = rect_at (put (put rs i first) n second) in
+        let ts = rect_at (set (set rs i first) n second) in
         let w : Wide (ts i) = rw first_put (not_empty first e) in
         let v : Wide (ts n) = rw second_put (not_empty second f) in
         record {
@@ -94,7 +62,7 @@ module _ (m : ℕ) (boxes : ℕ → Rect) (rs : List ℕ) (n i : ℕ) (upright :
         }
 
     -- what `split` leaves
-    pub split_refined : (k : ℕ) (ts : List ℕ) → n < 4 → k ≡ split_count m boxes rs n i upright c → ts ≡ split_run m boxes rs n i upright c
+    pub split_refined : (k : ℕ) (ts : List Rect) → n < 4 → k ≡ split_count m boxes rs n i upright c → ts ≡ split_run m boxes rs n i upright c
         → Refined m boxes n (rect_at rs) k (rect_at ts)
     unfolding split_run split_count
     split_refined k ts few e f =
@@ -122,19 +90,19 @@ module _ (m : ℕ) (boxes : ℕ → Rect) (area : Rect) (is : area ≡ smallest 
       only : (k : ℕ) → k < 1 → k ≡ 0
       only k l = omega arith
 
-  pub area_put : (rs ts : List ℕ) → length rs ≡ 16 → ts ≡ put rs 0 area → (rect_at ts 0 ≡ area) × (7 < length ts)
-  area_put rs ts e f = (rw f (put_same rs 0 area (omega arith)), rw (f, put_length rs 0 area, e) (omega arith))
+  pub area_put : (rs ts : List Rect) → length rs ≡ 4 → ts ≡ set rs 0 area → (rect_at ts 0 ≡ area) × (1 < length ts)
+  area_put rs ts e f = (rw f (get_or-set_same rs 0 area none (omega arith)), rw (f, length-set, e) (omega arith))
 
-  module _ (rs : List ℕ) (e : rect_at rs 0 ≡ area) where
+  module _ (rs : List Rect) (e : rect_at rs 0 ≡ area) where
     -- where no line is free
-    pub start_one : (cut : Cut) → Opening m boxes area cut → cut.found ≡ false → Divided m boxes area 1 (rect_at rs)
-    start_one cut o f =
-        record { tiling = one_tiling (rect_at rs) e; sparing = λ upright c h. absurd (o.no f upright c h) }
+    pub start_one : Opening m boxes area None → Divided m boxes area 1 (rect_at rs)
+    start_one o =
+        record { tiling = one_tiling (rect_at rs) e; sparing = λ upright c h. absurd (o.no refl upright c h) }
 
     -- where one is
-    module _ (cut : Cut) (o : Opening m boxes area cut) (f : cut.found ≡ true) (fits : 7 < length rs) where
+    module _ (cut : Cut) (o : Opening m boxes area (Some cut)) (fits : 1 < length rs) where
       open_line : opens m boxes area cut.upright cut.at ≡ true
-      open_line = o.yes f
+      open_line = o.yes
 
       both_there : one_empty m boxes (rect_at rs 0) cut.upright cut.at ≡ false
       both_there =
@@ -145,7 +113,7 @@ module _ (m : ℕ) (boxes : ℕ → Rect) (area : Rect) (is : area ≡ smallest 
           )
 
       spared_both :
-          Spared 2 (rect_at (put (put rs 0 (first m boxes rs 1 0 cut.upright cut.at)) 1 (second m boxes rs 1 0 cut.upright cut.at)))
+          Spared 2 (rect_at (set (set rs 0 (first m boxes rs 1 0 cut.upright cut.at)) 1 (second m boxes rs 1 0 cut.upright cut.at)))
           cut.upright cut.at
       spared_both k x y l q h =
           last_or k 1 l
@@ -157,7 +125,7 @@ module _ (m : ℕ) (boxes : ℕ → Rect) (area : Rect) (is : area ≡ smallest 
           first_spared m boxes area is wide cut.upright cut.at open_line x y q
           (rw (first_put m boxes rs 1 0 cut.upright cut.at (omega arith) fits, e) at (rw z at h)))
 
-      pub start_two : (k : ℕ) (ts : List ℕ) → k ≡ split_count m boxes rs 1 0 cut.upright cut.at
+      pub start_two : (k : ℕ) (ts : List Rect) → k ≡ split_count m boxes rs 1 0 cut.upright cut.at
           → ts ≡ split_run m boxes rs 1 0 cut.upright cut.at → Divided m boxes area k (rect_at ts)
       unfolding split_run split_count
       start_two k ts g h =

@@ -1,18 +1,14 @@
 -- For the planner's own functions; a reviewer of the paper need not read it.
--- Rectangles in a run of numbers, four to each: x0, y0, x1, y1.
-use Rattle.std.specs.Prelude.{ℕ, ◌+◌, ◌*◌, ◌-◌, ◌<◌, List, [], ◌∷◌, get_or, set, ℤ, pos}
+-- Rectangles one after the other, and as a proposal has them, four numbers to each.
+use Rattle.std.specs.Prelude.{ℕ, ◌+◌, ◌-◌, ◌<◌, List, [], ◌∷◌, get_or, set, ℤ, pos}
 use Rattle.lists.specs.Lists.{upto}
 use Rattle.rect.specs.declared.Rect.{Rect}
-use Rattle.rect.specs.Rects.{On}
+use Rattle.rect.specs.Rects.{On, none}
 
-abbrev pub rect_at : List ℕ → ℕ → Rect
-rect_at l k = record { x0 = get_or l (k * 4) 0; y0 = get_or l (k * 4 + 1) 0; x1 = get_or l (k * 4 + 2) 0; y1 = get_or l (k * 4 + 3) 0 }
+abbrev pub rect_at : List Rect → ℕ → Rect
+rect_at l k = get_or l k none
 
--- the run with a as its rectangle k
-unfoldable pub put : List ℕ → ℕ → Rect → List ℕ
-put l k a = set (set (set (set l (k * 4) a.x0) (k * 4 + 1) a.y0) (k * 4 + 2) a.x1) (k * 4 + 3) a.y1
-
--- rectangles as a proposal has them: x, y, width, height for each
+-- x, y, width, height for each
 abbrev pub four_of : Rect → List ℤ
 four_of a = pos a.x0 ∷ pos a.y0 ∷ pos (a.x1 - a.x0) ∷ pos (a.y1 - a.y0) ∷ []
 

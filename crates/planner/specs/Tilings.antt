@@ -1,6 +1,6 @@
 -- For the planner's own functions; a reviewer of the paper need not read it.
 -- Rectangles planned for m boxes.
-use Rattle.std.specs.Prelude.{ℕ, ◌+◌, ◌≤◌, ◌<◌, ◌≡◌, Bool, true, false}
+use Rattle.std.specs.Prelude.{ℕ, ◌+◌, ◌≤◌, ◌<◌, ◌≡◌, Bool, true, false, Option, None, IfSome}
 use Rattle.rect.specs.declared.Rect.{Rect}
 use Rattle.rect.specs.Rects.{Inside, Holds}
 use Rattle.planner.specs.declared.cuts.Cut.{Cut}
@@ -38,16 +38,16 @@ pub record Refined (m : ℕ) (boxes : ℕ → Rect) (n : ℕ) (rs : ℕ → Rect
   pub spared : (upright : Bool) (c : ℕ) → Spared n rs upright c → Spared more ts upright c
 
 -- what the search of the first k boxes' ends for a free line of the area finds
-pub record Searched (m : ℕ) (boxes : ℕ → Rect) (area : Rect) (upright : Bool) (k : ℕ) (r : Cut) : Type 0 where
-  pub yes : r.found ≡ true → (r.upright ≡ upright) × (opens m boxes area upright r.at ≡ true)
-  pub no : r.found ≡ false → (i : ℕ) → i < k → opens m boxes area upright (past upright (boxes i)) ≡ false
+pub record Searched (m : ℕ) (boxes : ℕ → Rect) (area : Rect) (upright : Bool) (k : ℕ) (r : Option Cut) : Type 0 where
+  pub yes : IfSome r (λ c. (c.upright ≡ upright) × (opens m boxes area upright c.at ≡ true))
+  pub no : r ≡ None → (i : ℕ) → i < k → opens m boxes area upright (past upright (boxes i)) ≡ false
 
 -- one more end, at
-abbrev pub Tried : ℕ → (ℕ → Rect) → Rect → Bool → ℕ → Cut → Cut → Type 0
+abbrev pub Tried : ℕ → (ℕ → Rect) → Rect → Bool → ℕ → Option Cut → Option Cut → Type 0
 Tried m boxes area upright at best r =
     (k : ℕ) → at ≡ past upright (boxes k) → Searched m boxes area upright k best → Searched m boxes area upright (k + 1) r
 
 -- a free line of the area, or the word that there is none
-pub record Opening (m : ℕ) (boxes : ℕ → Rect) (area : Rect) (r : Cut) : Type 0 where
-  pub yes : r.found ≡ true → opens m boxes area r.upright r.at ≡ true
-  pub no : r.found ≡ false → (upright : Bool) (c : ℕ) → opens m boxes area upright c ≡ true → ⊥
+pub record Opening (m : ℕ) (boxes : ℕ → Rect) (area : Rect) (r : Option Cut) : Type 0 where
+  pub yes : IfSome r (λ c. opens m boxes area c.upright c.at ≡ true)
+  pub no : r ≡ None → (upright : Bool) (c : ℕ) → opens m boxes area upright c ≡ true → ⊥

@@ -1,4 +1,4 @@
-// What a proposal has to cover, in a run of numbers: the boxes, old and new, of the changed draws, or the surface.
+// What a proposal has to cover: the boxes, old and new, of the changed draws, or the surface.
 ghost use Rattle.std.specs.Prelude.{◌≡◌, ◌++◌, ◌+◌, ◌≤◌, length};
 ghost use Rattle.lists.specs.Lists.{tab};
 ghost use Rattle.scene.specs.Accepted.{AcceptedScene};
@@ -6,50 +6,40 @@ ghost use Rattle.damage.specs.Damage.{boxes_at, changed_boxes};
 ghost use Rattle.regions.specs.Proposals.{to_cover};
 ghost use Rattle.planner.specs.Runs.{rect_at};
 
-use crate::rectangles::put_rect;
 use rect::Rect;
 use regions::accept::box_of;
 
-// Two boxes for each draw, four numbers for each box.
-pub const BOX_NUMBERS: usize = 512;
+// Two for each draw.
+pub const BOXES: usize = 128;
 
 // Collects what a proposal for the change from one accepted scene to another has to cover; how many.
-pub fn collect(old: &[u8], new: &[u8], boxes: &mut [usize], width: usize, height: usize) -> usize
+pub fn collect(old: &[u8], new: &[u8], boxes: &mut [Rect], width: usize, height: usize) -> usize
     requires accepted_scene { AcceptedScene old.now × AcceptedScene new.now }
-    requires width_bound { ((width ≤ 1024) × (height ≤ 1024)) × (length boxes.old ≡ 512) }
+    requires width_bound { ((width ≤ 1024) × (height ≤ 1024)) × (length boxes.old ≡ 128) }
     ensures { (result ≤ 128) × (tab result (rect_at boxes.new) ≡ to_cover width height old.now new.now) }
 {
     if damage::same_background(old, new) {
         return collect_changes(old, new, boxes, width, height);
     }
-    let a = Rect {
+    boxes[0] = Rect {
         x0: 0,
         y0: 0,
         x1: width,
         y1: height,
     };
-    put_rect(boxes, 0, a);
     1
 }
 
 // The boxes of every changed draw.
-fn collect_changes(
-    old: &[u8],
-    new: &[u8],
-    boxes: &mut [usize],
-    width: usize,
-    height: usize,
-) -> usize
+fn collect_changes(old: &[u8], new: &[u8], boxes: &mut [Rect], width: usize, height: usize) -> usize
     requires accepted_scene { AcceptedScene old.now × AcceptedScene new.now }
-    requires width_bound { ((width ≤ 1024) × (height ≤ 1024)) × (length boxes.old ≡ 512) }
+    requires width_bound { ((width ≤ 1024) × (height ≤ 1024)) × (length boxes.old ≡ 128) }
     ensures { (result ≤ 128) × (tab result (rect_at boxes.new) ≡ changed_boxes width height old.now new.now) }
 {
     let n = damage::most_draws(old, new);
     let mut m = 0;
-    let mut i = 0;
-    while i < n {
+    for i in 0..n {
         m = add_boxes(old, new, i, boxes, m, width, height);
-        i += 1;
     }
     m
 }
@@ -59,13 +49,13 @@ fn add_boxes(
     old: &[u8],
     new: &[u8],
     i: usize,
-    boxes: &mut [usize],
+    boxes: &mut [Rect],
     m: usize,
     width: usize,
     height: usize,
 ) -> usize
     requires accepted_scene { AcceptedScene old.now × AcceptedScene new.now }
-    requires width_bound { ((width ≤ 1024) × (height ≤ 1024)) × ((length boxes.old ≡ 512) × (m ≤ 126)) }
+    requires width_bound { ((width ≤ 1024) × (height ≤ 1024)) × ((length boxes.old ≡ 128) × (m ≤ 126)) }
     ensures upper_bound { result ≤ m + 2 }
     ensures boxes_after { tab result (rect_at boxes.new)
         ≡ tab m (rect_at boxes.old) ++ boxes_at width height old.now new.now i }
@@ -73,7 +63,7 @@ fn add_boxes(
     if !damage::is_changed(old, new, i) {
         return m;
     }
-    put_rect(boxes, m, box_of(old, i, width, height));
-    put_rect(boxes, m + 1, box_of(new, i, width, height));
+    boxes[m] = box_of(old, i, width, height);
+    boxes[m + 1] = box_of(new, i, width, height);
     m + 2
 }

@@ -1,5 +1,5 @@
 // A rectangle cut in two by a line, each part shrunk to what the boxes have of it. A line is a column, where `upright`, or a row.
-ghost use Rattle.std.specs.Prelude.{◌≡◌, true, false, ◌*◌, ◌≤◌, ◌<◌, length};
+ghost use Rattle.std.specs.Prelude.{◌≡◌, false, ◌<◌, ◌≤◌, length, IfSome};
 ghost use Rattle.lists.specs.Lists.{tab};
 ghost use Rattle.rect.specs.Rects.{empty_of, smallest};
 ghost use Rattle.planner.specs.Runs.{rect_at};
@@ -7,13 +7,11 @@ ghost use Rattle.regions.specs.Planned.{lowest, past};
 ghost use Rattle.planner.specs.Cuts.{before, beyond, shrunk, touches, free, opens, better_of};
 ghost use Rattle.planner.specs.Tilings.{Searched, Tried, Opening};
 
-use crate::rectangles::rect_at;
 use rect::Rect;
 
-// The line at which that part of a plan is cut, and how many pixels it saves; or none.
-#[derive(Clone, Copy)]
+// The line at which that part of a plan is cut, and how many pixels it saves.
+#[derive(Clone, Copy, PartialEq, Eq)]
 pub struct Cut {
-    pub found: bool,
     pub part: usize,
     pub upright: bool,
     pub at: usize,
@@ -21,96 +19,82 @@ pub struct Cut {
 }
 
 // The first line of a rectangle.
-pub fn first_line(a: Rect, upright: bool) -> usize
+fn first_line(a: Rect, upright: bool) -> usize
     ensures { result ≡ lowest upright a }
 {
     if upright { a.x0 } else { a.y0 }
 }
 
 // The line after its last.
-pub fn end_line(a: Rect, upright: bool) -> usize
+fn end_line(a: Rect, upright: bool) -> usize
     ensures { result ≡ past upright a }
 {
     if upright { a.x1 } else { a.y1 }
 }
 
 // The lines before that one.
+#[tactic(auto, unfolding(crate::specs::Cuts::before))]
 fn lines_before(a: Rect, upright: bool, at: usize) -> Rect
     ensures { result ≡ before upright a at }
 {
     if upright {
         Rect {
-            x0: a.x0,
-            y0: a.y0,
-            x1: rect::least(a.x1, at),
-            y1: a.y1,
+            x1: a.x1.min(at),
+            ..a
         }
     } else {
         Rect {
-            x0: a.x0,
-            y0: a.y0,
-            x1: a.x1,
-            y1: rect::least(a.y1, at),
+            y1: a.y1.min(at),
+            ..a
         }
     }
 }
 
 // That line and those after it.
+#[tactic(auto, unfolding(crate::specs::Cuts::beyond))]
 fn lines_from(a: Rect, upright: bool, at: usize) -> Rect
     ensures { result ≡ beyond upright a at }
 {
     if upright {
         Rect {
-            x0: rect::most(a.x0, at),
-            y0: a.y0,
-            x1: a.x1,
-            y1: a.y1,
+            x0: a.x0.max(at),
+            ..a
         }
     } else {
         Rect {
-            x0: a.x0,
-            y0: rect::most(a.y0, at),
-            x1: a.x1,
-            y1: a.y1,
+            y0: a.y0.max(at),
+            ..a
         }
     }
 }
 
-// The smallest rectangle round what m boxes have of it.
-fn shrink(boxes: &[usize], m: usize, a: Rect) -> Rect
-    requires { m * 4 ≤ length boxes.now }
-    ensures { result ≡ shrunk m (rect_at boxes.now) a }
+// The smallest rectangle round what the boxes have of it.
+#[tactic(auto, unfolding(crate::specs::Cuts::shrunk))]
+fn shrink(boxes: &[Rect], a: Rect) -> Rect
+    ensures { result ≡ shrunk (length boxes.now) (rect_at boxes.now) a }
 {
-    let mut r = Rect {
-        x0: 0,
-        y0: 0,
-        x1: 0,
-        y1: 0,
-    };
-    let mut k = 0;
-    while k < m {
-        r = rect::join(r, rect::meet(a, rect_at(boxes, k)));
-        k += 1;
+    let mut r = Rect::EMPTY;
+    for b in boxes {
+        r = r.join(a.meet(*b));
     }
     r
 }
 
 // Both parts of a rectangle that is cut at a line.
-pub fn first_part(boxes: &[usize], m: usize, a: Rect, upright: bool, at: usize) -> Rect
-    requires { m * 4 ≤ length boxes.now }
-    ensures { result ≡ shrunk m (rect_at boxes.now) (before upright a at) }
+pub fn first_part(boxes: &[Rect], a: Rect, upright: bool, at: usize) -> Rect
+    ensures { result ≡ shrunk (length boxes.now) (rect_at boxes.now) (before upright a at) }
 {
-    shrink(boxes, m, lines_before(a, upright, at))
+    shrink(boxes, lines_before(a, upright, at))
 }
 
-pub fn second_part(boxes: &[usize], m: usize, a: Rect, upright: bool, at: usize) -> Rect
-    requires { m * 4 ≤ length boxes.now }
-    ensures { result ≡ shrunk m (rect_at boxes.now) (beyond upright a at) }
+pub fn second_part(boxes: &[Rect], a: Rect, upright: bool, at: usize) -> Rect
+    ensures { result ≡ shrunk (length boxes.now) (rect_at boxes.now) (beyond upright a at) }
 {
-    shrink(boxes, m, lines_from(a, upright, at))
+    shrink(boxes, lines_from(a, upright, at))
 }
 
 // How many pixels a rectangle has, a side counted as 1,024 at most, which no surface exceeds.
+#[tactic(auto, using(crate::proofs::Parts::square))]
 fn pixels(a: Rect) -> usize
     ensures { result ≤ 1048576 }
 {
@@ -120,185 +104,141 @@ fn pixels(a: Rect) -> usize
 fn side(start: usize, end: usize) -> usize
     ensures { result ≤ 1024 }
 {
-    if end <= start {
-        return 0;
-    }
-    rect::least(end - start, 1024)
+    end.saturating_sub(start).min(1024)
 }
 
 // The cut of a rectangle, which is that part of a plan, at a line.
-pub fn cut_at(boxes: &[usize], m: usize, a: Rect, part: usize, upright: bool, at: usize) -> Cut
-    requires { m * 4 ≤ length boxes.now }
-    ensures { (result.found ≡ true) × ((result.part ≡ part) × ((result.upright ≡ upright) × (result.at ≡ at))) }
+fn cut_at(boxes: &[Rect], a: Rect, part: usize, upright: bool, at: usize) -> Cut
+    ensures { (result.part ≡ part) × ((result.upright ≡ upright) × (result.at ≡ at)) }
 {
-    let all = pixels(a);
-    let first = pixels(first_part(boxes, m, a, upright, at));
-    let second = pixels(second_part(boxes, m, a, upright, at));
-    let kept = first + second;
-    let saved = if kept < all { all - kept } else { 0 };
+    let first = pixels(first_part(boxes, a, upright, at));
+    let second = pixels(second_part(boxes, a, upright, at));
     Cut {
-        found: true,
         part,
         upright,
         at,
-        saved,
-    }
-}
-
-// No cut.
-pub fn uncut(part: usize) -> Cut
-    ensures { (result.found ≡ false) × (result.part ≡ part) }
-{
-    Cut {
-        found: false,
-        part,
-        upright: false,
-        at: 0,
-        saved: 0,
+        saved: pixels(a).saturating_sub(first + second),
     }
 }
 
 // The cut that saves more.
-pub fn better(a: Cut, b: Cut) -> Cut
+fn better(a: Option<Cut>, b: Option<Cut>) -> Option<Cut>
     ensures { result ≡ better_of a b }
 {
-    if !b.found {
-        return a;
+    match (a, b) {
+        (None, b) => b,
+        (a, None) => a,
+        (Some(a), Some(b)) => Some(if a.saved < b.saved { b } else { a }),
     }
-    if !a.found {
-        return b;
-    }
-    if a.saved < b.saved { b } else { a }
 }
 
 // Whether a box has a pixel in the line.
+#[tactic(auto, unfolding(crate::specs::Cuts::touches))]
 fn has_line(b: Rect, upright: bool, at: usize) -> bool
     ensures { result ≡ touches upright b at }
 {
-    if rect::is_empty(b) {
-        return false;
-    }
-    if at < first_line(b, upright) {
-        return false;
-    }
-    at < end_line(b, upright)
+    !b.is_empty() && first_line(b, upright) <= at && at < end_line(b, upright)
 }
 
-// Whether none of m boxes has.
-fn is_free(boxes: &[usize], m: usize, upright: bool, at: usize) -> bool
-    requires { m * 4 ≤ length boxes.now }
-    ensures { result ≡ free upright m (rect_at boxes.now) at }
+// Whether no box has.
+fn is_free(boxes: &[Rect], upright: bool, at: usize) -> bool
+    ensures { result ≡ free upright (length boxes.now) (rect_at boxes.now) at }
 {
-    let mut k = 0;
-    while k < m {
-        if has_line(rect_at(boxes, k), upright, at) {
+    for b in boxes {
+        if has_line(*b, upright, at) {
             return false;
         }
-        k += 1;
     }
     true
 }
 
 // Whether it is a line of the area that none has.
-fn is_open(boxes: &[usize], m: usize, area: Rect, upright: bool, at: usize) -> bool
-    requires { m * 4 ≤ length boxes.now }
-    ensures { result ≡ opens m (rect_at boxes.now) area upright at }
+#[tactic(auto, unfolding(crate::specs::Cuts::opens))]
+fn is_open(boxes: &[Rect], area: Rect, upright: bool, at: usize) -> bool
+    ensures { result ≡ opens (length boxes.now) (rect_at boxes.now) area upright at }
 {
-    if at < first_line(area, upright) {
-        return false;
-    }
-    if end_line(area, upright) <= at {
-        return false;
-    }
-    is_free(boxes, m, upright, at)
+    first_line(area, upright) <= at && at < end_line(area, upright) && is_free(boxes, upright, at)
 }
 
 // The better of a cut and that of the area at a line, if none has it.
-fn try_open(best: Cut, boxes: &[usize], m: usize, area: Rect, upright: bool, at: usize) -> Cut
-    requires { m * 4 ≤ length boxes.now }
-    ensures { Tried m (rect_at boxes.now) area upright at best result }
+fn try_open(best: Option<Cut>, boxes: &[Rect], area: Rect, upright: bool, at: usize) -> Option<Cut>
+    ensures { Tried (length boxes.now) (rect_at boxes.now) area upright at best result }
 {
-    if is_open(boxes, m, area, upright, at) {
-        return better(best, cut_at(boxes, m, area, 0, upright, at));
+    if !is_open(boxes, area, upright, at) {
+        return best;
     }
-    best
+    better(best, Some(cut_at(boxes, area, 0, upright, at)))
 }
 
 // The best cut of the area at a free column, or row. What is free begins where a box ends, so the boxes' ends are enough.
-fn free_cut(boxes: &[usize], m: usize, area: Rect, upright: bool) -> Cut
-    requires { m * 4 ≤ length boxes.now }
-    ensures { Searched m (rect_at boxes.now) area upright m result }
+fn free_cut(boxes: &[Rect], area: Rect, upright: bool) -> Option<Cut>
+    ensures { Searched (length boxes.now) (rect_at boxes.now) area upright (length boxes.now) result }
 {
-    let mut best = uncut(0);
-    let mut k = 0;
-    while k < m {
-        let at = end_line(rect_at(boxes, k), upright);
-        best = try_open(best, boxes, m, area, upright, at);
-        k += 1;
+    let mut best = None;
+    for b in boxes {
+        best = try_open(best, boxes, area, upright, end_line(*b, upright));
     }
     best
 }
 
 // The best cut of the area at a free column or row, if there is one.
-pub fn opening_cut(boxes: &[usize], m: usize, area: Rect) -> Cut
-    requires m_in_bounds { (m * 4 ≤ length boxes.now) × (area ≡ smallest (tab m (rect_at boxes.now))) }
-    requires area_value { empty_of area ≡ false }
-    ensures { Opening m (rect_at boxes.now) area result }
+pub fn opening_cut(boxes: &[Rect], area: Rect) -> Option<Cut>
+    requires area_value { area ≡ smallest (tab (length boxes.now) (rect_at boxes.now)) }
+    requires area_wide { empty_of area ≡ false }
+    ensures { Opening (length boxes.now) (rect_at boxes.now) area result }
 {
-    let columns = free_cut(boxes, m, area, true);
-    let rows = free_cut(boxes, m, area, false);
+    let columns = free_cut(boxes, area, true);
+    let rows = free_cut(boxes, area, false);
     better(columns, rows)
 }
 
-// The better of a cut and the cut of a rectangle at a line, if that lies inside it.
-fn try_line(best: Cut, boxes: &[usize], m: usize, a: Rect, upright: bool, at: usize) -> Cut
-    requires { m * 4 ≤ length boxes.now }
-    ensures { result.part ≡ best.part }
+// The better of a cut of a rectangle, which is that part of a plan, and its cut at a line, if that lies inside it.
+fn try_line(
+    best: Option<Cut>,
+    boxes: &[Rect],
+    a: Rect,
+    part: usize,
+    upright: bool,
+    at: usize,
+) -> Option<Cut>
+    requires { IfSome best (λ c. c.part ≡ part) }
+    ensures { IfSome result (λ c. c.part ≡ part) }
 {
-    if at <= first_line(a, upright) {
+    if at <= first_line(a, upright) || end_line(a, upright) <= at {
         return best;
     }
-    if end_line(a, upright) <= at {
-        return best;
-    }
-    better(best, cut_at(boxes, m, a, best.part, upright, at))
+    better(best, Some(cut_at(boxes, a, part, upright, at)))
 }
 
 // The better of a cut and those of a rectangle at the four ends of a box.
-fn try_box(best: Cut, boxes: &[usize], m: usize, a: Rect, b: Rect) -> Cut
-    requires { m * 4 ≤ length boxes.now }
-    ensures { result.part ≡ best.part }
+fn try_box(best: Option<Cut>, boxes: &[Rect], a: Rect, part: usize, b: Rect) -> Option<Cut>
+    requires { IfSome best (λ c. c.part ≡ part) }
+    ensures { IfSome result (λ c. c.part ≡ part) }
 {
-    let left = try_line(best, boxes, m, a, true, b.x0);
-    let right = try_line(left, boxes, m, a, true, b.x1);
-    let lower = try_line(right, boxes, m, a, false, b.y0);
-    try_line(lower, boxes, m, a, false, b.y1)
+    let left = try_line(best, boxes, a, part, true, b.x0);
+    let right = try_line(left, boxes, a, part, true, b.x1);
+    let lower = try_line(right, boxes, a, part, false, b.y0);
+    try_line(lower, boxes, a, part, false, b.y1)
 }
 
 // The best cut of a rectangle, which is that part of a plan, at the ends of the boxes.
-fn best_cut(boxes: &[usize], m: usize, a: Rect, part: usize) -> Cut
-    requires { m * 4 ≤ length boxes.now }
-    ensures { result.part ≡ part }
+fn best_cut(boxes: &[Rect], a: Rect, part: usize) -> Option<Cut>
+    ensures { IfSome result (λ c. c.part ≡ part) }
 {
-    let mut best = uncut(part);
-    let mut k = 0;
-    while k < m {
-        best = try_box(best, boxes, m, a, rect_at(boxes, k));
-        k += 1;
+    let mut best = None;
+    for b in boxes {
+        best = try_box(best, boxes, a, part, *b);
     }
     best
 }
 
-// The best cut of n rectangles.
-pub fn best_of(boxes: &[usize], m: usize, rs: &[usize], n: usize) -> Cut
-    requires { (m * 4 ≤ length boxes.now) × ((n * 4 ≤ length rs.now) × (1 ≤ n)) }
-    ensures { result.part < n }
+// The best cut of some rectangles.
+pub fn best_of(boxes: &[Rect], rs: &[Rect]) -> Option<Cut>
+    ensures { IfSome result (λ c. c.part < length rs.now) }
 {
-    let mut best = uncut(0);
-    let mut i = 0;
-    while i < n {
-        best = better(best, best_cut(boxes, m, rect_at(rs, i), i));
-        i += 1;
+    let mut best = None;
+    for (i, r) in rs.iter().enumerate() {
+        best = better(best, best_cut(boxes, *r, i));
     }
     best
 }

@@ -13,10 +13,11 @@ ghost use Rattle.scene.specs.Accepted.{AcceptedScene};
 ghost use Rattle.render.specs.Answers.{mask_of};
 ghost use Rattle.planner.specs.Written.{Written, Redrawn};
 
-use crate::boxes::{BOX_NUMBERS, collect};
+use crate::boxes::{BOXES, collect};
 use crate::rectangles::{around, write};
-use crate::tiles::divide;
+use crate::tiles::{MOST, divide};
 use codes::ACCEPTED;
+use rect::Rect;
 use regions::painting::{paint_regions, round};
 use render::Answer;
 use render::judge::judge_redraw;
@@ -30,15 +31,16 @@ pub fn propose(old: &[u8], new: &[u8], width: usize, height: usize, rectangles: 
     requires width_value { ((width ≡ width_of new.now) × (height ≡ height_of new.now)) × (16 ≤ length rectangles.old) }
     ensures { Written old.now new.now result rectangles.old rectangles.new }
 {
-    let mut boxes = [0usize; BOX_NUMBERS];
-    let m = collect(old, new, &mut boxes, width, height);
-    let area = around(&boxes, m);
-    if rect::is_empty(area) {
+    let mut found = [Rect::EMPTY; BOXES];
+    let m = collect(old, new, &mut found, width, height);
+    let boxes = &found[0..m];
+    let area = around(boxes);
+    if area.is_empty() {
         return 0;
     }
-    let mut rs = [0usize; PROPOSAL_NUMBERS];
-    let n = divide(&boxes, m, area, &mut rs);
-    write(&rs, n, rectangles);
+    let mut rs = [Rect::EMPTY; MOST];
+    let n = divide(boxes, area, &mut rs);
+    write(&rs[0..n], rectangles);
     n
 }
 

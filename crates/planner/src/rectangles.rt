@@ -1,66 +1,30 @@
-// Rectangles in a run of numbers, four to each.
+// Rectangles one after the other: what they lie in, and how a proposal writes them.
 ghost use Rattle.std.specs.Prelude.{◌≡◌, ◌+◌, ◌*◌, ◌≤◌, ◌<◌, length};
 ghost use Rattle.lists.specs.Lists.{tab, over};
 ghost use Rattle.rect.specs.Rects.{On, smallest};
-ghost use Rattle.planner.specs.Runs.{rect_at, put, numbers_of, put_four, Sized};
+ghost use Rattle.planner.specs.Runs.{rect_at, numbers_of, put_four, Sized};
 
 use rect::Rect;
 
-// Rectangle k.
-pub fn rect_at(s: &[usize], k: usize) -> Rect
-    requires { k * 4 + 3 < length s.now }
-    ensures { result ≡ rect_at s.now k }
+// The smallest rectangle round all.
+pub fn around(s: &[Rect]) -> Rect
+    ensures { result ≡ smallest (tab (length s.now) (rect_at s.now)) }
 {
-    let at = k * 4;
-    Rect {
-        x0: s[at],
-        y0: s[at + 1],
-        x1: s[at + 2],
-        y1: s[at + 3],
-    }
-}
-
-// Makes a rectangle k.
-pub fn put_rect(s: &mut [usize], k: usize, a: Rect)
-    requires { k * 4 + 3 < length s.old }
-    ensures { s.new ≡ put s.old k a }
-{
-    let at = k * 4;
-    s[at] = a.x0;
-    s[at + 1] = a.y0;
-    s[at + 2] = a.x1;
-    s[at + 3] = a.y1;
-}
-
-// The smallest rectangle round the first m.
-pub fn around(s: &[usize], m: usize) -> Rect
-    requires { m * 4 ≤ length s.now }
-    ensures { result ≡ smallest (tab m (rect_at s.now)) }
-{
-    let mut r = Rect {
-        x0: 0,
-        y0: 0,
-        x1: 0,
-        y1: 0,
-    };
-    let mut k = 0;
-    while k < m {
-        r = rect::join(r, rect_at(s, k));
-        k += 1;
+    let mut r = Rect::EMPTY;
+    for a in s {
+        r = r.join(*a);
     }
     r
 }
 
-// Writes the first n as x, y, width and height.
-pub fn write(s: &[usize], n: usize, out: &mut [i32])
-    requires n_in_bounds { (n * 4 ≤ length s.now) × (n * 4 ≤ length out.old) }
-    requires sized { Sized n (rect_at s.now) }
-    ensures { out.new ≡ over (numbers_of n (rect_at s.now)) out.old }
+// Writes them as x, y, width and height.
+pub fn write(s: &[Rect], out: &mut [i32])
+    requires n_in_bounds { length s.now * 4 ≤ length out.old }
+    requires sized { Sized (length s.now) (rect_at s.now) }
+    ensures { out.new ≡ over (numbers_of (length s.now) (rect_at s.now)) out.old }
 {
-    let mut k = 0;
-    while k < n {
-        write_rect(rect_at(s, k), out, k);
-        k += 1;
+    for (k, a) in s.iter().enumerate() {
+        write_rect(*a, out, k);
     }
 }
 

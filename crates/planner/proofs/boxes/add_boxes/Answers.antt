@@ -1,10 +1,9 @@
-use mathlib.Core.Path.{sym, ◌∙◌}
+use mathlib.Core.Path.{refl, sym, ◌∙◌}
 use native.Mathlib.Omega.{arith}
 use borrow.Author.Tests.{not-true, not-false}
 use Rattle.planner.proofs.Collected.{none_put, both_put}
 use Rattle.planner.proofs.boxes.add_boxes.Goals as goal
 
--- src/boxes.rt:78:9
 pub returns-then-not-is_changed : goal.returns-then-not-is_changed
 returns-then-not-is_changed c =
     let a = c.args in
@@ -14,13 +13,12 @@ returns-then-not-is_changed c =
           (sym c.is_changed.ensures ∙ not-true c.is_changed.result c.if-not-is_changed.true-raw);
     }
 
--- src/boxes.rt:60:1
 pub returns : goal.returns
 returns c =
     let a = c.args in
     record {
       upper_bound = omega arith;
-      boxes_after = both_put a.width a.height a.old.now a.new.now a.i a.boxes.now c.put_rect.new.s _ a.m _ _
+      boxes_after = both_put a.width a.height a.old.now a.new.now a.i a.boxes.now _ _ a.m _ _
           (omega (arith, c.requires.width_bound)) (sym c.is_changed.ensures ∙ not-false c.is_changed.result c.if-not-is_changed.false-raw)
-          c.box_of.ensures c.box_of-2.ensures c.put_rect.ensures c.put_rect-2.ensures;
+          c.box_of.ensures c.box_of-2.ensures refl refl;
     }

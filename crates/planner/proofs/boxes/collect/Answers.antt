@@ -16,5 +16,5 @@ returns c =
     let a = c.args in (
       omega arith,
       cover_surface a.width a.height a.old.now a.new.now a.boxes.now _ _ (omega (arith, c.requires.width_bound.1))
-          (sym c.same_background.ensures ∙ c.if-same_background.false) c.put_rect.ensures refl,
+          (sym c.same_background.ensures ∙ c.if-same_background.false) refl refl,
     )

@@ -1,3 +1,4 @@
+use lib.ListN.{length}
 use Rattle.rect.proofs.Laws.{not_empty}
 use Rattle.planner.specs.Runs.{rect_at}
 use Rattle.planner.proofs.Searches.{opening_found}
@@ -6,5 +7,5 @@ use Rattle.planner.proofs.cuts.opening_cut.Goals as goal
 pub returns : goal.returns
 returns c =
     let a = c.args in
-    opening_found a.m (rect_at a.boxes.now) a.area c.requires.m_in_bounds.1 (not_empty a.area c.requires.area_value) c.free_cut-columns.result
-    c.free_cut-rows.result _ c.free_cut-columns.ensures c.free_cut-rows.ensures c.better.ensures
+    opening_found (length a.boxes.now) (rect_at a.boxes.now) a.area c.requires.area_value (not_empty a.area c.requires.area_wide)
+    c.free_cut-columns.result c.free_cut-rows.result _ c.free_cut-columns.ensures c.free_cut-rows.ensures c.better.ensures

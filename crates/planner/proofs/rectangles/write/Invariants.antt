@@ -1,12 +1,7 @@
 use mathlib.Core.Path.{◌≡◌}
-use Prim.Native.Nat.{◌-◌, ◌≤◌}
-use lib.ListN.{length}
 use Rattle.lists.specs.Lists.{over}
 use Rattle.planner.specs.Runs.{rect_at, numbers_of}
 use Rattle.planner.proofs.rectangles.write.Given as goal
 
 abbrev pub invariant-loop-k : goal.invariant-loop-k
-invariant-loop-k l = (l.k ≤ l.n) × ((length l.out ≡ length l.initial.out) × (l.out ≡ over (numbers_of l.k (rect_at l.s)) l.initial.out))
-
-abbrev pub decreases-loop-k : goal.decreases-loop-k
-decreases-loop-k l = l.n - l.k
+invariant-loop-k l = l.out ≡ over (numbers_of l.k (rect_at l.s)) l.initial.out

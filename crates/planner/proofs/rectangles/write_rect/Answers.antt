@@ -1,27 +1,10 @@
 use Prim.Native.Nat.{◌-◌}
 use native.Mathlib.Omega.{arith}
-use lib.ListN.{length-set}
 use mir.Syntax.{w32}
 use Rattle.fixed.proofs.Means.{of_nat}
 use Rattle.planner.specs.Runs.{put_four}
 use Rattle.planner.proofs.rectangles.write_rect.Goals as goal
 
--- src/runs.rt:75:5
-pub bounds-out-at-2 : goal.bounds-out-at-2
-bounds-out-at-2 c =
-    simp length-set (omega arith)
-
--- src/runs.rt:76:5
-pub bounds-out-at-3 : goal.bounds-out-at-3
-bounds-out-at-3 c =
-    simp length-set (omega arith)
-
--- src/runs.rt:77:5
-pub bounds-out-at-4 : goal.bounds-out-at-4
-bounds-out-at-4 c =
-    simp length-set (omega arith)
-
--- src/runs.rt:69:1
 pub returns : goal.returns
 unfolding put_four
 returns c =

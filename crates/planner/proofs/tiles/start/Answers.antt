@@ -1,27 +1,23 @@
-use borrow.Author.Tests.{not-true, not-false}
+use mathlib.Core.Path.{refl}
+use lib.ListN.{length, set}
 use Rattle.rect.proofs.Laws.{not_empty}
 use Rattle.planner.specs.Runs.{rect_at}
 use Rattle.planner.proofs.Splits.{area_put, start_one, start_two}
 use Rattle.planner.proofs.tiles.start.Goals as goal
 
--- src/tiles.rt:44:9
-pub returns-then-not-cut : goal.returns-then-not-cut
-returns-then-not-cut c =
+pub returns-in-Some : goal.returns-in-Some
+returns-in-Some c =
     let a = c.args in
-    let w = not_empty a.area c.requires.area_value.0 in
-    let o = c.opening_cut-cut in
-    start_one a.m (rect_at a.boxes.now) a.area c.requires.m_in_bounds.1 w c.put_rect.new.s
-    (area_put a.m (rect_at a.boxes.now) a.area c.requires.m_in_bounds.1 w a.rs.now c.put_rect.new.s
-    c.requires.area_value.1 c.put_rect.ensures).0
-    o.result o.ensures (not-true o.result.found c.if-not-cut.true)
+    let w = not_empty a.area c.requires.area_wide.0 in
+    let p = area_put (length a.boxes.now) (rect_at a.boxes.now) a.area c.requires.area_value w a.rs.now (set a.rs.now 0 a.area)
+    c.requires.area_wide.1 refl in
+    start_two (length a.boxes.now) (rect_at a.boxes.now) a.area c.requires.area_value w (set a.rs.now 0 a.area) p.0 c.in-Some.cut
+    c.in-Some.ensures p.1 _ _ c.split.ensures.value c.split.ensures.rs_after
 
--- src/tiles.rt:36:1
-pub returns : goal.returns
-returns c =
+pub returns-in-None : goal.returns-in-None
+returns-in-None c =
     let a = c.args in
-    let w = not_empty a.area c.requires.area_value.0 in
-    let o = c.opening_cut-cut in
-    let p = area_put a.m (rect_at a.boxes.now) a.area c.requires.m_in_bounds.1 w a.rs.now c.put_rect.new.s
-    c.requires.area_value.1 c.put_rect.ensures in
-    start_two a.m (rect_at a.boxes.now) a.area c.requires.m_in_bounds.1 w c.put_rect.new.s p.0 o.result o.ensures
-    (not-false o.result.found c.if-not-cut.false) p.1 _ _ c.split.ensures.value c.split.ensures.rs_after
+    let w = not_empty a.area c.requires.area_wide.0 in
+    let p = area_put (length a.boxes.now) (rect_at a.boxes.now) a.area c.requires.area_value w a.rs.now (set a.rs.now 0 a.area)
+    c.requires.area_wide.1 refl in
+    start_one (length a.boxes.now) (rect_at a.boxes.now) a.area c.requires.area_value w (set a.rs.now 0 a.area) p.0 c.in-None.ensures
