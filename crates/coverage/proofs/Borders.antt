@@ -39,9 +39,6 @@ ended : (z : ℤ) (x j : ℕ) → lt_z (pos x) z ≡ false → x ≤ j → lt_z 
 ended (pos n) x j h l = le-ltb j n (omega (arith, ltb-false x n h))
 ended (negsuc n) x j h l = refl
 
--- from x to before r: all columns left of the span, all in it, all right of it
-module _ (s : Span) (x r : ℕ) (right : x < r) where
-
 -- a part of a row, made 0 or kept
 module _ (s : List ℕ) (keep : Bool) where
   pub cut_away : (t : List ℕ) → keep ≡ false → t ≡ tab (length s) (λ i. 0) → t ≡ tab (length s) (λ i. cond keep (get_or s i 0) 0)

@@ -69,9 +69,6 @@ abbrev pub shr : Num → ℕ → Num
 shr r d = record { bound = r.bound; read = shr_z r.read d; int = shr_z r.int d; same = ap (λ (x : ℤ). shr_z x d) r.same; size = within_shr d r.size }
 
 -- ---- where the size alone does not tell: by what the number is
-abbrev pub neglit : ℕ → Num
-neglit n = record { bound = suc n; read = negsuc n; int = negsuc n; same = refl; size = record { size = le_refl (suc n) } }
-
 -- the same number, said in another way; with a bound of its own
 abbrev pub said : (r : Num) (z : ℤ) → r.int ≡ z → Num
 said r z e = record { bound = r.bound; read = r.read; int = z; same = r.same ∙ e; size = subst (λ (x : ℤ). Within r.bound x) e r.size }

@@ -49,9 +49,6 @@ module _ (bytes : ℕ) (lengths : List ℕ) (places : ℕ) where
       by false true true a b e = absurd (eqb-false out_of_memory 0 refl e)
       by false true false a b e = (eqb-true _ _ a, ltb-false _ _ b)
 
--- ---- what it leaves
-module _ (run lengths : List ℕ) (m : Mask) (p : List ℕ) (l : List ℤ) (out : List ℕ) where
-
 -- ---- what a context that notes the answer's `first` has noted: the call's own code, or its scenes' in order
 module _ (run lengths : List ℕ) (m : Mask) (p : List ℕ) (l : List ℤ) (places : ℕ) (c : Context) where
   pub replay_notes_own_code : (replay_code (length run) lengths places ≡ 0 → ⊥)
