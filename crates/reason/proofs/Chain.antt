@@ -6,6 +6,7 @@ use Prim.Native.Nat.{ℕ, zero, suc, ◌+◌, ◌≤◌, ◌<◌}
 use native.Mathlib.Omega.{arith}
 use native.Mathlib.Numerals.{add-one}
 use lib.Dec.{eqb}
+use Rattle.std.specs.Prelude.{Ok}
 use Rattle.color.specs.declared.Pixel.{Pixel}
 use Rattle.color.specs.Channels.{premultiplied}
 use Rattle.raster.specs.Surface.{pixel_of}
@@ -75,17 +76,17 @@ last_is_drawn s m surface scratch x y a l k h =
     ∙ sym (ap (λ (z : List ℕ). pixel_of (width_of s) z x y) (full_drawing_leaves_picture s m surface scratch a l))
 
 -- ---- the answers of the calls, one after the other, where nothing is refused
-module _ (s : List ℕ) (m : Mask) (x y : ℕ) (fine : (pixel_fault s m x y).code ≡ 0) where
+module _ (s : List ℕ) (m : Mask) (x y : ℕ) (fine : pixel_fault s m x y ≡ Ok tt) where
   abbrev mask : ℕ → ℕ → ℕ
   mask = mask_at (width_of s) (mask_bytes m)
 
   -- each line's pixel before the draw is the reference's
   pub lines_follow : (n : ℕ) → n ≤ count_of s → followed s m x y n ≡ pixel_before s mask x y n
   lines_follow zero l =
-      ap (λ (b : Start). b.pixel) (sym (start_accepted s m x y (pixel_fault s m x y) refl fine)) ∙ sym (begins_at_background s mask x y)
+      ap (λ (b : Start). b.pixel) (sym (start_accepted s m x y (sym fine))) ∙ sym (begins_at_background s mask x y)
   lines_follow (suc n) l =
       let p = followed s m x y n in
-      ap (λ (k : Line). k.after) (sym (line_there s m x y (pixel_fault s m x y) refl n p fine l))
+      ap (λ (k : Line). k.after) (sym (line_there s m x y (sym fine) n p l))
       ∙ ap (λ (q : Pixel). (line_of (edition_of s) (draw_of s n) mask x y q).after) (lines_follow n (omega arith))
       ∙ line_goes_on s mask x y n
       ∙ ap (pixel_before s mask x y) (add-one n)

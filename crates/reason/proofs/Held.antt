@@ -6,6 +6,7 @@ use Prim.Native.Nat.{ℕ, ◌+◌, ◌≤◌, ◌<◌}
 use native.Mathlib.Omega.{arith}
 use lib.ListN.{length, get_or}
 use lib.IntN.{ℤ, pos}
+use Rattle.std.specs.Prelude.{Ok}
 use Rattle.lists.specs.Lists.{total}
 use Rattle.path.specs.declared.FixedMatrix.{FixedMatrix}
 use Rattle.path.specs.declared.Curve.{Curve}
@@ -34,7 +35,7 @@ pub held_edges : (es : List Edge) (q : List ℤ) (r : ℕ) → Held es q r → E
 held_edges es q r h = record { few = omega (arith, h.few); room = omega (arith, h.room); small = h.small }
 
 -- what is stored of an accepted path, where the walk w is before segment i
-module _ (m : FixedMatrix) (ss cs : List ℕ) (n i : ℕ) (limited : Limited m) (accepted : (fault_to m ss cs n).code ≡ 0) (w : Walk) (at : w ≡ walk_to ss cs i)
+module _ (m : FixedMatrix) (ss cs : List ℕ) (n i : ℕ) (limited : Limited m) (accepted : fault_to m ss cs n ≡ Ok tt) (w : Walk) (at : w ≡ walk_to ss cs i)
     (few : i ≤ n) where
   pub walk_placed : PenPlaced m w.pen
   walk_placed = subst (λ (v : Walk). PenPlaced m v.pen) (sym at) (pen_placed m ss cs limited i n few accepted)

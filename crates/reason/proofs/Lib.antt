@@ -1,4 +1,5 @@
 pub mod Single
+pub mod First
 pub mod Summed
 pub mod Held
 pub mod Refusals

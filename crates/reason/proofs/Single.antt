@@ -1,11 +1,11 @@
 -- A row of one pixel.
 use mathlib.Core.Path.{◌≡◌, refl, ap, ◌∙◌}
-use mathlib.Core.List.{List}
+use mathlib.Core.List.{List, [], ◌∷◌}
 use mathlib.Core.Bool.{Bool, true, false, cond, not, ◌&&◌}
 use Prim.Native.Nat.{ℕ, ◌+◌}
 use native.Mathlib.Omega.{arith}
 use lib.Dec.{eqb}
-use lib.ListN.{length, get_or}
+use lib.ListN.{get_or}
 use Rattle.lists.specs.Lists.{tab}
 use Rattle.lists.proofs.Laws.{tab_at}
 use Rattle.color.specs.declared.Pixel.{Pixel}
@@ -27,12 +27,9 @@ kept_in : (t : Bool) → eqb (cond (true && not t) 0 1) 0 ≡ not t
 kept_in true = refl
 kept_in false = refl
 
-pub missed : (scissors : List ℕ) (n x y : ℕ) (b c : List ℕ) → length b ≡ 1 → get_or b 0 0 ≡ 1
-    → c ≡ tab (length b) (λ i. scissored true scissors n (x + i) y (get_or b i 0)) → eqb (get_or c 0 0) 0 ≡ not (in_scissors scissors n x y)
+pub missed : (scissors : List ℕ) (n x y : ℕ) (c : List ℕ) → c ≡ tab 1 (λ i. scissored true scissors n (x + i) y (get_or (1 ∷ []) i 0))
+    → eqb (get_or c 0 0) 0 ≡ not (in_scissors scissors n x y)
 unfolding scissored
-missed scissors n x y b c e one o =
-    let first = ap (λ (l : List ℕ). get_or l 0 0) o
-    ∙ tab_at (length b) (λ i. scissored true scissors n (x + i) y (get_or b i 0)) 0 0 (omega (arith, e))
-    ∙ ap (λ (v : ℕ). scissored true scissors n v y (get_or b 0 0)) (first_place x)
-    ∙ ap (scissored true scissors n x y) one in
+missed scissors n x y c o =
+    let first = ap (λ (l : List ℕ). get_or l 0 0) o ∙ ap (λ (v : ℕ). scissored true scissors n v y 1) (first_place x) in
     ap (λ (v : ℕ). eqb v 0) first ∙ kept_in (in_scissors scissors n x y)

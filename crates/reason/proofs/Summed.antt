@@ -40,8 +40,8 @@ zero_at zero j = omega arith
 zero_at (suc n) zero = omega arith
 zero_at (suc n) (suc j) = zero_at n j
 
-pub zeros_summed : (s : List ℤ) → s ≡ replicate 16 (pos 0) → Sums s 0
-zeros_summed s e = subst (λ (z : List ℤ). Sums z 0) (sym e) (record { room = refl; small = λ j l. zero_at 16 j })
+pub zeros_summed : Sums (replicate 16 (pos 0)) 0
+zeros_summed = record { room = refl; small = λ j l. zero_at 16 j }
 
 -- 16 samples, row by row
 by_rows : (f : ℕ → ℕ → ℕ) → total 16 (λ j. f (j % 4) (j / 4)) ≡ total 4 (λ r. total 4 (λ m. f m r))

@@ -1,6 +1,9 @@
 -- Why a pixel has its colour: a line for each draw, in order, from the premultiplied background on (paper 02, P9).
-use Rattle.std.specs.Prelude.{ℕ, zero, suc, ◌*◌, List, Bool, cond, not, ◌&&◌, eqb, ltb}
-use Rattle.codes.specs.Codes.{accepted_code, illegal_argument, unsupported_image_format}
+use Rattle.std.specs.Prelude.{ℕ, zero, suc, ◌*◌, List, Bool, cond, not, ◌&&◌, eqb, ltb, Result, Ok, Err, is_ok}
+use Rattle.codes.specs.Codes.{accepted_code}
+use Rattle.codes.specs.First.{first_of}
+use Rattle.codes.specs.Number.{number_of}
+use Rattle.codes.specs.declared.Code.TheVariants.{IllegalArgument, UnsupportedImageFormat}
 use Rattle.color.specs.declared.Pixel.{Pixel}
 use Rattle.color.specs.Channels.{premultiplied}
 use Rattle.coverage.specs.Winding.{one_if}
@@ -10,7 +13,7 @@ use Rattle.scene.specs.Layout.{no_draw}
 use Rattle.scene.specs.Blocks.{draw_of}
 use Rattle.scene.specs.Header.{width_of, height_of, count_of, edition_of, background_of}
 use Rattle.scene.specs.Fields.{scissoring, scissors_of, scissor_count, uses_mask}
-use Rattle.scene.specs.Faults.{fault, or_fault, demand}
+use Rattle.scene.specs.Faults.{fault, demand}
 use Rattle.scene.specs.Rules.{scene_fault}
 use Rattle.engine.specs.Picture.{draw_coverage, draw_paint, draw_mask, draw_step, draw_all, first_draws, mask_at}
 use Rattle.render.specs.Answers.{Mask, mask_wrong, mask_bytes}
@@ -72,27 +75,31 @@ abbrev pub scene_line : List ℕ → Mask → ℕ → ℕ → ℕ → Pixel → 
 scene_line s m x y i p = line_of (edition_of s) (draw_of s i) (mask_at (width_of s) (mask_bytes m)) x y p
 
 -- ---- refusals: the scene's first fault, with its offset in the file, then the mask's length, then a pixel outside the picture
-unfoldable pub lent_fault : ℕ → ℕ → Mask → ℕ → ℕ → Fault
+unfoldable pub lent_fault : ℕ → ℕ → Mask → ℕ → ℕ → Result Unit Fault
 lent_fault width height m x y =
-    or_fault (demand (not (mask_wrong m (width * height))) (fault unsupported_image_format no_draw 0))
-    (demand (ltb x width && ltb y height) (fault illegal_argument no_draw 0))
+    first_of (demand (not (mask_wrong m (width * height))) (fault UnsupportedImageFormat no_draw 0))
+    (demand (ltb x width && ltb y height) (fault IllegalArgument no_draw 0))
 
-unfoldable pub pixel_fault : List ℕ → Mask → ℕ → ℕ → Fault
-pixel_fault s m x y = or_fault (scene_fault m.lent s) (lent_fault (width_of s) (height_of s) m x y)
+unfoldable pub pixel_fault : List ℕ → Mask → ℕ → ℕ → Result Unit Fault
+pixel_fault s m x y = first_of (scene_fault m.lent s) (lent_fault (width_of s) (height_of s) m x y)
 
 abbrev pub is_explained : List ℕ → Mask → ℕ → ℕ → Bool
-is_explained s m x y = eqb (pixel_fault s m x y).code accepted_code
+is_explained s m x y = is_ok (pixel_fault s m x y)
 
 -- ---- answers, for any scene, mask, pixel and draw number
 -- how an explanation begins: the fault, or the number of draws and the pixel before the first
 abbrev pub refused_start : Fault → Start
-refused_start f = record { code = f.code; draw = f.draw; offset = f.offset; draws = 0; pixel = no_pixel }
+refused_start f = record { code = number_of f.code; draw = f.draw; offset = f.offset; draws = 0; pixel = no_pixel }
 
 abbrev pub accepted_start : List ℕ → Start
 accepted_start s = record { code = accepted_code; draw = no_draw; offset = 0; draws = count_of s; pixel = premultiplied (background_of s) }
 
+abbrev pub start_by : List ℕ → Result Unit Fault → Start
+start_by s (Ok _) = accepted_start s
+start_by s (Err f) = refused_start f
+
 unfoldable pub start_of : List ℕ → Mask → ℕ → ℕ → Start
-start_of s m x y = cond (is_explained s m x y) (accepted_start s) (refused_start (pixel_fault s m x y))
+start_of s m x y = start_by s (pixel_fault s m x y)
 
 -- the line of draw i; none, where the call is refused or there is no such draw
 unfoldable pub line_answer : List ℕ → Mask → ℕ → ℕ → ℕ → Pixel → Line

@@ -22,9 +22,9 @@ use crate::judge::judge_pixel;
 use crate::lines::{bare, scene_line};
 use codes::ACCEPTED;
 use color::Pixel;
-use scene::layout::{DRAW_BYTES, NO_DRAW};
+use scene::layout::NO_DRAW;
 
-// The kinds of a line: none, outside scissors that are on, not covered, covered.
+// The kinds of a line: none, outside scissors that are on, not covered, covered. They are numbers since C reads them in `Line`.
 pub const NO_LINE: u32 = 0;
 
 pub const OUTSIDE: u32 = 1;
@@ -32,6 +32,14 @@ pub const OUTSIDE: u32 = 1;
 pub const UNCOVERED: u32 = 2;
 
 pub const COVERED: u32 = 3;
+
+// The bytes of a pixel where there is none to tell.
+const NO_PIXEL: Pixel = Pixel {
+    r: 0,
+    g: 0,
+    b: 0,
+    a: 0,
+};
 
 // What a draw does at a pixel: the kind of the line, the pixel before the draw and after it. Where it is covered also k, 1 if the draw uses the mask and 0
 // if not, the mask's byte, which is 255 where it does not, and the paint's premultiplied bytes as blended.
@@ -62,27 +70,21 @@ pub struct Start {
 pub fn begin(scene: &[u8], masked: bool, mask: &[u8], x: usize, y: usize) -> Start
     ensures { result ≡ start_of scene.now (mask_of masked mask.now) x y }
 {
-    let f = judge_pixel(scene, masked, mask, x, y);
-    if f.code != ACCEPTED {
-        return Start {
-            code: f.code,
+    match judge_pixel(scene, masked, mask, x, y) {
+        Err(f) => Start {
+            code: f.code.number(),
             draw: f.draw as u32,
             offset: f.offset,
             draws: 0,
-            pixel: Pixel {
-                r: 0,
-                g: 0,
-                b: 0,
-                a: 0,
-            },
-        };
-    }
-    Start {
-        code: ACCEPTED,
-        draw: NO_DRAW as u32,
-        offset: 0,
-        draws: scene::header::count(scene) as u32,
-        pixel: scene::header::background(scene).premultiplied(),
+            pixel: NO_PIXEL,
+        },
+        Ok(()) => Start {
+            code: ACCEPTED,
+            draw: NO_DRAW as u32,
+            offset: 0,
+            draws: scene::header::count(scene) as u32,
+            pixel: scene::header::background(scene).premultiplied(),
+        },
     }
 }
 
@@ -98,13 +100,11 @@ pub fn explain_draw(
 ) -> Line
     ensures { result ≡ line_answer scene.now (mask_of masked mask.now) x y i before }
 {
-    let f = judge_pixel(scene, masked, mask, x, y);
-    if f.code != ACCEPTED {
+    if judge_pixel(scene, masked, mask, x, y).is_err() {
         return bare(NO_LINE, before);
     }
     if scene::header::count(scene) <= i {
         return bare(NO_LINE, before);
     }
-    let mut d = [0u8; DRAW_BYTES];
-    scene_line(scene, mask, x, y, i, before, &mut d)
+    scene_line(scene, mask, x, y, i, before)
 }

@@ -5,33 +5,26 @@ ghost use Rattle.scene.specs.Header.{width_of, height_of, count_of};
 ghost use Rattle.scene.specs.Fields.{uses_mask};
 ghost use Rattle.scene.specs.Accepted.{AcceptedFields, AcceptedDraw, AcceptedScene};
 ghost use Rattle.engine.specs.Rows.{MaskForScene};
-ghost use Rattle.coverage.specs.Winding.{one_if};
 ghost use Rattle.reason.specs.Explanations.{bare_line};
 ghost use Rattle.reason.specs.Lines.{LineWith, SceneLine, byte_for, line_by};
 
 use crate::paints::paint_at;
 use crate::samples::{covered_samples, outside_scissors};
-use crate::{COVERED, Line, OUTSIDE, UNCOVERED};
+use crate::{COVERED, Line, NO_PIXEL, OUTSIDE, UNCOVERED};
 use color::Pixel;
+use scene::layout::DRAW_BYTES;
 
-// The line of draw i of a scene that passes; d is a buffer for a draw. What it holds afterwards is free.
-pub fn scene_line(
-    s: &[u8],
-    mask: &[u8],
-    x: usize,
-    y: usize,
-    i: usize,
-    before: Pixel,
-    d: &mut [u8],
-) -> Line
+// The line of draw i of a scene that passes.
+pub fn scene_line(s: &[u8], mask: &[u8], x: usize, y: usize, i: usize, before: Pixel) -> Line
     requires accepted_scene { AcceptedScene s.now × (i < count_of s.now) }
-    requires x_bound { (x < width_of s.now) × (y < height_of s.now) × (length d.old ≡ draw_bytes) }
+    requires x_bound { (x < width_of s.now) × (y < height_of s.now) }
     requires mask_for_scene { MaskForScene s.now (height_of s.now * width_of s.now) mask.now }
     ensures { SceneLine s.now mask.now x y i before result }
 {
-    scene::blocks::read_draw(s, i, d);
-    let m = mask_byte(d, mask, y * scene::header::width(s) + x);
-    draw_line(d, scene::header::edition(s), m, x, y, before)
+    let mut d = [0u8; DRAW_BYTES];
+    scene::blocks::read_draw(s, i, &mut d);
+    let m = mask_byte(&d, mask, y * scene::header::width(s) + x);
+    draw_line(&d, scene::header::edition(s), m, x, y, before)
 }
 
 // m of a draw: the mask's byte at a place, or 255 where the draw does not ask for the mask.
@@ -40,9 +33,10 @@ fn mask_byte(d: &[u8], mask: &[u8], at: usize) -> u8
     ensures { result ≡ byte_for d.now mask.now at }
 {
     if scene::fields::uses_mask(d) {
-        return mask[at];
+        mask[at]
+    } else {
+        255
     }
-    255
 }
 
 // The line of a draw, with its m: the scissors before all else.
@@ -72,12 +66,7 @@ pub fn bare(kind: u32, before: Pixel) -> Line
         k: 0,
         masked: 0,
         mask: 0,
-        paint: Pixel {
-            r: 0,
-            g: 0,
-            b: 0,
-            a: 0,
-        },
+        paint: NO_PIXEL,
     }
 }
 
@@ -94,15 +83,8 @@ fn covered_line(d: &[u8], k: u8, m: u8, x: usize, y: usize, before: Pixel) -> Li
         before,
         after: blend::step::composite_pixel(mode, k, m, paint, before),
         k: k as u32,
-        masked: one_if(scene::fields::uses_mask(d)),
+        masked: u32::from(scene::fields::uses_mask(d)),
         mask: m as u32,
         paint,
     }
-}
-
-// 1 for yes, 0 for no.
-fn one_if(yes: bool) -> u32
-    ensures { result ≡ one_if yes }
-{
-    if yes { 1 } else { 0 }
 }

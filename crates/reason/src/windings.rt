@@ -1,6 +1,6 @@
 // The winding numbers of a pixel's 16 samples, added up segment by segment. A segment's edges, 16 at most, lie in a small buffer; all edges of a path are
 // never there at once, so that a line takes little stack.
-ghost use Rattle.std.specs.Prelude.{◌≡◌, [], ◌∷◌, ◌+◌, ◌*◌, ◌≤◌, ◌<◌, length};
+ghost use Rattle.std.specs.Prelude.{◌≡◌, Ok, [], ◌∷◌, ◌+◌, ◌*◌, ◌≤◌, ◌<◌, length};
 ghost use Rattle.path.specs.Limits.{Limited};
 ghost use Rattle.path.specs.Segments.{fault_to};
 ghost use Rattle.path.specs.Curves.{path_edges};
@@ -15,8 +15,10 @@ use path::tracing::trace;
 use path::{Edge, FixedMatrix, Walk};
 use plain::crossing::count;
 
-// Adds what the edges of an accepted path of n segments count at each sample of the pixel (x, y). What the buffer for a segment's edges holds afterwards is
-// free.
+// The numbers for the edges of a segment.
+const SEGMENT_NUMBERS: usize = 64;
+
+// Adds what the edges of an accepted path of n segments count at each sample of the pixel (x, y).
 pub fn add_path(
     m: FixedMatrix,
     segments: &[u8],
@@ -24,30 +26,24 @@ pub fn add_path(
     coordinates: &[u8],
     x: usize,
     y: usize,
-    edges: &mut [i32],
     sums: &mut [i32],
 )
     requires n_bound { (n ≤ 128) × (n ≤ length segments.now) }
-    requires limited { Limited m × ((fault_to m segments.now coordinates.now n).code ≡ 0) }
-    requires x_bound { (x < 1024) × (y < 1024) × (64 ≤ length edges.old) × Sums sums.old 0 }
+    requires limited { Limited m × (fault_to m segments.now coordinates.now n ≡ Ok tt) }
+    requires x_bound { (x < 1024) × (y < 1024) × Sums sums.old 0 }
     ensures { sums.new ≡ wound x y sums.old (path_edges m segments.now coordinates.now n) }
 {
+    let mut edges = [0i32; SEGMENT_NUMBERS];
     let mut walk = Walk::new();
-    let mut i = 0;
-    while i < n {
+    for i in 0..n {
         let byte = segments[i];
         let t = trace(coordinates, walk, byte);
-        let pen = walk.pen;
-        let curve = t.curve;
-        let stored = store_segment(m, edges, 0, pen, byte, curve);
-        add_edges(sums, edges, stored, x, y);
-        let next = t.walk;
-        walk = next;
-        i += 1;
+        let stored = store_segment(m, &mut edges, 0, walk.pen, byte, t.curve);
+        add_edges(sums, &edges, stored, x, y);
+        walk = t.walk;
     }
-    let last = walk.pen;
-    let closing = store_closing(m, edges, 0, last);
-    add_edges(sums, edges, closing, x, y);
+    let closing = store_closing(m, &mut edges, 0, walk.pen);
+    add_edges(sums, &edges, closing, x, y);
 }
 
 // Adds what the first n edges of a buffer count.
@@ -56,11 +52,9 @@ fn add_edges(sums: &mut [i32], edges: &[i32], n: usize, x: usize, y: usize)
     requires x_bound { (x < 1024) × (y < 1024) }
     ensures { sums.new ≡ wound x y sums.old (edges_of edges.now n) }
 {
-    let mut i = 0;
-    while i < n {
+    for i in 0..n {
         let e = load(edges, i);
         add_edge(sums, e, x, y);
-        i += 1;
     }
 }
 
@@ -70,12 +64,9 @@ fn add_edge(sums: &mut [i32], e: Edge, x: usize, y: usize)
     requires x_bound { (x < 1024) × (y < 1024) }
     ensures { sums.new ≡ wound x y sums.old (e ∷ []) }
 {
-    let mut j = 0;
-    while j < 16 {
+    for j in 0..16 {
         let by = count(e, place(x, j % 4), place(y, j / 4));
-        let v = sums[j] + by;
-        sums[j] = v;
-        j += 1;
+        sums[j] += by;
     }
 }
 
