@@ -19,9 +19,6 @@ first_place x = omega arith
 pub one_number : (f : ℕ → ℕ) (c : List ℕ) (n x : ℕ) → n ≡ 1 → c ≡ tab n (λ i. f (x + i)) → get_or c 0 0 ≡ f x
 one_number f c n x e o = ap (λ (l : List ℕ). get_or l 0 0) o ∙ tab_at n (λ i. f (x + i)) 0 0 (omega (arith, e)) ∙ ap f (first_place x)
 
-pub one_pixel : (f : ℕ → Pixel) (c : List ℕ) (x : ℕ) → c ≡ run 1 (λ i. f (x + i)) → pixel_in c 0 ≡ f x
-one_pixel f c x o = ap (λ (l : List ℕ). pixel_in l 0) o ∙ run_at 1 (λ i. f (x + i)) 0 (omega arith) ∙ ap f (first_place x)
-
 -- one sample is kept in a scissor only
 kept_in : (t : Bool) → eqb (cond (true && not t) 0 1) 0 ≡ not t
 kept_in true = refl
