@@ -1,4 +1,4 @@
--- A row of one pixel.
+-- A row of one pixel: its one sample is kept where the pixel lies in a scissor.
 use mathlib.Core.Path.{◌≡◌, refl, ap, ◌∙◌}
 use mathlib.Core.List.{List, [], ◌∷◌}
 use mathlib.Core.Bool.{Bool, true, false, cond, not, ◌&&◌}
@@ -7,17 +7,10 @@ use native.Mathlib.Omega.{arith}
 use lib.Dec.{eqb}
 use lib.ListN.{get_or}
 use Rattle.lists.specs.Lists.{tab}
-use Rattle.lists.proofs.Laws.{tab_at}
-use Rattle.color.specs.declared.Pixel.{Pixel}
-use Rattle.raster.specs.Surface.{run, pixel_in}
-use Rattle.raster.proofs.Pixels.{run_at}
 use Rattle.coverage.specs.Scissors.{scissored, in_scissors}
 
 first_place : (x : ℕ) → x + 0 ≡ x
 first_place x = omega arith
-
-pub one_number : (f : ℕ → ℕ) (c : List ℕ) (n x : ℕ) → n ≡ 1 → c ≡ tab n (λ i. f (x + i)) → get_or c 0 0 ≡ f x
-one_number f c n x e o = ap (λ (l : List ℕ). get_or l 0 0) o ∙ tab_at n (λ i. f (x + i)) 0 0 (omega (arith, e)) ∙ ap f (first_place x)
 
 -- one sample is kept in a scissor only
 kept_in : (t : Bool) → eqb (cond (true && not t) 0 1) 0 ≡ not t
