@@ -21,7 +21,6 @@ pub enum Stop {
     Wrong(Vec<u8>),
     // A file is longer than the longest that is taken.
     TooLong,
-    // The only one by which the program fails.
     OutOfMemory,
 }
 
@@ -77,10 +76,7 @@ pub fn finish(rt: &HostRuntime, outcome: Result<(), Stop>) -> ExitCode {
         Err(Stop::File(name, error)) => tell_file(rt, &name, error),
         Err(Stop::Wrong(told)) => tell(rt, &told),
         Err(Stop::TooLong) => output::print(rt, "limit"),
-        Err(Stop::OutOfMemory) => {
-            tell(rt, b"out of memory\n");
-            return ExitCode::FAILURE;
-        }
+        Err(Stop::OutOfMemory) => tell(rt, b"out of memory\n"),
     }
     ExitCode::SUCCESS
 }

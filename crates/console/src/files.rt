@@ -1,5 +1,6 @@
 // A file, named by an argument.
 ghost use Rattle.std.specs.Prelude.{◌≡◌, ◌+◌, ◌≤◌, IfOk, IfSome, vec_len};
+ghost use Rattle.std.specs.Io.{StartsWith};
 
 use crate::arguments::Arguments;
 use crate::errors::{NO_TEXT, Stop};
@@ -22,7 +23,7 @@ pub fn read(rt: &HostRuntime, arguments: &Arguments, i: usize) -> Result<Option<
     Ok(Some(file))
 }
 
-// Puts the file that argument i names behind the others, at most so many bytes of it, and returns how many.
+// Puts the file that argument i names behind the others, at most so many bytes of it, and returns how many. The others stay, on an error too.
 pub fn append(
     rt: &HostRuntime,
     arguments: &Arguments,
@@ -30,7 +31,8 @@ pub fn append(
     most: usize,
     files: &mut Vec<u8>,
 ) -> Result<usize, Stop>
-    ensures { IfOk result (λ n. vec_len files.new ≡ vec_len files.old + n) }
+    ensures added { IfOk result (λ n. vec_len files.new ≡ vec_len files.old + n) }
+    ensures kept { StartsWith files.new.items files.old.items }
 {
     let source = Source::open(rt, arguments, i)?;
     match source.take(most as u64).read_to_end(files) {
@@ -41,7 +43,8 @@ pub fn append(
 
 // That the file that argument i names cannot be read.
 pub fn failed(rt: &HostRuntime, arguments: &Arguments, i: usize, error: io::Error) -> Stop {
-    if error.kind() == io::ErrorKind::OutOfMemory {
+    // what the system tells has a number, and is told by name
+    if error.raw_os_error().is_none() && error.kind() == io::ErrorKind::OutOfMemory {
         return Stop::OutOfMemory;
     }
     Stop::file(rt.alloc(), arguments.get(i).unwrap_or(b""), error)

@@ -19,14 +19,14 @@ pub struct Cut {
 }
 
 // The first line of a rectangle.
-fn first_line(a: Rect, upright: bool) -> usize
+pub fn first_line(a: Rect, upright: bool) -> usize
     ensures { result ≡ lowest upright a }
 {
     if upright { a.x0 } else { a.y0 }
 }
 
 // The line after its last.
-fn end_line(a: Rect, upright: bool) -> usize
+pub fn end_line(a: Rect, upright: bool) -> usize
     ensures { result ≡ past upright a }
 {
     if upright { a.x1 } else { a.y1 }
@@ -108,7 +108,7 @@ fn side(start: usize, end: usize) -> usize
 }
 
 // The cut of a rectangle, which is that part of a plan, at a line.
-fn cut_at(boxes: &[Rect], a: Rect, part: usize, upright: bool, at: usize) -> Cut
+pub fn cut_at(boxes: &[Rect], a: Rect, part: usize, upright: bool, at: usize) -> Cut
     ensures { (result.part ≡ part) × ((result.upright ≡ upright) × (result.at ≡ at)) }
 {
     let first = pixels(first_part(boxes, a, upright, at));
@@ -122,7 +122,7 @@ fn cut_at(boxes: &[Rect], a: Rect, part: usize, upright: bool, at: usize) -> Cut
 }
 
 // The cut that saves more.
-fn better(a: Option<Cut>, b: Option<Cut>) -> Option<Cut>
+pub fn better(a: Option<Cut>, b: Option<Cut>) -> Option<Cut>
     ensures { result ≡ better_of a b }
 {
     match (a, b) {
