@@ -3,3 +3,4 @@ pub mod Worked
 pub mod Judged
 pub mod Drawn
 pub mod Corners
+pub mod Quotients
