@@ -19,3 +19,7 @@ replaced_byte s d h = omega arith
 -- else it comes out of the quotient, and the rest is divided by sums and shifts
 quotient_of_lem : (s p m : ℕ) → p ≤ 65025 → m ≡ min (s + (p + 128 + (p + 128) / 256) / 256) 255 → m ≡ min 255 (s + (p + 127) / 255)
 quotient_of_lem s p m h e = omega arith
+
+-- B by 16 bits: a sum that is cut at 65,279 has the quotient 255
+pub cut_quotient : (p q m : ℕ) → p ≤ 65025 → m ≡ min q (65279 - (p + 127)) → (p + 127 + m) / 255 ≡ min 255 ((p + q + 127) / 255)
+cut_quotient p q m h e = omega arith

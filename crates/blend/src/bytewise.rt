@@ -8,6 +8,16 @@ ghost use Rattle.blend.specs.Spans.{four_of, keep_pixel, stored_pixel, masked_pi
 use crate::step::{masked_byte, stored_byte};
 use color::Pixel;
 
+// All bytes of a row, by a loop that becomes a call of memcpy: std's copy_from_slice would ask the C library for memmove too.
+pub fn copy_row(src: &[u8], row: &mut [u8])
+    requires { length row.old ≡ length src.now }
+    ensures { row.new ≡ src.now }
+{
+    for i in 0..row.len() {
+        row[i] = src[i];
+    }
+}
+
 // n pixels of a paint that hides what is under it, under one coverage.
 pub fn store_row(coverage: u8, src: &[u8], row: &mut [u8], n: usize)
     requires { (coverage ≤ 16) × (length src.now ≡ n * 4) × (length row.old ≡ n * 4) }

@@ -3,7 +3,7 @@ ghost use Rattle.std.specs.Prelude.{◌≡◌, ◌*◌, ◌≤◌, length, get_o
 ghost use Rattle.raster.specs.Surface.{run, pixel_in};
 ghost use Rattle.blend.specs.PorterDuff.{composite_on};
 
-use crate::bytewise::{masked_row, spread_row};
+use crate::bytewise::{copy_row, masked_row, spread_row};
 use crate::span::composite_painted;
 use crate::step::composite_on;
 
@@ -95,7 +95,7 @@ fn masked_block(
     ensures { row.new
         ≡ run n (λ i. composite_on mode coverage (get_or mask.now i 0) (pixel_in src.now i) (pixel_in row.old i)) }
 {
-    blended.copy_from_slice(row);
+    copy_row(row, blended);
     composite_painted(mode, 16, src, blended, n);
     spread_row(mask, wide, n);
     masked_row(coverage, blended, wide, row, n);

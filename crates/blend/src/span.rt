@@ -5,7 +5,7 @@ ghost use Rattle.blend.specs.PorterDuff.{mode_src_over};
 ghost use Rattle.blend.specs.Unmasked.{unmasked_on};
 ghost use Rattle.blend.specs.Spans.{keep_pixel, stored_pixel, Hiding};
 
-use crate::bytewise::{is_opaque, keep_row, over_row, over_row_under, store_row};
+use crate::bytewise::{copy_row, is_opaque, keep_row, over_row, over_row_under, store_row};
 use crate::factor::{SRC, SRC_OVER, hides};
 use crate::step::{blend_pixel, stored_pixel};
 use color::Pixel;
@@ -90,7 +90,7 @@ fn store_painted(coverage: u8, src: &[u8], row: &mut [u8], n: usize)
     ensures { row.new ≡ run n (λ i. stored_pixel coverage (pixel_in src.now i) (pixel_in row.old i)) }
 {
     if coverage == 16 {
-        row.copy_from_slice(src);
+        copy_row(src, row);
         return;
     }
     store_row(coverage, src, row, n);

@@ -126,6 +126,7 @@ fn clamp(dst: Pixel) -> Pixel
 }
 
 // B. What is divided by 255 may be up to 130,177; from 65,025 on B is 255, so it is cut where the division ends.
+#[tactic(auto, using(crate::proofs::Channel::cut_quotient))]
 fn blended_byte(s: u8, fs: u8, d: u8, fd: u8) -> u8
     ensures { result ≡ blended s fs d fd }
 {

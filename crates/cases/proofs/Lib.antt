@@ -3,4 +3,3 @@ pub mod Worked
 pub mod Judged
 pub mod Drawn
 pub mod Corners
-pub mod Quotients

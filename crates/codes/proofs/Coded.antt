@@ -2,7 +2,7 @@
 use mathlib.Core.Bool.{Bool, true, false, cond}
 use Prim.Native.Nat.{ℕ, zero, suc}
 use lib.Dec.{eqb}
-use Rattle.codes.specs.First.{sooner, soonest}
+use Rattle.codes.specs.First.{sooner}
 
 -- P holds of the code of f: a record, so that f is read off its proof
 pub record Coded (P : ℕ → Type 0) {A : Type 0} (code : A → ℕ) (f : A) : Type 0 where

@@ -6,11 +6,6 @@ use Rattle.codes.specs.Codes.{accepted_code}
 abbrev pub sooner : {A : Type 0} → (A → ℕ) → A → A → A
 sooner code f g = cond (eqb (code f) accepted_code) g f
 
--- the first of f 0, .., f (n - 1)
-abbrev pub soonest : {A : Type 0} → (A → ℕ) → A → ℕ → (ℕ → A) → A
-soonest code none zero f = none
-soonest code none (suc n) f = sooner code (soonest code none n f) (f n)
-
 -- the same of judgements, which refuse or accept: the first refusal of two
 abbrev pub first_of : {E : Type 0} → Result Unit E → Result Unit E → Result Unit E
 first_of (Ok _) g = g

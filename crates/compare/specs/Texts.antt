@@ -1,13 +1,13 @@
 -- A picture's text read back. A reviewer of the paper need not read it.
 use Rattle.std.specs.Prelude.{◌≡◌, Bool, true, false, cond, List, ◌∷◌, ◌++◌, ℕ, ◌+◌, ◌*◌, ◌-◌, ◌/◌, ◌%◌, ◌<◌, leb, ltb, length, get_or}
-use Rattle.std.specs.Fmt.{decimal}
+use Rattle.console.specs.Digits.{IsNumberText}
 use Rattle.lists.specs.Lists.{tab}
 use Rattle.text.specs.Text.{row_text}
 use Rattle.compare.specs.declared.Size.{Size}
 
 -- s is n as it is printed
-abbrev pub Printed : ℕ → List ℕ → Type 0
-Printed n s = s ≡ decimal n
+unfoldable pub Printed : ℕ → List ℕ → Type 0
+Printed n s = IsNumberText 10 1 n s
 
 -- a picture's first line without its newline
 abbrev pub SizeLine : Size → List ℕ → Type 0

@@ -38,7 +38,7 @@ impl<'a> Picture<'a> {
     // The size that the first line has.
     pub fn read_size(&mut self, rt: &HostRuntime) -> Result<Size, Stop> {
         let size = match self.read_line(rt)? {
-            Some(line) => line_size(rt.alloc(), line.as_slice())?,
+            Some(line) => line_size(line.as_slice()),
             None => None,
         };
         match size {

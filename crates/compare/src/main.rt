@@ -14,7 +14,7 @@ ghost use Rattle.std.specs.Prelude.{◌≤◌, IsOk};
 
 use crate::files::Picture;
 use codes::Code;
-use console::arguments::Arguments;
+use console::arguments::{Arguments, argument_count};
 use console::errors::{Stop, finish};
 use console::output::told;
 use console::usage::Manual;
@@ -41,8 +41,8 @@ fn main(rt: HostRuntime) -> ExitCode {
 }
 
 fn compare(rt: &HostRuntime) -> Result<(), Stop> {
+    MANUAL.judge(rt, argument_count(rt) == 3)?;
     let arguments = Arguments::read(rt)?;
-    MANUAL.judge(&arguments, arguments.len() == 3)?;
     let mut first = Picture::open(rt, &arguments, 1)?;
     let mut second = Picture::open(rt, &arguments, 2)?;
     compare_sizes(rt, &mut first, &mut second)

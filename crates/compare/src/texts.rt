@@ -1,44 +1,34 @@
 // The text of a picture read back: its first line, and its rows. What is read is printed again and held to the text.
-ghost use Rattle.std.specs.Prelude.{◌≡◌, ◌*◌, ◌≤◌, length, IfOk, IfSome};
+ghost use Rattle.std.specs.Prelude.{◌≡◌, ◌*◌, ◌≤◌, length, IfSome};
 ghost use Rattle.compare.specs.Texts.{Printed, SizeLine, digit_value, row_bytes, RowRead};
 
 use crate::Size;
-use std::alloc::{AllocError, Global};
+use console::numbers::decimal;
 use std::str;
 use text::PIXEL_TEXT;
 
 // The size in a first line: two numbers with a space between them.
-pub fn line_size(alloc: Global, line: &[u8]) -> Result<Option<Size>, AllocError>
-    ensures { IfOk result (λ r. IfSome r (λ size. SizeLine size line.now)) }
+pub fn line_size(line: &[u8]) -> Option<Size>
+    ensures { IfSome result (λ size. SizeLine size line.now) }
 {
-    let Some(k) = line.iter().position(|&b| b == b' ') else {
-        return Ok(None);
-    };
-    let Some(width) = number(alloc, &line[..k])? else {
-        return Ok(None);
-    };
-    let Some(height) = number(alloc, &line[k + 1..])? else {
-        return Ok(None);
-    };
-    Ok(Some(Size { width, height }))
+    let k = line.iter().position(|&b| b == b' ')?;
+    let width = number(&line[..k])?;
+    let height = number(&line[k + 1..])?;
+    Some(Size { width, height })
 }
 
 // The number that is printed so; one of ten digits or more is taken for none.
-fn number(alloc: Global, text: &[u8]) -> Result<Option<u32>, AllocError>
-    ensures { IfOk result (λ r. IfSome r (λ n. Printed n text.now)) }
+#[tactic(auto, unfolding(crate::specs::Texts::Printed))]
+fn number(text: &[u8]) -> Option<u32>
+    ensures { IfSome result (λ n. Printed n text.now) }
 {
     if 9 < text.len() {
-        return Ok(None);
+        return None;
     }
-    let Some(n) = parsed(text) else {
-        return Ok(None);
-    };
-    let again = n.to_string(alloc)?;
-    if again.as_bytes() == text {
-        Ok(Some(n))
-    } else {
-        Ok(None)
-    }
+    let n = parsed(text)?;
+    let mut again = [0u8; 20];
+    let k = decimal(u64::from(n), &mut again);
+    if &again[..k] == text { Some(n) } else { None }
 }
 
 fn parsed(text: &[u8]) -> Option<u32> {

@@ -1,5 +1,5 @@
 // The program's arguments, as the bytes that they are.
-ghost use Rattle.std.specs.Prelude.{◌≡◌, ◌↔◌, vec_len, IsTrue, IfOk};
+ghost use Rattle.std.specs.Prelude.{◌≡◌, ◌↔◌, ◌≤◌, length, vec_len, IsTrue, IfOk};
 
 use crate::errors::{INVALID, NAME_TOO_LONG};
 use crate::files::name_text;
@@ -99,4 +99,29 @@ pub fn copy(alloc: Global, bytes: &[u8]) -> Result<Vec<u8>, AllocError>
     let mut copy = Vec::new(alloc);
     copy.extend_from_slice(bytes)?;
     Ok(copy)
+}
+
+// For whoever has no memory to ask for: 4,096 zeros, which hold any file's name.
+pub fn buffer() -> [u8; NAME_LIMIT]
+    ensures { length result ≡ 4096 }
+{
+    [0; NAME_LIMIT]
+}
+
+// Puts argument i at the start of the buffer and returns its length, or 0 where it is missing or longer than the buffer. One that is too long
+// leaves its first bytes there.
+pub fn argument(rt: &HostRuntime, i: usize, text: &mut [u8]) -> usize
+    ensures { result ≤ length text.new }
+{
+    rt.arg(i, text).unwrap_or(0)
+}
+
+// How many arguments the program was started with, its own name among them.
+pub fn argument_count(rt: &HostRuntime) -> usize {
+    for i in 0..usize::MAX {
+        if let Err(FillError::NotPresent) = rt.arg(i, &mut []) {
+            return i;
+        }
+    }
+    usize::MAX
 }

@@ -22,6 +22,8 @@ pub enum Stop {
     // A file is longer than the longest that is taken.
     TooLong,
     OutOfMemory,
+    // What is wrong has been told already.
+    Told,
 }
 
 impl Stop {
@@ -70,7 +72,7 @@ impl<T: Drop> From<AllocFailed<T>> for Stop {
 // Tells why a program has stopped, if it has, and ends it.
 pub fn finish(rt: &HostRuntime, outcome: Result<(), Stop>) -> ExitCode {
     match outcome {
-        Ok(()) => {}
+        Ok(()) | Err(Stop::Told) => {}
         Err(Stop::Asked(manual)) => manual.print(rt),
         Err(Stop::Call(what)) => tell(rt, what.as_bytes()),
         Err(Stop::File(name, error)) => tell_file(rt, &name, error),

@@ -1,5 +1,5 @@
 // A file, named by an argument.
-ghost use Rattle.std.specs.Prelude.{◌≡◌, ◌+◌, ◌≤◌, IfOk, IfSome, vec_len};
+ghost use Rattle.std.specs.Prelude.{◌≡◌, ◌+◌, ◌≤◌, IfOk, IfSome, length, vec_len};
 ghost use Rattle.std.specs.Io.{StartsWith};
 
 use crate::arguments::Arguments;
@@ -32,11 +32,28 @@ pub fn append(
     files: &mut Vec<u8>,
 ) -> Result<usize, Stop>
     ensures added { IfOk result (λ n. vec_len files.new ≡ vec_len files.old + n) }
+    ensures bounded { IfOk result (λ n. n ≤ most) }
     ensures kept { StartsWith files.new.items files.old.items }
 {
-    let source = Source::open(rt, arguments, i)?;
-    match source.take(most as u64).read_to_end(files) {
-        Ok(read) => Ok(read),
+    let mut file = vec![in rt.alloc(); 0u8; most]?;
+    let read = load(rt, arguments, i, &mut file)?;
+    files.extend_from_slice(&file[..read])?;
+    Ok(read)
+}
+
+// Puts the file that argument i names at the start of the place, as much of it as the place takes, and returns how much that is. Each read is lent all
+// that is left of the place, so that what comes in packets is not cut.
+pub fn load(
+    rt: &HostRuntime,
+    arguments: &Arguments,
+    i: usize,
+    place: &mut [u8],
+) -> Result<usize, Stop>
+    ensures { IfOk result (λ n. n ≤ length place.new) }
+{
+    let mut source = Source::open(rt, arguments, i)?;
+    match source.fill(place) {
+        Ok(n) => Ok(n),
         Err(error) => Err(failed(rt, arguments, i, error)),
     }
 }
@@ -70,6 +87,23 @@ impl Source {
             Ok(file) => Ok(Source::Named(file)),
             Err(error) => Err(Stop::file(rt.alloc(), arguments.start(i), error)),
         }
+    }
+}
+
+impl Source {
+    // Reads until there is no more, or the place is full.
+    fn fill(&mut self, place: &mut [u8]) -> io::Result<usize>
+        ensures { IfOk result (λ n. n ≤ length place.new) }
+    {
+        let mut n = 0;
+        while n < place.len() {
+            let more = self.read(&mut place[n..])?;
+            if more == 0 {
+                break;
+            }
+            n += more;
+        }
+        Ok(n)
     }
 }
 

@@ -5,8 +5,17 @@
 pub mod arguments;
 pub mod errors;
 pub mod files;
+pub mod lines;
 pub mod numbers;
 pub mod output;
 pub mod pictures;
 pub mod sizes;
 pub mod usage;
+pub mod words;
+
+// A line of output that is put together from left to right, in fixed memory. What does not fit is left out.
+#[derive(Clone, Copy)]
+pub struct Line {
+    pub bytes: [u8; 160],
+    pub length: usize,
+}

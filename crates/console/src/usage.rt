@@ -1,9 +1,9 @@
 // How a program is called.
 ghost use Rattle.std.specs.Prelude.{IsTrue, IsOk};
 
-use crate::arguments::Arguments;
 use crate::errors::Stop;
 use crate::output;
+use crate::words::is_word;
 
 // How a program is called, and what it does.
 #[derive(Clone, Copy)]
@@ -13,11 +13,11 @@ pub struct Manual {
 }
 
 impl Manual {
-    // Stops the program where it was not called in the right way, or asked with its first argument how it is called.
-    pub fn judge(self, arguments: &Arguments, is_right: bool) -> Result<(), Stop>
+    // Stops the program where it was not called in the right way, or asked with its first argument how it is called. No memory is asked for.
+    pub fn judge(self, rt: &HostRuntime, is_right: bool) -> Result<(), Stop>
         ensures { IsOk result → IsTrue is_right }
     {
-        if arguments.is(1, b"--help") || arguments.is(1, b"-h") {
+        if is_word(rt, 1, b"--help") || is_word(rt, 1, b"-h") {
             return Err(Stop::Asked(self));
         }
         if is_right {

@@ -2,7 +2,7 @@
 #![tactic(auto)]
 
 use codes::ACCEPTED;
-use console::arguments::Arguments;
+use console::arguments::{Arguments, argument_count};
 use console::errors::{Stop, finish};
 use console::files;
 use console::numbers::Code;
@@ -24,8 +24,8 @@ fn main(rt: HostRuntime) -> ExitCode {
 }
 
 fn run(rt: &HostRuntime) -> Result<(), Stop> {
+    MANUAL.judge(rt, argument_count(rt) == 2)?;
     let arguments = Arguments::read(rt)?;
-    MANUAL.judge(&arguments, arguments.len() == 2)?;
     let scene = files::read(rt, &arguments, 1)?.ok_or(Stop::TooLong)?;
     draw(rt, &scene)
 }

@@ -1,14 +1,15 @@
 // A draw's bytes, decoded once for all of its rows.
-ghost use Rattle.std.specs.Prelude.{◌≡◌, ◌≤◌, length};
+ghost use Rattle.std.specs.Prelude.{◌≡◌, ◌≤◌, ◌<◌, length};
 ghost use Rattle.paint.specs.Buffers.{ramp_numbers};
+ghost use Rattle.paint.specs.Circles.{HeldGradient};
 ghost use Rattle.paint.specs.declared.Paint.TheVariants.{Linear, Radial};
 ghost use Rattle.scene.specs.Layout.{draw_bytes};
 ghost use Rattle.scene.specs.Fields.{paint_of};
 ghost use Rattle.scene.specs.Accepted.{AcceptedFields};
-ghost use Rattle.engine.specs.Rows.{style_of, Tints, Shades, MadeRamp, MadeLinear, MadeRadial};
+ghost use Rattle.engine.specs.Rows.{style_of, tinted_by, gradient_tinted, shade_at, Shaded, Tints, Shades, MadeRamp, MadeLinear, MadeRadial};
 
-use crate::shading::tinted;
 use crate::{Shade, Style, TintedGradient};
+use color::Pixel;
 use paint::{AnyGradient, LinearGradient, LinearPoints, Paint, RadialGradient, RadialPoints};
 use transform::FixedTransform;
 
@@ -101,4 +102,43 @@ fn make_ramp(d: &[u8], ramp: &mut [u32]) -> usize
         scene::fields::ramp_premultiplied(d),
         ramp,
     )
+}
+
+impl Shade {
+    // The paint of one pixel, as whoever goes pixel by pixel asks for it.
+    pub fn pixel(self, ramp: &[u32], x: usize, y: usize) -> Pixel
+        requires shaded { Shaded self ramp.now }
+        requires x_bound { (x < 1024) × (y < 1024) }
+        ensures { result ≡ shade_at self ramp.now x y }
+    {
+        match self {
+            Shade::Solid(p) => p,
+            Shade::Gradient(g) => g.pixel(ramp, x, y),
+        }
+    }
+}
+
+impl TintedGradient {
+    // The same of a gradient: its colour there, and then that pixel's colour transformation.
+    fn pixel(self, ramp: &[u32], x: usize, y: usize) -> Pixel
+        requires held_gradient { HeldGradient self.gradient ramp.now }
+        requires x_bound { (x < 1024) × (y < 1024) }
+        ensures { result ≡ gradient_tinted self ramp.now x y }
+    {
+        let gradient = self.gradient;
+        let tint = self.tint;
+        let mut color = [0u8; 4];
+        paint::row::gradient_row(gradient, ramp, x, y, 1, &mut color);
+        tinted(tint, raster::pixel(&color, 0))
+    }
+}
+
+// A pixel, by the colour transformation.
+pub fn tinted(tint: Option<FixedTransform>, p: Pixel) -> Pixel
+    ensures { result ≡ tinted_by tint p }
+{
+    match tint {
+        None => p,
+        Some(t) => transform::transform_pixel(t, p),
+    }
 }

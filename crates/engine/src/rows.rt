@@ -86,9 +86,9 @@ impl Style {
 
 // A draw on a rectangle of the surface.
 #[derive(Clone, Copy)]
-struct FillArea<'a> {
-    brush: Brush<'a>,
-    target: Target,
+pub struct FillArea<'a> {
+    pub brush: Brush<'a>,
+    pub target: Target,
     ghost masked: { MaskFor brush.style.masked (target.height * target.width) brush.mask.now },
 }
 
@@ -223,9 +223,9 @@ fn mask_bytes(masked: bool, row: Range) -> Range
 
 // The same on a row, with the mask's bytes of its pixels.
 #[derive(Clone, Copy)]
-struct FillRow<'a> {
-    brush: Brush<'a>,
-    strip: Strip,
+pub struct FillRow<'a> {
+    pub brush: Brush<'a>,
+    pub strip: Strip,
     ghost masked: { MaskFor brush.style.masked strip.length brush.mask.now },
 }
 

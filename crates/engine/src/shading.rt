@@ -5,7 +5,6 @@ ghost use Rattle.paint.specs.Circles.{HeldGradient};
 ghost use Rattle.engine.specs.Rows.{tinted_by, gradient_tinted, shade_at, Shaded};
 
 use crate::{Shade, Strip, TintedGradient};
-use color::Pixel;
 use transform::FixedTransform;
 
 impl Shade {
@@ -33,16 +32,6 @@ impl TintedGradient {
         let tint = self.tint;
         paint::row::gradient_row(gradient, ramp, strip.x, strip.y, strip.length, paints);
         tint_row(tint, paints, strip.length);
-    }
-}
-
-// A pixel, by the colour transformation.
-pub fn tinted(tint: Option<FixedTransform>, p: Pixel) -> Pixel
-    ensures { result ≡ tinted_by tint p }
-{
-    match tint {
-        None => p,
-        Some(t) => transform::transform_pixel(t, p),
     }
 }
 

@@ -10,7 +10,7 @@ ghost use Rattle.engine.specs.Rows.{gradient_tinted, levels, RowCoverage};
 ghost use Rattle.engine.specs.Spans.{Uncovered};
 ghost use Rattle.engine.specs.Props.{held_prop};
 
-use crate::shading::tinted;
+use crate::decode::tinted;
 use crate::{Strip, TintedGradient};
 use paint::{AnyGradient, LinearGradient};
 use raster::Range;

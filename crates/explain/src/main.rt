@@ -7,9 +7,9 @@ mod printing;
 
 use crate::numbers::coordinate;
 use crate::printing::Question;
-use console::arguments::Arguments;
+use console::arguments::{Arguments, argument_count};
 use console::errors::{Stop, finish};
-use console::files::{append, read};
+use console::files::{load, read};
 use console::usage::Manual;
 use std::process::ExitCode;
 
@@ -29,20 +29,23 @@ fn main(rt: HostRuntime) -> ExitCode {
 }
 
 fn explain(rt: &HostRuntime) -> Result<(), Stop> {
+    let count = argument_count(rt);
+    let masked = count == 5;
+    MANUAL.judge(rt, masked || count == 4)?;
     let arguments = Arguments::read(rt)?;
-    let masked = arguments.len() == 5;
-    MANUAL.judge(&arguments, masked || arguments.len() == 4)?;
     let x = coordinate(rt, &arguments, 2)?;
     let y = coordinate(rt, &arguments, 3)?;
     let scene = read(rt, &arguments, 1)?.ok_or(Stop::TooLong)?;
-    let mut mask = Vec::new(rt.alloc());
-    if masked {
-        append(rt, &arguments, 4, MASK_LIMIT, &mut mask)?;
-    }
+    let mut mask = vec![in rt.alloc(); 0u8; if masked { MASK_LIMIT } else { 0 }]?;
+    let n = if masked {
+        load(rt, &arguments, 4, &mut mask)?
+    } else {
+        0
+    };
     let question = Question {
         scene: scene.as_slice(),
         masked,
-        mask: mask.as_slice(),
+        mask: &mask[..n],
         x,
         y,
     };

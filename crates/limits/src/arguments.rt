@@ -5,15 +5,21 @@ ghost use Rattle.limits.specs.Digits.{number_of, with_digit};
 use crate::calls::Call;
 use console::arguments::Arguments;
 use console::errors::Stop;
-use console::files::read;
+use console::files::load;
 
 // The largest sizes.
-const SURFACE_BYTES: usize = 1048576;
+pub const SURFACE_BYTES: usize = 1048576;
 
-const SCRATCH_NUMBERS: usize = 16384;
+pub const SCRATCH_NUMBERS: usize = 16384;
 
-// The call that starts at argument i, with its files.
-pub fn read_call(rt: &HostRuntime, arguments: &Arguments, i: usize) -> Result<Call, Stop>
+// The call that starts at argument i, with its files, which are put in old and new.
+pub fn read_call<'a>(
+    rt: &HostRuntime,
+    arguments: &Arguments,
+    i: usize,
+    old: &'a mut [u8],
+    new: &'a mut [u8],
+) -> Result<Call<'a>, Stop>
     requires { i < vec_len arguments.now.all }
     ensures { IfOk result (λ call. i < call.end) }
 {
@@ -22,36 +28,42 @@ pub fn read_call(rt: &HostRuntime, arguments: &Arguments, i: usize) -> Result<Ca
         if rest < 4 {
             return Err(wrong(rt, arguments, i, b" takes FILE SURFACE ROOM\n"));
         }
-        let new = file(rt, arguments, i + 1)?;
+        let new = file(rt, arguments, i + 1, new)?;
         sized(rt, arguments, i + 4, None, new)
     } else if arguments.is(i, b"redraw") {
         if rest < 5 {
             return Err(wrong(rt, arguments, i, b" takes OLD NEW SURFACE ROOM\n"));
         }
-        let old = file(rt, arguments, i + 1)?;
-        let new = file(rt, arguments, i + 2)?;
+        let old = file(rt, arguments, i + 1, old)?;
+        let new = file(rt, arguments, i + 2, new)?;
         sized(rt, arguments, i + 5, Some(old), new)
     } else {
         Err(wrong(rt, arguments, i, b" is neither draw nor redraw\n"))
     }
 }
 
-// The file that argument i names.
-fn file(rt: &HostRuntime, arguments: &Arguments, i: usize) -> Result<Vec<u8>, Stop> {
-    match read(rt, arguments, i)? {
-        Some(file) => Ok(file),
-        None => Err(wrong(rt, arguments, i, b" is too long\n")),
+// The file that argument i names, in a place that it does not fill.
+fn file<'a>(
+    rt: &HostRuntime,
+    arguments: &Arguments,
+    i: usize,
+    place: &'a mut [u8],
+) -> Result<&'a [u8], Stop> {
+    let n = load(rt, arguments, i, place)?;
+    if n == place.len() {
+        return Err(wrong(rt, arguments, i, b" is too long\n"));
     }
+    Ok(&place[..n])
 }
 
 // The call with the sizes that its last two arguments are.
-fn sized(
+fn sized<'a>(
     rt: &HostRuntime,
     arguments: &Arguments,
     end: usize,
-    old: Option<Vec<u8>>,
-    new: Vec<u8>,
-) -> Result<Call, Stop>
+    old: Option<&'a [u8]>,
+    new: &'a [u8],
+) -> Result<Call<'a>, Stop>
     requires { 2 ≤ end }
     ensures { IfOk result (λ call. call.end ≡ end) }
 {
@@ -95,7 +107,7 @@ fn size(
 }
 
 // The number that these bytes are, of nine digits at most behind its zeros.
-fn number(text: &[u8]) -> Option<usize>
+pub fn number(text: &[u8]) -> Option<usize>
     ensures { result ≡ number_of text.now }
 {
     if text.is_empty() {

@@ -1,51 +1,59 @@
 // The renderer's calls, and what they leave.
 ghost use Rattle.std.specs.Prelude.{◌≡◌, ◌≤◌, length, option_map};
+ghost use Rattle.lists.specs.Lists.{over};
 ghost use Rattle.render.specs.Answers.{no_mask, draw_surface, draw_scratch};
 ghost use Rattle.limits.specs.Calls.{bytes, numbers, call_answer, call_surface, call_other, call_scratch, surface_left, other_left, scratch_left};
 
 use crate::patterns::{fill_bytes, fill_numbers, is_pattern, is_zero};
 use codes::ACCEPTED;
 use console::arguments::Arguments;
-use console::errors::Stop;
 use console::output::told;
 use render::Answer;
 
 // A call: where its arguments end, its files, and the sizes of what it is lent. A drawing has no old file.
-#[derive(Drop)]
-pub struct Call {
+#[derive(Clone, Copy)]
+pub struct Call<'a> {
     pub end: usize,
-    pub old: Option<Vec<u8>>,
-    pub new: Vec<u8>,
+    pub old: Option<&'a [u8]>,
+    pub new: &'a [u8],
     pub surface: usize,
     pub scratch: usize,
     ghost sized: { (surface ≤ 1048576) × (scratch ≤ 16384) },
 }
 
-impl Call {
-    // Runs the call, which starts at argument i, and prints its line.
-    pub fn run(self, rt: &HostRuntime, arguments: &Arguments, i: usize) -> Result<(), Stop> {
-        let mut surface = vec![in rt.alloc(); 0u8; self.surface]?;
-        let mut other = vec![in rt.alloc(); 0u8; self.surface]?;
-        let mut scratch = vec![in rt.alloc(); 0i32; self.scratch]?;
+impl Call<'_> {
+    // Runs the call, which starts at argument i, and prints its line. What it is not lent stays as it is.
+    pub fn run(
+        self,
+        rt: &HostRuntime,
+        arguments: &Arguments,
+        i: usize,
+        surface: &mut [u8],
+        other: &mut [u8],
+        scratch: &mut [i32],
+    )
+        requires { (self.surface ≤ length surface.old) × (self.surface ≤ length other.old) × (self.scratch ≤ length scratch.old) }
+        ensures surface_after { surface.new
+            ≡ over (surface_left (option_map (λ o. o.now) self.entry.old) self.entry.new.now self.entry.surface self.entry.scratch) surface.old }
+        ensures other_after { other.new
+            ≡ over (other_left (option_map (λ o. o.now) self.entry.old) self.entry.new.now self.entry.surface self.entry.scratch) other.old }
+        ensures scratch_after { scratch.new
+            ≡ over (scratch_left (option_map (λ o. o.now) self.entry.old) self.entry.new.now self.entry.surface self.entry.scratch) scratch.old }
+    {
         print_words(rt, arguments, i, self.end);
-        let old = match &self.old {
-            Some(old) => Some(old.as_slice()),
-            None => None,
-        };
         run_lent(
             rt,
-            old,
-            self.new.as_slice(),
-            surface.as_mut_slice(),
-            other.as_mut_slice(),
-            scratch.as_mut_slice(),
+            self.old,
+            self.new,
+            &mut surface[..self.surface],
+            &mut other[..self.surface],
+            &mut scratch[..self.scratch],
         );
-        Ok(())
     }
 }
 
 // Prints the arguments of a call, with a space between two of them. Why these bytes cannot be written is told with the line's other part.
-fn print_words(rt: &HostRuntime, arguments: &Arguments, from: usize, to: usize) {
+pub fn print_words(rt: &HostRuntime, arguments: &Arguments, from: usize, to: usize) {
     for i in from..to {
         if from < i {
             let _ = rt.write_all(b" ");

@@ -21,7 +21,7 @@ const HORIZONTAL: u8 = 6;
 const VERTICAL: u8 = 8;
 
 // The largest size of a point on the surface.
-const FAR: i32 = 8388608;
+pub const FAR: i32 = 8388608;
 
 // The box of no points: its least corner lies far out, and its greatest on the other side.
 pub const NOTHING: Edge = Edge {

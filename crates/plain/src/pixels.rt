@@ -9,7 +9,7 @@ ghost use Rattle.plain.specs.Asked.{step_at, pixelwise};
 use crate::samples::Outline;
 use crate::scissors::scissor_pixel;
 use color::Pixel;
-use engine::{Brush, Strip};
+use engine::Brush;
 
 // A draw, and the scratch in which its edges lie.
 #[derive(Clone, Copy)]
@@ -68,14 +68,12 @@ impl LaidDraw<'_> {
         blend::step::composite_pixel(style.mode, k as u8, m, paint, p)
     }
 
-    // The premultiplied paint of the pixel (x, y): a row of one pixel.
+    // The premultiplied paint of the pixel (x, y).
     fn paint(&self, x: usize, y: usize) -> Pixel
         requires { (x < 1024) × (y < 1024) }
         ensures { result ≡ shade_at self.now.brush.style.shade self.now.brush.ramp.now x y }
     {
-        let mut row = [0u8; 4];
         let shade = self.brush.style.shade;
-        shade.row(self.brush.ramp, Strip { x, y, length: 1 }, &mut row);
-        raster::pixel(&row, 0)
+        shade.pixel(self.brush.ramp, x, y)
     }
 }

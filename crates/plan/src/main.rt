@@ -2,7 +2,7 @@
 #![tactic(auto)]
 
 use codes::ACCEPTED;
-use console::arguments::Arguments;
+use console::arguments::{Arguments, argument_count};
 use console::errors::{Stop, finish};
 use console::files;
 use console::numbers::Code;
@@ -25,8 +25,8 @@ fn main(rt: HostRuntime) -> ExitCode {
 
 // Where a file cannot be read it does not matter how long the other is.
 fn run(rt: &HostRuntime) -> Result<(), Stop> {
+    MANUAL.judge(rt, argument_count(rt) == 3)?;
     let arguments = Arguments::read(rt)?;
-    MANUAL.judge(&arguments, arguments.len() == 3)?;
     let old = files::read(rt, &arguments, 1)?;
     let new = files::read(rt, &arguments, 2)?;
     print_plan(rt, &old.ok_or(Stop::TooLong)?, &new.ok_or(Stop::TooLong)?);

@@ -5,18 +5,15 @@ ghost use Rattle.scene.specs.Accepted.{AcceptedFields};
 ghost use Rattle.engine.specs.Picture.{draw_paint};
 
 use color::Pixel;
-use engine::Strip;
 use paint::build::RAMP_NUMBERS;
 
-// The paint's premultiplied bytes at the pixel (x, y): a strip of one pixel.
+// The paint's premultiplied bytes at the pixel (x, y).
 pub fn paint_at(d: &[u8], x: usize, y: usize) -> Pixel
     requires d_len { (length d.now ≡ draw_bytes) × AcceptedFields d.now }
     requires x_bound { (x < 1024) × (y < 1024) }
     ensures { result ≡ draw_paint d.now x y }
 {
     let mut ramp = [0u32; RAMP_NUMBERS];
-    let mut bytes = [0u8; 4];
     let shade = engine::decode::shade(d, &mut ramp);
-    shade.row(&ramp, Strip { x, y, length: 1 }, &mut bytes);
-    raster::pixel(&bytes, 0)
+    shade.pixel(&ramp, x, y)
 }

@@ -13,7 +13,7 @@ ghost use Rattle.std.specs.Prelude.{IfSome};
 ghost use Rattle.console.specs.Sizes.{Allowed};
 
 use codes::ACCEPTED;
-use console::arguments::Arguments;
+use console::arguments::{Arguments, argument_count};
 use console::errors::{Stop, finish};
 use console::files;
 use console::numbers::Code;
@@ -46,19 +46,20 @@ fn main(rt: HostRuntime) -> ExitCode {
 
 // The files are read one behind the other.
 fn run(rt: &HostRuntime) -> Result<(), Stop> {
+    MANUAL.judge(rt, 2 <= argument_count(rt))?;
     let arguments = Arguments::read(rt)?;
-    MANUAL.judge(&arguments, 2 <= arguments.len())?;
-    let mut scenes = Vec::new(rt.alloc());
+    let mut scenes = vec![in rt.alloc(); 0u8; RUN_LIMIT + 1]?;
     let mut lengths = Vec::new(rt.alloc());
+    let mut end = 0;
     for i in 1..arguments.len().min(SCENES + 1) {
-        let most = (RUN_LIMIT + 1).saturating_sub(scenes.len());
-        let read = files::append(rt, &arguments, i, most, &mut scenes)?;
-        lengths.push(u32::try_from(read).unwrap_or(u32::MAX))?;
+        let read = files::load(rt, &arguments, i, &mut scenes[end..])?;
+        lengths.push(read as u32)?;
+        end += read;
     }
-    if RUN_LIMIT < scenes.len() {
+    if RUN_LIMIT < end {
         return Err(Stop::TooLong);
     }
-    replay(rt, &scenes, &lengths)
+    replay(rt, &scenes[..end], &lengths)
 }
 
 fn replay(rt: &HostRuntime, scenes: &[u8], lengths: &[u32]) -> Result<(), Stop> {

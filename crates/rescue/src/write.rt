@@ -9,6 +9,7 @@ ghost use Rattle.rescue.specs.Salvaged.{draw_span, salvaged_draw, salvaged_scene
 use crate::Salvaged;
 use crate::fresh::put_empty;
 use crate::judge::salvage_verdict;
+use blend::bytewise::copy_row;
 use codes::ACCEPTED;
 use scene::header::count;
 use scene::layout::{BLOCK_BYTES, DRAW_BLOCKS};
@@ -46,7 +47,7 @@ fn write_scene(s: &[u8], n: usize, out: &mut [u8])
     requires { (n ≡ count_of s.now) × (n ≤ draw_limit) × (length s.now ≡ block_bytes * block_of n) × (length out.old ≡ length s.now) }
     ensures { out.new ≡ salvaged_scene s.now }
 {
-    out[0..BLOCK_BYTES].copy_from_slice(&s[0..BLOCK_BYTES]);
+    copy_row(&s[0..BLOCK_BYTES], &mut out[0..BLOCK_BYTES]);
     let end = out.len();
     write_draws(s, n, &mut out[BLOCK_BYTES..end]);
 }
@@ -69,7 +70,7 @@ fn write_draw(s: &[u8], i: usize, out: &mut [u8])
 {
     if draw_fault(s, i, true).is_ok() {
         let at = BLOCK_BYTES * (1 + DRAW_BLOCKS * i);
-        out.copy_from_slice(&s[at..at + DRAW_SPAN]);
+        copy_row(&s[at..at + DRAW_SPAN], out);
     } else {
         put_empty(i, out);
     }

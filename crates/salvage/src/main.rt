@@ -8,8 +8,8 @@
 #![tactic(auto)]
 
 use codes::ACCEPTED;
-use console::arguments::{Arguments, copy};
-use console::errors::{NAME_TOO_LONG, Stop, finish};
+use console::arguments::{Arguments, argument_count, copy};
+use console::errors::{NAME_TOO_LONG, Stop, finish, tell_file};
 use console::files;
 use console::files::name_text;
 use console::numbers::Code;
@@ -39,8 +39,8 @@ fn main(rt: HostRuntime) -> ExitCode {
 }
 
 fn run(rt: &HostRuntime) -> Result<(), Stop> {
+    MANUAL.judge(rt, argument_count(rt) == 3)?;
     let arguments = Arguments::read(rt)?;
-    MANUAL.judge(&arguments, arguments.len() == 3)?;
     if arguments.is(2, b"-") {
         return Err(Stop::Call("OUT: a file that is replaced cannot be -\n"));
     }
@@ -68,39 +68,51 @@ fn write_out(rt: &HostRuntime, arguments: &Arguments, bytes: &[u8]) -> Result<()
     }
     let mut other = copy(rt.alloc(), name)?;
     other.extend_from_slice(b".new")?;
-    match replace_file(rt, name, &other, bytes) {
-        Ok(()) => Ok(()),
-        Err(error) => Err(Stop::file(rt.alloc(), &other, error)),
-    }
+    replace_file(rt, name, &other, bytes)
 }
 
 // The bytes under the other name, which must be free; then they take the name. What cannot take it is removed.
-fn replace_file(rt: &HostRuntime, name: &[u8], other: &[u8], bytes: &[u8]) -> io::Result<()> {
-    let name = name_text(name)?;
-    let other = name_text(other)?;
-    let file = File::options()
+fn replace_file(rt: &HostRuntime, name: &[u8], other: &[u8], bytes: &[u8]) -> Result<(), Stop> {
+    let file = match open_new(rt, other) {
+        Ok(file) => file,
+        Err(error) => return Err(Stop::file(rt.alloc(), other, error)),
+    };
+    match write_and_rename(rt, file, name, other, bytes) {
+        Ok(()) => Ok(()),
+        Err(error) => {
+            // told while the other file is still there
+            tell_file(rt, other, error);
+            remove(rt, other);
+            Err(Stop::Told)
+        }
+    }
+}
+
+fn open_new(rt: &HostRuntime, other: &[u8]) -> io::Result<File> {
+    File::options()
         .write(true)
         .create_new(true)
-        .open(rt, other)?;
-    let replaced = write_and_rename(rt, file, name, other, bytes);
-    if replaced.is_err() {
+        .open(rt, name_text(other)?)
+}
+
+fn remove(rt: &HostRuntime, other: &[u8]) {
+    if let Ok(other) = name_text(other) {
         let _ = fs::remove_file(rt, other);
     }
-    replaced
 }
 
 // Writes the bytes through to the disk, and closes the file before it is renamed.
 fn write_and_rename(
     rt: &HostRuntime,
     mut file: File,
-    name: &str,
-    other: &str,
+    name: &[u8],
+    other: &[u8],
     bytes: &[u8],
 ) -> io::Result<()> {
     file.write_all(bytes)?;
     file.sync_all()?;
     drop(file);
-    fs::rename(rt, other, name)
+    fs::rename(rt, name_text(other)?, name_text(name)?)
 }
 
 // How many were replaced, then the number and the code of each.

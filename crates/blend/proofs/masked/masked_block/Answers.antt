@@ -14,5 +14,5 @@ returns c =
     let spread = c.spread_row in
     masked_pixels a.n a.mode a.coverage a.mask.now a.src.now a.row.now made.new.row spread.new.wide _
     (made.ensures
-    ∙ ap (λ (d : List ℕ). run a.n (λ i. unmasked_on a.mode 16 (pixel_in a.src.now i) (pixel_in d i))) c.copy_from_slice.ensures.after)
+    ∙ ap (λ (d : List ℕ). run a.n (λ i. unmasked_on a.mode 16 (pixel_in a.src.now i) (pixel_in d i))) c.copy_row.ensures)
     spread.ensures c.masked_row.ensures

@@ -10,6 +10,6 @@ pub returns-then-coverage-eq16 : goal.returns-then-coverage-eq16
 returns-then-coverage-eq16 c =
     let a = c.args in
     rw c.if-coverage-eq16.true
-    (c.copy_from_slice.ensures.after
+    (c.copy_row.ensures
     ∙ run_is a.n (λ i. stored_pixel 16 (pixel_in a.src.now i) (pixel_in a.row.now i)) a.src.now c.requires.1
     (λ i l. sym (covered_stores (pixel_in a.src.now i) (pixel_in a.row.now i))))

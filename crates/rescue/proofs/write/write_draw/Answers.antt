@@ -11,7 +11,7 @@ pub returns-then-is_ok : goal.returns-then-is_ok
 returns-then-is_ok c =
     let a = c.args in
     let at = block_bytes * block_of a.i in
-    c.copy_from_slice.ensures.after
+    c.copy_row.ensures
     ∙ kept_blocks a.s.now a.i (at + draw_span - at) (kept_told a.s.now a.i _ c.draw_fault.ensures (sym c.is_ok.ensures.value ∙ c.if-is_ok.true)) (omega arith)
 
 pub returns-else-is_ok : goal.returns-else-is_ok

@@ -1,8 +1,8 @@
--- `shading::tinted` meets its contract.
+-- `decode::tinted` meets its contract.
 use mathlib.Core.Path.{◌∙◌}
 use Rattle.engine.specs.Rows.{tinted_by}
 use borrow.Author.Rules.{rules}
-use Rattle.engine.proofs.shading.tinted.Goals as goal
+use Rattle.engine.proofs.decode.tinted.Goals as goal
 
 pub returns-in-None : goal.returns-in-None
 unfolding tinted_by

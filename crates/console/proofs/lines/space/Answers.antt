@@ -1,0 +1,10 @@
+use borrow.Author.Tests.{eq-eqb, ne_eqb}
+use Rattle.console.proofs.lines.space.Goals as goal
+
+pub returns-then-l-eq0 : goal.returns-then-l-eq0
+returns-then-l-eq0 c =
+    rw (eq-eqb _ _ c.if-l-eq0.true)
+
+pub returns-else-l-eq0 : goal.returns-else-l-eq0
+returns-else-l-eq0 c =
+    rw (ne_eqb _ _ c.if-l-eq0.false) c.byte.ensures
