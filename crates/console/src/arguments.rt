@@ -25,8 +25,13 @@ pub struct Arguments {
 
 impl Arguments {
     pub fn read(rt: &HostRuntime) -> Result<Arguments, AllocError> {
+        Arguments::part(rt, 0, usize::MAX)
+    }
+
+    // Some of them, from one on and so many at most. The first of these is argument 0 of the part.
+    pub fn part(rt: &HostRuntime, from: usize, most: usize) -> Result<Arguments, AllocError> {
         let mut all = Vec::new(rt.alloc());
-        for i in 0..usize::MAX {
+        for i in from..from.saturating_add(most) {
             let Some(word) = read_word(rt, i)? else {
                 break;
             };
@@ -58,11 +63,6 @@ impl Arguments {
     // Whether argument i is that word.
     pub fn is(&self, i: usize, word: &[u8]) -> bool {
         self.get(i) == Some(word)
-    }
-
-    // Whether an argument besides i is that word too. The program's name does not count.
-    pub fn has_other(&self, i: usize, word: &[u8]) -> bool {
-        (1..self.len()).any(|k| k != i && self.is(k, word))
     }
 
     // Argument i as the name of a file, which is text.

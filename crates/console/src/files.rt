@@ -2,8 +2,9 @@
 ghost use Rattle.std.specs.Prelude.{◌≡◌, ◌+◌, ◌≤◌, IfOk, IfSome, length, vec_len};
 ghost use Rattle.std.specs.Io.{StartsWith};
 
-use crate::arguments::Arguments;
+use crate::arguments::{Arguments, argument_count};
 use crate::errors::{NO_TEXT, Stop};
+use crate::words::is_word;
 use std::fs::File;
 use std::io::{Read, Stdin};
 use std::{fs, io};
@@ -35,8 +36,9 @@ pub fn append(
     ensures bounded { IfOk result (λ n. n ≤ most) }
     ensures kept { StartsWith files.new.items files.old.items }
 {
+    let mut source = Source::open(rt, arguments, i)?;
     let mut file = vec![in rt.alloc(); 0u8; most]?;
-    let read = load(rt, arguments, i, &mut file)?;
+    let read = fill(rt, arguments, i, &mut source, &mut file)?;
     files.extend_from_slice(&file[..read])?;
     Ok(read)
 }
@@ -52,6 +54,19 @@ pub fn load(
     ensures { IfOk result (λ n. n ≤ length place.new) }
 {
     let mut source = Source::open(rt, arguments, i)?;
+    fill(rt, arguments, i, &mut source, place)
+}
+
+// The same of a file that is open.
+fn fill(
+    rt: &HostRuntime,
+    arguments: &Arguments,
+    i: usize,
+    source: &mut Source,
+    place: &mut [u8],
+) -> Result<usize, Stop>
+    ensures { IfOk result (λ n. n ≤ length place.new) }
+{
     match source.fill(place) {
         Ok(n) => Ok(n),
         Err(error) => Err(failed(rt, arguments, i, error)),
@@ -78,7 +93,7 @@ impl Source {
     // Opens the file that argument i names, where `-` is standard input. It has one end, so it cannot be two files.
     pub fn open(rt: &HostRuntime, arguments: &Arguments, i: usize) -> Result<Source, Stop> {
         if arguments.is(i, b"-") {
-            if arguments.has_other(i, b"-") {
+            if is_input_twice(rt) {
                 return Err(Stop::Call("-: standard input can be one file only\n"));
             }
             return Ok(Source::Input(rt.stdin()));
@@ -105,6 +120,20 @@ impl Source {
         }
         Ok(n)
     }
+}
+
+// Whether more than one argument is `-`. The program's name does not count.
+fn is_input_twice(rt: &HostRuntime) -> bool {
+    let mut is_given = false;
+    for i in 1..argument_count(rt) {
+        if is_word(rt, i, b"-") {
+            if is_given {
+                return true;
+            }
+            is_given = true;
+        }
+    }
+    false
 }
 
 fn open_file(rt: &HostRuntime, arguments: &Arguments, i: usize) -> io::Result<File> {

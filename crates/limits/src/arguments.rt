@@ -5,20 +5,20 @@ ghost use Rattle.limits.specs.Digits.{number_of, with_digit};
 use crate::calls::Call;
 use console::arguments::Arguments;
 use console::errors::Stop;
-use console::files::load;
+use console::files::{FILE_LIMIT, append};
 
 // The largest sizes.
-pub const SURFACE_BYTES: usize = 1048576;
+const SURFACE_BYTES: usize = 1048576;
 
-pub const SCRATCH_NUMBERS: usize = 16384;
+const SCRATCH_NUMBERS: usize = 16384;
 
 // The call that starts at argument i, with its files, which are put in old and new.
 pub fn read_call<'a>(
     rt: &HostRuntime,
     arguments: &Arguments,
     i: usize,
-    old: &'a mut [u8],
-    new: &'a mut [u8],
+    old: &'a mut Vec<u8>,
+    new: &'a mut Vec<u8>,
 ) -> Result<Call<'a>, Stop>
     requires { i < vec_len arguments.now.all }
     ensures { IfOk result (λ call. i < call.end) }
@@ -42,18 +42,18 @@ pub fn read_call<'a>(
     }
 }
 
-// The file that argument i names, in a place that it does not fill.
+// The file that argument i names, in an empty place.
 fn file<'a>(
     rt: &HostRuntime,
     arguments: &Arguments,
     i: usize,
-    place: &'a mut [u8],
+    place: &'a mut Vec<u8>,
 ) -> Result<&'a [u8], Stop> {
-    let n = load(rt, arguments, i, place)?;
-    if n == place.len() {
+    append(rt, arguments, i, FILE_LIMIT + 1, place)?;
+    if FILE_LIMIT < place.len() {
         return Err(wrong(rt, arguments, i, b" is too long\n"));
     }
-    Ok(&place[..n])
+    Ok(place.as_slice())
 }
 
 // The call with the sizes that its last two arguments are.

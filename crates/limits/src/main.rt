@@ -11,15 +11,16 @@ mod arguments;
 mod calls;
 mod patterns;
 
-ghost use Rattle.std.specs.Prelude.{◌≤◌, length};
-
-use crate::arguments::{SCRATCH_NUMBERS, SURFACE_BYTES, read_call};
+use crate::arguments::read_call;
+use crate::calls::Call;
 use console::arguments::{Arguments, argument_count};
 use console::errors::{Stop, finish};
-use console::files::FILE_LIMIT;
 use console::output::print;
 use console::usage::Manual;
 use std::process::ExitCode;
+
+// The most words that a call has.
+const WORDS: usize = 5;
 
 const MANUAL: Manual = Manual {
     usage: "usage: limits (draw FILE SURFACE ROOM | redraw OLD NEW SURFACE ROOM)..\n",
@@ -33,37 +34,41 @@ fn main(rt: HostRuntime) -> ExitCode {
 }
 
 fn run_calls(rt: &HostRuntime) -> Result<(), Stop> {
-    MANUAL.judge(rt, 2 <= argument_count(rt))?;
-    let arguments = Arguments::read(rt)?;
+    let count = argument_count(rt);
+    MANUAL.judge(rt, 2 <= count)?;
     print(
         rt,
         "call FILES SURFACE ROOM: code draw scene x y width height, surface, room",
     );
-    let mut surface = vec![in rt.alloc(); 0u8; SURFACE_BYTES]?;
-    let mut other = vec![in rt.alloc(); 0u8; SURFACE_BYTES]?;
-    let mut scratch = vec![in rt.alloc(); 0i32; SCRATCH_NUMBERS]?;
-    run_each(rt, &arguments, &mut surface, &mut other, &mut scratch)
-}
-
-// The calls one after the other, all in the same places.
-fn run_each(
-    rt: &HostRuntime,
-    arguments: &Arguments,
-    surface: &mut [u8],
-    other: &mut [u8],
-    scratch: &mut [i32],
-) -> Result<(), Stop>
-    requires { (1048576 ≤ length surface.old) × (1048576 ≤ length other.old) × (16384 ≤ length scratch.old) }
-{
-    let mut old = vec![in rt.alloc(); 0u8; FILE_LIMIT + 1]?;
-    let mut new = vec![in rt.alloc(); 0u8; FILE_LIMIT + 1]?;
     let mut i = 1;
     // One of no fixed length: where a call ends, the next one starts.
-    while i < arguments.len() {
-        let call = read_call(rt, arguments, i, &mut old, &mut new)?;
+    while i < count {
+        let words = Arguments::part(rt, i, WORDS)?;
+        if words.is_empty() {
+            break;
+        }
+        let mut old = Vec::new(rt.alloc());
+        let mut new = Vec::new(rt.alloc());
+        let call = read_call(rt, &words, 0, &mut old, &mut new)?;
         let end = call.end;
-        call.run(rt, arguments, i, surface, other, scratch);
-        i = end;
+        lend(rt, &words, 0, call)?;
+        i = i.saturating_add(end);
     }
+    Ok(())
+}
+
+// The call, which starts at argument i, in places of the sizes that it gives.
+fn lend(rt: &HostRuntime, arguments: &Arguments, i: usize, call: Call<'_>) -> Result<(), Stop> {
+    let mut surface = vec![in rt.alloc(); 0u8; call.surface]?;
+    let mut other = vec![in rt.alloc(); 0u8; call.surface]?;
+    let mut scratch = vec![in rt.alloc(); 0i32; call.scratch]?;
+    call.run(
+        rt,
+        arguments,
+        i,
+        surface.as_mut_slice(),
+        other.as_mut_slice(),
+        scratch.as_mut_slice(),
+    );
     Ok(())
 }

@@ -48,18 +48,32 @@ fn main(rt: HostRuntime) -> ExitCode {
 fn run(rt: &HostRuntime) -> Result<(), Stop> {
     MANUAL.judge(rt, 2 <= argument_count(rt))?;
     let arguments = Arguments::read(rt)?;
-    let mut scenes = vec![in rt.alloc(); 0u8; RUN_LIMIT + 1]?;
+    let mut run = vec![in rt.alloc(); 0u8; RUN_LIMIT + 1]?;
     let mut lengths = Vec::new(rt.alloc());
+    let scenes = load_all(rt, &arguments, &mut run, &mut lengths)?;
+    replay(rt, scenes, &lengths)
+}
+
+// The files, one behind the other at the start of the run, and their lengths.
+fn load_all<'a>(
+    rt: &HostRuntime,
+    arguments: &Arguments,
+    run: &'a mut [u8],
+    lengths: &mut Vec<u32>,
+) -> Result<&'a [u8], Stop> {
     let mut end = 0;
     for i in 1..arguments.len().min(SCENES + 1) {
-        let read = files::load(rt, &arguments, i, &mut scenes[end..])?;
-        lengths.push(read as u32)?;
-        end += read;
+        let Some(rest) = run.get_mut(end..) else {
+            return Err(Stop::TooLong);
+        };
+        let read = files::load(rt, arguments, i, rest)?;
+        lengths.push(u32::try_from(read).unwrap_or(u32::MAX))?;
+        end = end.saturating_add(read);
     }
     if RUN_LIMIT < end {
         return Err(Stop::TooLong);
     }
-    replay(rt, &scenes[..end], &lengths)
+    run.get(..end).ok_or(Stop::TooLong)
 }
 
 fn replay(rt: &HostRuntime, scenes: &[u8], lengths: &[u32]) -> Result<(), Stop> {

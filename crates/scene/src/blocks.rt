@@ -6,6 +6,7 @@ ghost use Rattle.scene.specs.Blocks.{checksum_of, block_right, block_of, draw_of
 
 use crate::layout::{BLOCK_BYTES, CHECK_MODULUS, DRAW_BLOCKS, PAYLOAD_BYTES};
 use crate::{Checksum, Column};
+use blend::bytewise::copy_row;
 use fixed::u16_at;
 
 // The words of a strip; a payload has seven strips side by side, and two words behind them.
@@ -72,7 +73,10 @@ pub fn read_draw(s: &[u8], i: usize, out: &mut [u8])
     for j in 0..DRAW_BLOCKS {
         let at = PAYLOAD_BYTES * j;
         let from = BLOCK_BYTES * (first + j);
-        out[at..at + PAYLOAD_BYTES].copy_from_slice(&s[from..from + PAYLOAD_BYTES]);
+        copy_row(
+            &s[from..from + PAYLOAD_BYTES],
+            &mut out[at..at + PAYLOAD_BYTES],
+        );
     }
 }
 

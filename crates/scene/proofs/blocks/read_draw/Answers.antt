@@ -16,12 +16,12 @@ loop-j-preserved c =
     let a = c.args in
     let at = payload_bytes * l.j in
     let from = block_bytes * (block_of a.i + l.j) in
-    let q = c.copy_from_slice.new.self in
+    let q = c.copy_row.new.row in
     let f : ℕ → List ℕ = payload a.s.now a.i in
     let part : at + payload_bytes - at ≡ payload_bytes = omega arith in
-    let w : length q ≡ payload_bytes = c.copy_from_slice.ensures.len ∙ part_length l.out at (at + payload_bytes) (omega arith) (omega arith) ∙ part in
+    let w : length q ≡ payload_bytes = c.copy_row.auto.row ∙ part_length l.out at (at + payload_bytes) (omega arith) (omega arith) ∙ part in
     let size : from + payload_bytes - from ≡ payload_bytes = omega arith in
-    let h : q ≡ f l.j = c.copy_from_slice.ensures.after ∙ ap (λ (x : ℕ). take x (drop from a.s.now)) size in (
+    let h : q ≡ f l.j = c.copy_row.ensures ∙ ap (λ (x : ℕ). take x (drop from a.s.now)) size in (
       part_kept l.out q at payload_bytes (at + payload_bytes - at) (omega arith) w part ∙ l.invariant.0,
       part_turn l.out q at payload_bytes (at + payload_bytes - at) (omega arith) w f l.j (payload_bytes * (l.j + 1)) (omega arith) l.invariant.1 h,
     )
