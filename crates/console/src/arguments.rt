@@ -29,7 +29,9 @@ impl Arguments {
     }
 
     // Some of them, from one on and so many at most. The first of these is argument 0 of the part.
-    pub fn part(rt: &HostRuntime, from: usize, most: usize) -> Result<Arguments, AllocError> {
+    pub fn part(rt: &HostRuntime, from: usize, most: usize) -> Result<Arguments, AllocError>
+        ensures { IfOk result (λ a. vec_len a.all ≤ most) }
+    {
         let mut all = Vec::new(rt.alloc());
         for i in from..from.saturating_add(most) {
             let Some(word) = read_word(rt, i)? else {

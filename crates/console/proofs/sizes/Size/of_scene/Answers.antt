@@ -1,10 +1,10 @@
 use mathlib.Core.Path.{◌≡◌, sym, ◌∙◌}
-use mathlib.Core.Bool.{cond, ◌||◌}
+use mathlib.Core.Bool.{cond, ◌||◌, or-true}
 use mathlib.Core.List.{List}
 use Prim.Native.Nat.{ℕ, ◌≤◌}
 use lib.Dec.{ltb}
 use lib.ListN.{length}
-use Rattle.std.proofs.Common.{None, Some}
+use Rattle.std.proofs.Common.{arith, None, Some}
 use Rattle.scene.specs.Layout.{block_bytes, side_limit}
 use Rattle.scene.specs.Header.{width_of, height_of}
 use Rattle.console.specs.Sizes.{picture_size}
@@ -27,8 +27,9 @@ returns-then-width-clause-value c =
     let h = c.height-height in
     let e = sized _ w.result h.result c.if-scene-lt-BLOCK_BYTES.false w.ensures.0 h.ensures.0 in
     elim c.then-width.branch [
-      | then-width-via-then-width v ↦ sym (e ∙ rw (lt-ltb _ _ v.if-width.true))
-      | then-width-via-else-width+then-height v ↦ sym (e ∙ rw (le-ltb _ _ v.if-width.false, lt-ltb _ _ v.if-height.true))
+      | then-width-via-then-width v ↦ sym (e ∙ rw (lt-ltb side_limit w.result (omega (arith, v.if-width.true))))
+      | then-width-via-else-width+then-height v ↦
+          sym (e ∙ rw (lt-ltb side_limit h.result (omega (arith, v.if-height.true)), or-true (ltb side_limit w.result)))
     ]
 
 pub returns-clause-value : goal.returns-clause-value
@@ -36,4 +37,4 @@ returns-clause-value c =
     let w = c.width-width in
     let h = c.height-height in
     let e = sized _ w.result h.result c.if-scene-lt-BLOCK_BYTES.false w.ensures.0 h.ensures.0 in
-    sym (e ∙ rw (le-ltb _ _ c.if-width.false, le-ltb _ _ c.if-height.false))
+    sym (e ∙ rw (le-ltb side_limit w.result (omega (arith, c.if-width.false)), le-ltb side_limit h.result (omega (arith, c.if-height.false))))
