@@ -1,6 +1,6 @@
-use Rattle.std.proofs.Common.{◌≡◌, ◌≤◌, vec_len, ◌+◌}
+use Rattle.std.proofs.Common.{◌≡◌, vec_len, ◌+◌}
 use Rattle.console.proofs.arguments.Arguments.part.Given as goal
 
--- each turn adds one, so there are never more of them than turns
+-- each turn adds one
 abbrev pub invariant-loop-i : goal.invariant-loop-i
-invariant-loop-i l = (vec_len l.all + l.from ≡ l.i) × (vec_len l.all ≤ l.most)
+invariant-loop-i l = vec_len l.all + l.initial.i ≡ l.i
