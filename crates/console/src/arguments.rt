@@ -25,19 +25,16 @@ pub struct Arguments {
 
 impl Arguments {
     pub fn read(rt: &HostRuntime) -> Result<Arguments, AllocError> {
-        Arguments::part(rt, 0, usize::MAX)
+        Arguments::part(rt, 0, argument_count(rt))
     }
 
-    // Some of them, from one on and so many at most. The first of these is argument 0 of the part.
-    pub fn part(rt: &HostRuntime, from: usize, most: usize) -> Result<Arguments, AllocError>
-        ensures { IfOk result (λ a. vec_len a.all ≤ most) }
+    // So many of them, from one on. The first of these is argument 0 of the part.
+    pub fn part(rt: &HostRuntime, from: usize, count: usize) -> Result<Arguments, AllocError>
+        ensures { IfOk result (λ a. vec_len a.all ≡ count) }
     {
         let mut all = Vec::new(rt.alloc());
-        for i in from..from.saturating_add(most) {
-            let Some(word) = read_word(rt, i)? else {
-                break;
-            };
-            all.push(word)?;
+        for i in 0..count {
+            all.push(read_word(rt, from.saturating_add(i))?)?;
         }
         Ok(Arguments { all })
     }
@@ -85,12 +82,13 @@ impl Arguments {
     }
 }
 
-fn read_word(rt: &HostRuntime, i: usize) -> Result<Option<Word>, AllocError> {
+// Argument i. One that is not there is an empty word.
+fn read_word(rt: &HostRuntime, i: usize) -> Result<Word, AllocError> {
     let mut place = [0u8; NAME_LIMIT];
     match rt.arg(i, &mut place) {
-        Ok(n) => Ok(Some(Word::Whole(copy(rt.alloc(), &place[..n])?))),
-        Err(FillError::TooLong) => Ok(Some(Word::Start(copy(rt.alloc(), &place)?))),
-        Err(FillError::NotPresent) => Ok(None),
+        Ok(n) => Ok(Word::Whole(copy(rt.alloc(), &place[..n])?)),
+        Err(FillError::TooLong) => Ok(Word::Start(copy(rt.alloc(), &place)?)),
+        Err(FillError::NotPresent) => Ok(Word::Whole(Vec::new(rt.alloc()))),
     }
 }
 

@@ -43,10 +43,7 @@ fn run_calls(rt: &HostRuntime) -> Result<(), Stop> {
     let mut i = 1;
     // One of no fixed length: where a call ends, the next one starts.
     while i < count {
-        let words = Arguments::part(rt, i, WORDS)?;
-        if words.is_empty() {
-            break;
-        }
+        let words = Arguments::part(rt, i, WORDS.min(count - i))?;
         let mut old = Vec::new(rt.alloc());
         let mut new = Vec::new(rt.alloc());
         let call = read_call(rt, &words, 0, &mut old, &mut new)?;
