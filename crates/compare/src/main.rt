@@ -41,7 +41,7 @@ fn main(rt: HostRuntime) -> ExitCode {
 }
 
 fn compare(rt: &HostRuntime) -> Result<(), Stop> {
-    MANUAL.judge(rt, argument_count(rt) == 3)?;
+    MANUAL.judge_call(rt, argument_count(rt) == 3)?;
     let arguments = Arguments::read(rt)?;
     let mut first = Picture::open(rt, &arguments, 1)?;
     let mut second = Picture::open(rt, &arguments, 2)?;

@@ -1,5 +1,5 @@
 // The program's arguments, as the bytes that they are.
-ghost use Rattle.std.specs.Prelude.{◌≡◌, ◌↔◌, ◌≤◌, length, vec_len, IsTrue, IfOk};
+ghost use Rattle.std.specs.Prelude.{◌≡◌, ◌↔◌, ◌≤◌, ◌<◌, length, vec_len, IsTrue, IfOk};
 
 use crate::errors::{INVALID, NAME_TOO_LONG};
 use crate::files::name_text;
@@ -64,6 +64,13 @@ impl Arguments {
         self.get(i) == Some(word)
     }
 
+    // Whether an argument besides i is that word too. The program's name does not count.
+    pub fn has_other(&self, i: usize, word: &[u8]) -> bool
+        ensures { IsTrue result → 1 < vec_len self.now.all }
+    {
+        (1..self.len()).any(|k| k != i && self.is(k, word))
+    }
+
     // Argument i as the name of a file, which is text.
     pub fn name(&self, i: usize) -> io::Result<&str> {
         match self.all.get(i) {
@@ -124,4 +131,31 @@ pub fn argument_count(rt: &HostRuntime) -> usize {
         }
     }
     usize::MAX
+}
+
+#[cfg(test)]
+pub mod tests {
+    use super::*;
+
+    // These words, as a program's arguments.
+    pub fn arguments(rt: &HostRuntime, words: &[&[u8]]) -> Result<Arguments, AllocError> {
+        let mut all = Vec::new(rt.alloc());
+        for word in words {
+            all.push(Word::Whole(copy(rt.alloc(), word)?))?;
+        }
+        Ok(Arguments { all })
+    }
+
+    #[test]
+    fn another_is_found(rt: HostRuntime) -> Result<(), AllocError> {
+        let given = arguments(&rt, &[b"-", b"a", b"-", b"b"])?;
+        assert!(rt; given.has_other(1, b"-"));
+        assert!(rt; given.has_other(0, b"-"));
+        assert!(rt; given.has_other(2, b"a"));
+        // neither itself, nor the program's name, nor what only begins so
+        assert!(rt; !given.has_other(2, b"-"));
+        assert!(rt; !given.has_other(1, b"a"));
+        assert!(rt; !given.has_other(1, b""));
+        Ok(())
+    }
 }

@@ -2,15 +2,17 @@
 ghost use Rattle.std.specs.Prelude.{◌≡◌, ◌+◌, ◌≤◌, IfOk, IfSome, length, vec_len};
 ghost use Rattle.std.specs.Io.{StartsWith};
 
-use crate::arguments::{Arguments, argument_count};
+use crate::arguments::Arguments;
 use crate::errors::{NO_TEXT, Stop};
-use crate::words::is_word;
 use std::fs::File;
 use std::io::{Read, Stdin};
 use std::{fs, io};
 
 // The longest file that the programs take, in bytes.
 pub const FILE_LIMIT: usize = 262144;
+
+// What is told where standard input would be two files.
+pub const ONE_INPUT: &str = "-: standard input can be one file only\n";
 
 // The file that argument i names, or nothing where it is longer than the longest. No more of it is read.
 pub fn read(rt: &HostRuntime, arguments: &Arguments, i: usize) -> Result<Option<Vec<u8>>, Stop>
@@ -24,7 +26,8 @@ pub fn read(rt: &HostRuntime, arguments: &Arguments, i: usize) -> Result<Option<
     Ok(Some(file))
 }
 
-// Puts the file that argument i names behind the others, at most so many bytes of it, and returns how many. The others stay, on an error too.
+// Puts the file that argument i names behind the others, at most so many bytes of it, and returns how many. The others stay, on an error too. It is
+// read by pieces, so that a limit that is far away costs no more memory than the file needs.
 pub fn append(
     rt: &HostRuntime,
     arguments: &Arguments,
@@ -37,9 +40,17 @@ pub fn append(
     ensures kept { StartsWith files.new.items files.old.items }
 {
     let mut source = Source::open(rt, arguments, i)?;
-    let mut file = vec![in rt.alloc(); 0u8; most]?;
-    let read = fill(rt, arguments, i, &mut source, &mut file)?;
-    files.extend_from_slice(&file[..read])?;
+    let mut piece = vec![in rt.alloc(); 0u8; most.min(FILE_LIMIT + 1)]?;
+    let mut read = 0;
+    while read < most {
+        let room = piece.len().min(most - read);
+        let n = fill(rt, arguments, i, &mut source, &mut piece[..room])?;
+        files.extend_from_slice(&piece[..n])?;
+        read += n;
+        if n < room {
+            break;
+        }
+    }
     Ok(read)
 }
 
@@ -93,8 +104,8 @@ impl Source {
     // Opens the file that argument i names, where `-` is standard input. It has one end, so it cannot be two files.
     pub fn open(rt: &HostRuntime, arguments: &Arguments, i: usize) -> Result<Source, Stop> {
         if arguments.is(i, b"-") {
-            if is_input_twice(rt) {
-                return Err(Stop::Call("-: standard input can be one file only\n"));
+            if arguments.has_other(i, b"-") {
+                return Err(Stop::Call(ONE_INPUT));
             }
             return Ok(Source::Input(rt.stdin()));
         }
@@ -122,20 +133,6 @@ impl Source {
     }
 }
 
-// Whether more than one argument is `-`. The program's name does not count.
-fn is_input_twice(rt: &HostRuntime) -> bool {
-    let mut is_given = false;
-    for i in 1..argument_count(rt) {
-        if is_word(rt, i, b"-") {
-            if is_given {
-                return true;
-            }
-            is_given = true;
-        }
-    }
-    false
-}
-
 fn open_file(rt: &HostRuntime, arguments: &Arguments, i: usize) -> io::Result<File> {
     fs::open(rt, arguments.name(i)?)
 }
@@ -156,5 +153,42 @@ pub fn name_text(name: &[u8]) -> io::Result<&str>
     match std::str::from_utf8(name) {
         Ok(text) => Ok(text),
         Err(_) => Err(io::Error::from_raw_os_error(NO_TEXT)),
+    }
+}
+
+#[cfg(test)]
+mod tests {
+    use super::*;
+    use crate::arguments::copy;
+    use crate::arguments::tests::arguments;
+    use std::alloc::AllocError;
+
+    // A limit that no memory could hold costs none, and a file of several pieces comes whole.
+    #[test]
+    fn files_are_appended(rt: HostRuntime) -> Result<(), AllocError> {
+        let given = arguments(&rt, &[b"program", b"/dev/null", b"/dev/zero"])?;
+        let mut files = copy(rt.alloc(), &[7, 8, 9])?;
+        assert_eq!(rt;
+            append(&rt, &given, 1, usize::MAX, &mut files).ok(),
+            Some(0)
+        );
+        assert_eq!(rt;
+            append(&rt, &given, 2, 600_000, &mut files).ok(),
+            Some(600_000)
+        );
+        assert_eq!(rt; files.len(), 600_003);
+        assert_eq!(rt; &files[..4], [7, 8, 9, 0].as_slice());
+        Ok(())
+    }
+
+    // Which others there are is seen by the arguments that are given.
+    #[test]
+    fn standard_input_is_one_file(rt: HostRuntime) -> Result<(), AllocError> {
+        let once = arguments(&rt, &[b"-", b"-"])?;
+        assert!(rt; Source::open(&rt, &once, 1).is_ok());
+        let twice = arguments(&rt, &[b"program", b"-", b"a", b"-"])?;
+        assert!(rt; matches!(Source::open(&rt, &twice, 1), Err(Stop::Call(ONE_INPUT))));
+        assert!(rt; matches!(Source::open(&rt, &twice, 3), Err(Stop::Call(ONE_INPUT))));
+        Ok(())
     }
 }

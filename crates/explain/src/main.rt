@@ -31,7 +31,7 @@ fn main(rt: HostRuntime) -> ExitCode {
 fn explain(rt: &HostRuntime) -> Result<(), Stop> {
     let count = argument_count(rt);
     let masked = count == 5;
-    MANUAL.judge(rt, masked || count == 4)?;
+    MANUAL.judge_call(rt, masked || count == 4)?;
     let arguments = Arguments::read(rt)?;
     let x = coordinate(rt, &arguments, 2)?;
     let y = coordinate(rt, &arguments, 3)?;

@@ -3,9 +3,10 @@ ghost use Rattle.std.specs.Prelude.{◌≡◌, ◌≤◌, ◌<◌, IfOk, vec_len
 ghost use Rattle.limits.specs.Digits.{number_of, with_digit};
 
 use crate::calls::Call;
-use console::arguments::Arguments;
+use console::arguments::{Arguments, argument_count};
 use console::errors::Stop;
-use console::files::{FILE_LIMIT, append};
+use console::files::{FILE_LIMIT, ONE_INPUT, append};
+use console::words::is_word;
 
 // The largest sizes.
 const SURFACE_BYTES: usize = 1048576;
@@ -42,18 +43,35 @@ pub fn read_call<'a>(
     }
 }
 
-// The file that argument i names, in an empty place.
+// The file that argument i names, in an empty place. These are the words of one call, and standard input is one file among all.
 fn file<'a>(
     rt: &HostRuntime,
     arguments: &Arguments,
     i: usize,
     place: &'a mut Vec<u8>,
 ) -> Result<&'a [u8], Stop> {
+    if arguments.is(i, b"-") && is_input_twice(rt) {
+        return Err(Stop::Call(ONE_INPUT));
+    }
     append(rt, arguments, i, FILE_LIMIT + 1, place)?;
     if FILE_LIMIT < place.len() {
         return Err(wrong(rt, arguments, i, b" is too long\n"));
     }
     Ok(place.as_slice())
+}
+
+// Whether more than one of the program's arguments is `-`. Its name does not count.
+fn is_input_twice(rt: &HostRuntime) -> bool {
+    let mut is_given = false;
+    for i in 1..argument_count(rt) {
+        if is_word(rt, i, b"-") {
+            if is_given {
+                return true;
+            }
+            is_given = true;
+        }
+    }
+    false
 }
 
 // The call with the sizes that its last two arguments are.

@@ -35,7 +35,7 @@ fn main(rt: HostRuntime) -> ExitCode {
 
 fn run_calls(rt: &HostRuntime) -> Result<(), Stop> {
     let count = argument_count(rt);
-    MANUAL.judge(rt, 2 <= count)?;
+    MANUAL.judge_call(rt, 2 <= count)?;
     print(
         rt,
         "call FILES SURFACE ROOM: code draw scene x y width height, surface, room",

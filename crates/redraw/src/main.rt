@@ -26,7 +26,7 @@ fn main(rt: HostRuntime) -> ExitCode {
 
 // Where a file cannot be read it does not matter how long the other is.
 fn run(rt: &HostRuntime) -> Result<(), Stop> {
-    MANUAL.judge(rt, argument_count(rt) == 3)?;
+    MANUAL.judge_call(rt, argument_count(rt) == 3)?;
     let arguments = Arguments::read(rt)?;
     let old = files::read(rt, &arguments, 1)?;
     let new = files::read(rt, &arguments, 2)?;

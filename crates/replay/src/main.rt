@@ -46,7 +46,7 @@ fn main(rt: HostRuntime) -> ExitCode {
 
 // The files are read one behind the other.
 fn run(rt: &HostRuntime) -> Result<(), Stop> {
-    MANUAL.judge(rt, 2 <= argument_count(rt))?;
+    MANUAL.judge_call(rt, 2 <= argument_count(rt))?;
     let arguments = Arguments::read(rt)?;
     let mut run = vec![in rt.alloc(); 0u8; RUN_LIMIT + 1]?;
     let mut lengths = Vec::new(rt.alloc());

@@ -39,7 +39,7 @@ fn main(rt: HostRuntime) -> ExitCode {
 }
 
 fn run(rt: &HostRuntime) -> Result<(), Stop> {
-    MANUAL.judge(rt, argument_count(rt) == 3)?;
+    MANUAL.judge_call(rt, argument_count(rt) == 3)?;
     let arguments = Arguments::read(rt)?;
     if arguments.is(2, b"-") {
         return Err(Stop::Call("OUT: a file that is replaced cannot be -\n"));

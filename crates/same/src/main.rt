@@ -32,7 +32,7 @@ fn main(rt: HostRuntime) -> ExitCode {
 }
 
 fn run(rt: &HostRuntime) -> Result<(), Stop> {
-    MANUAL.judge(rt, argument_count(rt) == 2)?;
+    MANUAL.judge_call(rt, argument_count(rt) == 2)?;
     let arguments = Arguments::read(rt)?;
     let scene = files::read(rt, &arguments, 1)?.ok_or(Stop::TooLong)?;
     draw_both(rt, &scene)
