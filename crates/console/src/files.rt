@@ -166,18 +166,23 @@ mod tests {
     // A limit that no memory could hold costs none, and a file of several pieces comes whole.
     #[test]
     fn files_are_appended(rt: HostRuntime) -> Result<(), AllocError> {
-        let given = arguments(&rt, &[b"program", b"/dev/null", b"/dev/zero"])?;
+        let mut bytes = Vec::new(rt.alloc());
+        for i in 0..600_000usize {
+            bytes.push((i % 251) as u8)?;
+        }
+        let name = "console-files-appended.tmp";
+        assert!(rt; fs::write(&rt, name, &bytes).is_ok());
+        let given = arguments(&rt, &[b"program", name.as_bytes()])?;
         let mut files = copy(rt.alloc(), &[7, 8, 9])?;
-        assert_eq!(rt;
-            append(&rt, &given, 1, usize::MAX, &mut files).ok(),
-            Some(0)
-        );
-        assert_eq!(rt;
-            append(&rt, &given, 2, 600_000, &mut files).ok(),
-            Some(600_000)
-        );
-        assert_eq!(rt; files.len(), 600_003);
-        assert_eq!(rt; &files[..4], [7, 8, 9, 0].as_slice());
+        let whole = append(&rt, &given, 1, usize::MAX, &mut files).ok();
+        let part = append(&rt, &given, 1, 300_000, &mut files).ok();
+        assert!(rt; fs::remove_file(&rt, name).is_ok());
+        assert_eq!(rt; whole, Some(600_000));
+        assert_eq!(rt; part, Some(300_000));
+        assert_eq!(rt; files.len(), 900_003);
+        assert!(rt; files.get(..3) == Some([7, 8, 9].as_slice()));
+        assert!(rt; files.get(3..600_003) == Some(bytes.as_slice()));
+        assert!(rt; files.get(600_003..) == bytes.get(..300_000));
         Ok(())
     }
 
