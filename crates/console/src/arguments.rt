@@ -1,5 +1,6 @@
 // The program's arguments, as the bytes that they are.
-ghost use Rattle.std.specs.Prelude.{◌≡◌, ◌↔◌, ◌≤◌, ◌<◌, length, vec_len, IsTrue, IfOk};
+ghost use Rattle.std.specs.Prelude.{◌≡◌, ◌↔◌, ◌≤◌, length, vec_len, option_map, Some, IsTrue, IfOk};
+ghost use Rattle.console.specs.Words.{word_at, OtherIs};
 
 use crate::errors::{INVALID, NAME_TOO_LONG};
 use crate::files::name_text;
@@ -52,7 +53,9 @@ impl Arguments {
     }
 
     // Argument i, where there is one and it is no longer than any file's name.
-    pub fn get(&self, i: usize) -> Option<&[u8]> {
+    pub fn get(&self, i: usize) -> Option<&[u8]>
+        ensures { option_map (λ w. w.now) result ≡ word_at self.now.all.items i }
+    {
         match self.all.get(i)? {
             Word::Whole(word) => Some(word.as_slice()),
             Word::Start(_) => None,
@@ -60,13 +63,15 @@ impl Arguments {
     }
 
     // Whether argument i is that word.
-    pub fn is(&self, i: usize, word: &[u8]) -> bool {
+    pub fn is(&self, i: usize, word: &[u8]) -> bool
+        ensures { IsTrue result ↔ (word_at self.now.all.items i ≡ Some word.now) }
+    {
         self.get(i) == Some(word)
     }
 
     // Whether an argument besides i is that word too. The program's name does not count.
     pub fn has_other(&self, i: usize, word: &[u8]) -> bool
-        ensures { IsTrue result → 1 < vec_len self.now.all }
+        ensures { IsTrue result ↔ OtherIs self.now.all.items i word.now }
     {
         (1..self.len()).any(|k| k != i && self.is(k, word))
     }
@@ -156,6 +161,8 @@ pub mod tests {
         assert!(rt; !given.has_other(2, b"-"));
         assert!(rt; !given.has_other(1, b"a"));
         assert!(rt; !given.has_other(1, b""));
+        assert!(rt; given.get(1) == Some(b"a".as_slice()));
+        assert!(rt; given.get(4).is_none() && !given.is(4, b""));
         Ok(())
     }
 }

@@ -1,5 +1,6 @@
 // How a program is called.
-ghost use Rattle.std.specs.Prelude.{IsTrue, IsOk};
+ghost use Rattle.std.specs.Prelude.{◌↔◌, IsTrue, IsOk};
+ghost use Rattle.console.specs.Words.{AsksHelp};
 
 use crate::arguments::Arguments;
 use crate::errors::Stop;
@@ -16,7 +17,8 @@ pub struct Manual {
 impl Manual {
     // Stops the program where it was not called in the right way, or asked with its first argument how it is called.
     pub fn judge(self, arguments: &Arguments, is_right: bool) -> Result<(), Stop>
-        ensures { IsOk result → IsTrue is_right }
+        ensures right { IsOk result → IsTrue is_right }
+        ensures taken { IsOk result ↔ (IsTrue is_right × (AsksHelp arguments.now.all.items → ⊥)) }
     {
         if arguments.is(1, b"--help") || arguments.is(1, b"-h") {
             return Err(Stop::Asked(self));
